@@ -1,0 +1,75 @@
+-- Demand 3, as a statement: under Graph and StrongGraph a change of the residual outside an unconnected part does not reach the part.
+-- Two readings of one demand: of the corrected vectors that the definitions give, and of the lists that the calls hand out. Stated here, proved elsewhere.
+use Prim.Native.Nat.{ℕ, _*_, _/_}
+use mathlib.Core.Path.{_≡_}
+use mathlib.Core.Bool.{Bool, true, false, not, _&&_, _||_}
+use mathlib.Core.List.{List, []}
+use lib.Dec.{T}
+use lib.ListN.{length, getD}
+use lib.Ieee.{Float, nan, binary64, eq, fits}
+use lib.Ieee.Scale.{finite}
+use Rattle.definitions.specs.Lists.{upTo, all}
+use Rattle.definitions.specs.Refusal.{Outcome, refused, done}
+use Rattle.definitions.specs.Matrix.{Matrix}
+use Rattle.definitions.specs.Links.{unconnected}
+use Rattle.definitions.specs.Setup.{Built, Lent, setupOf, setupLeft, lengthsOf}
+use Rattle.definitions.specs.Apply.{corrected, applyCall, ample}
+use Rattle.definitions.specs.Formed.{formed, allFinite}
+use Rattle.definitions.specs.declared.Options.{Options}
+use Rattle.definitions.specs.declared.TwoLevelAggregation.{TwoLevelAggregation}
+use Rattle.definitions.specs.declared.TwoLevelAggregation.the-variants.{Contiguous, Graph, StrongGraph}
+
+-- Two lists agree on a row if their numbers there are equal, +0 and -0 taken as equal: IEEE's `==`. They agree on the rows of a set of nodes if they do on each
+unfoldable pub agree : (ℕ → Bool) → ℕ → ℕ → List Float → List Float → Bool
+agree part size rows x y = all (λ i. not (part (i / size)) || eq (getD x i nan) (getD y i nan)) (upTo rows)
+
+unfoldable pub followsGraph : TwoLevelAggregation → Bool
+followsGraph Contiguous = false
+followsGraph Graph = true
+followsGraph StrongGraph = true
+
+unfoldable pub isDone : {A : Type 0} → Outcome A → Bool
+isDone (refused c) = false
+isDone (done x) = true
+
+-- every number is an f64, as the numbers of a list of f64 are
+unfoldable pub f64s : List Float → Bool
+f64s xs = all (λ x. fits binary64 x) xs
+
+-- what is asked of a matrix, options, a set of nodes and two residuals
+pub record Apart (a : Matrix) (o : Options) (part : ℕ → Bool) (r r′ : List Float) : Type 0 where
+  pub graph : T (followsGraph (o .aggregation))
+  pub accepted : T (isDone (setupOf a o ample))
+  pub unlinked : T (unconnected a (o .block) [] part)
+  pub same : T (agree part (o .block) (a .rows) r r′)
+  pub formedReal : T (allFinite (formed a o r))
+  pub formedReal′ : T (allFinite (formed a o r′))
+  pub long : length r ≡ a .rows
+  pub long′ : length r′ ≡ a .rows
+  pub real : T (all (λ x. finite x) r && all (λ x. finite x) r′)
+  pub held : T (f64s (a .values) && f64s r && f64s r′)
+
+-- two results agree on the rows of a set of nodes
+unfoldable pub agreeing : (ℕ → Bool) → ℕ → ℕ → Outcome (List Float) → Outcome (List Float) → Bool
+agreeing part size rows (done x) (done y) = agree part size rows x y
+agreeing part size rows (done x) (refused c) = false
+agreeing part size rows (refused c) y = false
+
+-- THE CORRECTED VECTORS
+abbrev pub Separation : Type 0
+Separation = (a : Matrix) (o : Options) (part : ℕ → Bool) (r r′ : List Float) → Apart a o part r r′ →
+    T (agreeing part (o .block) (a .rows) (corrected a o r) (corrected a o r′))
+
+-- what an apply hands out after an accepted setup is the corrected vector, and 26 does not come back; so the second reading follows from the first
+abbrev pub HandsOutCorrected : Type 0
+HandsOutCorrected = (a : Matrix) (o : Options) (lent : Lent) (b : Built) → setupOf a o (lengthsOf lent) ≡ done b → (r : List Float) → length r ≡ a .rows →
+    applyCall (b .setup) (setupLeft (done b) lent .ints) (setupLeft (done b) lent .floats) r (a .rows) (2 * b .setup .coarse) ≡ corrected a o r
+
+-- THE CALLS: an accepted setup, then two accepted applies with its record and lists, whatever the lengths of the lists lent to it
+abbrev pub SeparationOfCalls : Type 0
+SeparationOfCalls = (a : Matrix) (o : Options) (part : ℕ → Bool) (r r′ : List Float) → Apart a o part r r′ →
+    (lent : Lent) (b : Built) → setupOf a o (lengthsOf lent) ≡ done b →
+    (room workRoom room′ workRoom′ : ℕ) (z z′ : List Float) →
+    applyCall (b .setup) (setupLeft (done b) lent .ints) (setupLeft (done b) lent .floats) r room workRoom ≡ done z →
+    applyCall (b .setup) (setupLeft (done b) lent .ints) (setupLeft (done b) lent .floats) r′ room′ workRoom′ ≡ done z′ →
+    T (agree part (o .block) (a .rows) z z′)
