@@ -1,0 +1,1 @@
+include!(concat!(env!("HYBIT_SRC"), "/crates/hybit-core/src/lib.rs"));
