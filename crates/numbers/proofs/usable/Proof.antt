@@ -1,0 +1,20 @@
+-- `finite` decides the first test, and the comparison is the second.
+use mathlib.Core.Path.{_≡_, sym, _∙_}
+use borrow.Author.Needs.{needs}
+use Rattle.definitions.specs.Numbers.{usable}
+use Rattle.numbers.proofs.usable.Statement.{statement}
+use Rattle.numbers.proofs.usable.Tie as tie
+
+finite-requires : tie.Need-finite-requires
+finite-requires c κs = search needs
+
+returns : tie.Need-returns
+unfolding usable
+returns c = rw (sym (c .before .finite .ensures) ∙ c .if1 .taken)
+
+returns-2 : tie.Need-returns-2
+unfolding usable
+returns-2 c = rw (sym (c .before .finite .ensures) ∙ c .if1 .left)
+
+pub usable-spec : {M : Type 1} → statement M
+usable-spec = tie.close (tie.spec finite-requires returns returns-2)
