@@ -1,0 +1,6 @@
+mod Bounds
+mod Division
+mod Exponent
+mod Pattern
+mod Assembled
+mod Special

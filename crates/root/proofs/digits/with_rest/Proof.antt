@@ -1,0 +1,127 @@
+-- With s the whole root of a, `parts` says what the division finds; the test of q² says whether the candidate is one too many.
+use Prim.Native.Nat.{ℕ, _*_, _/_, _^_}
+use native.Mathlib.Omega.{arith}
+use borrow.Author.Needs.{needs}
+use Rattle.root.proofs.Bounds.{start-bounds}
+use Rattle.root.proofs.Division.{quo, left, cand, Parts, parts, root-fits, root-pos, square-fits, cand-fits, cand-pos, sum-fits, rest-pos, rest-at, rest-before}
+use Rattle.root.proofs.digits.with_rest.Statement.{statement}
+use Rattle.root.proofs.digits.with_rest.Tie as tie
+use Rattle.root.proofs.digits.with_rest.Reads as reads
+use Rattle.root.proofs.digits.with_rest.Lts as lts
+use Rattle.root.proofs.digits.newton.Reads as newton-reads
+use Rattle.root.proofs.digits.whole_root.Reads as whole-root-reads
+use Rattle.root.proofs.starts.start.Reads as start-reads
+
+-- ---- up to the whole root
+
+start-requires : tie.Need-start-requires
+start-requires c κs = search needs
+
+cast-t : tie.Need-cast-t
+cast-t c = search needs
+
+newton-requires : tie.Need-newton-requires
+newton-requires c κs =
+    let a = c .before .args .a in
+    let t = c .start .result in
+    let b = start-bounds (a / 2 ^ 44) t (omega arith) (omega arith) (c .start .ensures) in
+    (c .before .pre .1, omega arith, omega arith)
+
+whole-root-requires : tie.Need-whole-root-requires
+whole-root-requires c κs = search needs
+
+-- ---- from it on
+
+abbrev After : Type 0
+After = lts.After-whole-root (start-reads.Asked, start-reads.Learnt, newton-reads.Asked, newton-reads.Learnt, whole-root-reads.Asked, whole-root-reads.Learnt) reads.Pre reads.Post
+
+abbrev a : After → ℕ
+a c = c .before .before .before .args .a
+
+abbrev s : After → ℕ
+s c = c .whole-root .result
+
+abbrev q : After → ℕ
+q c = quo (a c) (s c)
+
+abbrev u : After → ℕ
+u c = left (a c) (s c)
+
+abbrev d : After → ℕ
+d c = cand (a c) (s c)
+
+known : (c : After) → Parts (a c * 2 ^ 52) (s c) (q c) (u c) (d c)
+known c = parts (a c) (s c) (c .before .before .before .pre .0) (c .before .before .before .pre .1) (c .whole-root .ensures)
+
+mul-n : tie.Need-mul-n
+mul-n c = record { fits = root-fits (a c * 2 ^ 52) (s c) (q c) (u c) (d c) (known c) }
+
+sub-n : tie.Need-sub-n
+sub-n c = c .whole-root .ensures .0
+
+div-q : tie.Need-div-q
+div-q c = root-pos (a c * 2 ^ 52) (s c) (q c) (u c) (d c) (known c)
+
+rem-left : tie.Need-rem-left
+rem-left c = root-pos (a c * 2 ^ 52) (s c) (q c) (u c) (d c) (known c)
+
+add-c : tie.Need-add-c
+add-c c = let h = cand-fits (a c * 2 ^ 52) (s c) (q c) (u c) (d c) (known c) in record { fits = omega arith }
+
+mul-if1 : tie.Need-mul-if1
+mul-if1 c = record { fits = square-fits (a c * 2 ^ 52) (s c) (q c) (u c) (d c) (known c) }
+
+mul-t14 : tie.Need-mul-t14
+mul-t14 c = let b = c .before in record { fits = square-fits (a b * 2 ^ 52) (s b) (q b) (u b) (d b) (known b) }
+
+sub-t15 : tie.Need-sub-t15
+sub-t15 c = search needs
+
+sub-t16 : tie.Need-sub-t16
+sub-t16 c = let b = c .before in let h = cand-pos (a b * 2 ^ 52) (s b) (q b) (u b) (d b) (known b) in omega arith
+
+mul-t17 : tie.Need-mul-t17
+mul-t17 c = let b = c .before in let h = cand-fits (a b * 2 ^ 52) (s b) (q b) (u b) (d b) (known b) in record { fits = omega arith }
+
+sub-t18 : tie.Need-sub-t18
+sub-t18 c = let b = c .before in let h = cand-pos (a b * 2 ^ 52) (s b) (q b) (u b) (d b) (known b) in omega arith
+
+add-t19 : tie.Need-add-t19
+add-t19 c = let b = c .before in record { fits = sum-fits (a b * 2 ^ 52) (s b) (q b) (u b) (d b) (known b) }
+
+mul-t20 : tie.Need-mul-t20
+mul-t20 c = let b = c .before in record { fits = square-fits (a b * 2 ^ 52) (s b) (q b) (u b) (d b) (known b) }
+
+sub-t21 : tie.Need-sub-t21
+sub-t21 c = let b = c .before in rest-pos (a b * 2 ^ 52) (s b) (q b) (u b) (d b) (known b)
+
+returns : tie.Need-returns
+returns c = let b = c .before in rest-at (a b * 2 ^ 52) (s b) (q b) (u b) (d b) (known b) (search needs)
+
+returns-2 : tie.Need-returns-2
+returns-2 c = let b = c .before in rest-before (a b * 2 ^ 52) (s b) (q b) (u b) (d b) (known b) (search needs)
+
+pub with-rest-spec : {M : Type 1} → statement M
+with-rest-spec =
+    tie.close
+    (tie.spec
+    start-requires
+    cast-t
+    newton-requires
+    whole-root-requires
+    mul-n
+    sub-n
+    div-q
+    rem-left
+    add-c
+    mul-if1
+    mul-t14
+    sub-t15
+    sub-t16
+    mul-t17
+    sub-t18
+    add-t19
+    mul-t20
+    sub-t21
+    returns
+    returns-2)

@@ -1,0 +1,57 @@
+// The square root of an f64, correctly rounded: to the nearest value, ties to even.
+
+ghost use mathlib.Core.Path.{_≡_};
+ghost use Prim.Native.Nat.{_<_};
+ghost use lib.Ieee.{binary64, ofBits};
+ghost use Rattle.definitions.specs.Numbers.{rootᶠ};
+
+mod digits;
+mod fields;
+mod starts;
+
+use digits::nearest;
+use digits::with_rest;
+use fields::evened;
+use fields::halved;
+use fields::rebuilt;
+use fields::split;
+
+// The root's pattern, for a positive finite value's.
+fn root_bits(b: u64) -> u64
+    requires { ⌜ (0 < b) × (b < 0x7ff0_0000_0000_0000) ⌝ }
+    ensures { λ r. ⌜ (r < 0x7ff0_0000_0000_0000) × (ofBits binary64 r ≡ rootᶠ (ofBits binary64 b)) ⌝ }
+{
+    let s = split(b);
+    let r = with_rest(evened(s.m, s.e));
+    rebuilt(halved(s.e), nearest(r.root, r.rest))
+}
+
+pub fn root(x: f64) -> f64
+    ensures { λ r. ⌜ r ≡ rootᶠ x ⌝ }
+{
+    if x != x {
+        return x;
+    }
+    let b = f64::to_bits(x);
+    if b == 0 {
+        return x;
+    }
+    if b == 0x8000_0000_0000_0000 {
+        return x;
+    }
+    if b == 0x7ff0_0000_0000_0000 {
+        return x;
+    }
+    if b > 0x7ff0_0000_0000_0000 {
+        return 0.0 / 0.0;
+    }
+    f64::from_bits(root_bits(b))
+}
+
+// For C and Rust.
+#[no_mangle]
+pub extern "C" fn yelomawin_root(x: f64) -> f64
+    ensures { λ r. ⌜ r ≡ rootᶠ x ⌝ }
+{
+    root(x)
+}
