@@ -1,0 +1,5 @@
+pub mod Scan
+pub mod Causes
+pub mod Sums
+pub mod Filling
+pub mod Calling

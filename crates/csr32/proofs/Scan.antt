@@ -1,0 +1,47 @@
+-- A scan that looks at one element a turn: what is left of the list decides.
+use mathlib.Core.Path.{_≡_, refl}
+use mathlib.Core.Bool.{Bool, true, false}
+use mathlib.Core.List.{List, [], _∷_}
+use Prim.Native.Nat.{ℕ, suc, _+_, _-_, _<_, _≤_}
+use native.Mathlib.Numerals.{add-one}
+use native.Mathlib.Omega.{arith}
+use lib.ListN.{length, getD, drop, length-drop}
+use lib.Seq.{drop-cons, drop-length}
+use borrow.Author.Tests.{lt-ltb, le-ltb}
+use Rattle.definitions.specs.Lists.{any, falls}
+
+module _ {A : Type 0} (f : A → Bool) (xs : List A) (i : ℕ) (d : A) (h : i < length xs) where
+  pub any-found : f (getD xs i d) ≡ true → any f (drop i xs) ≡ true
+  unfolding any
+  any-found e = rw (drop-cons xs i d h, e)
+
+  pub any-passed : f (getD xs i d) ≡ false → any f (drop i xs) ≡ any f (drop (i + 1) xs)
+  unfolding any
+  any-passed e = rw (drop-cons xs i d h, e, add-one)
+
+pub any-end : {A : Type 0} (f : A → Bool) (xs : List A) (i : ℕ) → i ≡ length xs → any f (drop i xs) ≡ false
+unfolding any
+any-end f xs i h = rw (h, drop-length xs)
+
+-- a pointer and the one before it
+module _ (p : List ℕ) (i : ℕ) (k : 0 < i) (h : i < length p) where
+  two : drop (i - 1) p ≡ getD p (i - 1) 0 ∷ (getD p i 0 ∷ drop (suc i) p)
+  two = let e : suc (i - 1) ≡ i = omega arith in rw (drop-cons p (i - 1) 0 (omega arith), e, drop-cons p i 0 h)
+
+  pub falls-found : getD p i 0 < getD p (i - 1) 0 → falls (drop (i - 1) p) ≡ true
+  unfolding falls
+  falls-found e = rw (two, lt-ltb _ _ e)
+
+  pub falls-passed : getD p (i - 1) 0 ≤ getD p i 0 → falls (drop (i - 1) p) ≡ falls (drop (i + 1 - 1) p)
+  unfolding falls
+  falls-passed e = let q : i + 1 - 1 ≡ i = omega arith in rw (two, le-ltb _ _ e, q, drop-cons p i 0 h)
+
+short : (l : List ℕ) → length l ≤ 1 → falls l ≡ false
+unfolding falls
+short [] e = refl
+short (x ∷ []) e = refl
+short (x ∷ (y ∷ l)) e = absurd (omega arith)
+
+-- at most one is left
+pub falls-end : (p : List ℕ) (i : ℕ) → 0 < i → length p ≤ i → falls (drop (i - 1) p) ≡ false
+falls-end p i k h = short (drop (i - 1) p) (simp length-drop (omega arith))

@@ -1,0 +1,65 @@
+-- What is left of the list decides: a column outside is found, or none is left.
+use mathlib.Core.Path.{_≡_, refl, sym, ap, _∙_}
+use Prim.Native.Nat.{_-_, _≤_}
+use native.Mathlib.Omega.{arith}
+use lib.Dec.{leb}
+use lib.ListN.{length, drop}
+use borrow.Author.Tests.{le-leb, lt-leb}
+use Rattle.csr32.specs.Rows.{outside}
+use Rattle.csr32.proofs.Scan.{any-found, any-passed, any-end}
+use borrow.Author.Needs.{needs}
+use Rattle.csr32.proofs.column_outside.Statement.{statement}
+use Rattle.csr32.proofs.column_outside.Tie as tie
+
+abbrev Inv-loop : tie.InvT-loop
+Inv-loop col-idx cols i₀ i = (i ≤ length col-idx) × (outside cols col-idx ≡ outside cols (drop i col-idx))
+
+abbrev μ-loop : tie.MeasureT-loop
+μ-loop col-idx cols i₀ i = length col-idx - i
+
+loop-holds : tie.Need-loop-holds Inv-loop μ-loop
+loop-holds c = (omega arith, refl)
+
+mul-wide : tie.Need-mul-wide Inv-loop μ-loop
+mul-wide c = search needs
+
+shared-slice-read-wide : tie.Need-shared-slice-read-wide Inv-loop μ-loop
+shared-slice-read-wide c = search needs
+
+wide-requires : tie.Need-wide-requires Inv-loop μ-loop
+wide-requires c κs = search needs
+
+returns : tie.Need-returns Inv-loop μ-loop
+returns c =
+    let a = c .before .before .before .before .before .before .args in let l = c .before .before .before .before .loop in
+    sym (l .inv .1 ∙ any-found _ (a .col-idx .now) (l .i) 0 (omega arith) (ap (leb (a .cols)) (sym (c .before .wide .ensures)) ∙ le-leb _ _ (c .if1 .taken)))
+
+add-i : tie.Need-add-i Inv-loop μ-loop
+add-i c = search needs
+
+loop-less : tie.Need-loop-less Inv-loop μ-loop
+loop-less c = omega arith
+
+loop-again : tie.Need-loop-again Inv-loop μ-loop
+loop-again c =
+    let a = c .before .before .before .before .before .before .args in let l = c .before .before .before .before .loop in
+    (omega arith, l .inv .1 ∙ any-passed _ (a .col-idx .now) (l .i) 0 (omega arith) (ap (leb (a .cols)) (sym (c .before .wide .ensures)) ∙ lt-leb _ _ (c .if1 .left)))
+
+returns-2 : tie.Need-returns-2 Inv-loop μ-loop
+returns-2 c = let h : c .before .loop .i ≡ length (c .before .before .before .args .col-idx .now) = omega arith in sym (c .before .loop .inv .1 ∙ any-end _ _ _ h)
+
+pub column-outside-spec : {M : Type 1} → statement M
+column-outside-spec =
+    tie.close
+    (tie.spec
+    Inv-loop
+    μ-loop
+    loop-holds
+    mul-wide
+    shared-slice-read-wide
+    wide-requires
+    returns
+    add-i
+    loop-less
+    loop-again
+    returns-2)
