@@ -1,0 +1,114 @@
+-- Blocks one by one: what is left to do gives, from the factors so far, what the whole gives.
+use Prim.Native.Nat.{ℕ, zero, suc, _+_, _-_, _*_, _<_, _≤_}
+use mathlib.Core.Path.{_≡_, refl, ap, sym, _∙_}
+use mathlib.Core.Bool.{Bool, true, false}
+use mathlib.Core.List.{List, _++_, append-assoc}
+use native.Mathlib.Omega.{arith}
+use native.Mathlib.Numerals.{add-one}
+use lib.ListN.{length, getD, set, take, drop, length-drop, length-append}
+use lib.Seq.{length-take-le, take-at}
+use lib.Ieee.{Float, nan}
+use borrow.Rule.Slice.PartMut.{putMid, same-len-mid}
+use Rattle.definitions.specs.Numbers.{_*ᶠ_, rootᶠ, above, symmetryTol, pivotTol}
+use Rattle.definitions.specs.Refusal.{Outcome, refused, done, _>>=_, keepsAll, numberOf}
+use Rattle.definitions.specs.Matrix.{Matrix}
+use Rattle.definitions.specs.Factor.{rest, leftOf, factorFrom}
+use Rattle.definitions.specs.Block.{inBlock, topOf, skewed, blockOf, blockFactor, blockCount, widthOf, factorsFrom, factorsOf}
+use Rattle.definitions.specs.Answers.{answerOf}
+use Rattle.definitions.specs.declared.Refusal.{Refusal}
+use Rattle.definitions.specs.declared.Refusal.the-variants.{BlockNotSymmetric}
+use Rattle.definitions.specs.declared.Answer.{Answer}
+use Rattle.definitions.specs.declared.Answer.the-variants.{Accepted, Refused}
+use Rattle.csr32.specs.Calls.{refused-is, goes-on, stops}
+use Rattle.block_factor.specs.Dense.{blank}
+use Rattle.block_factor.specs.Factored.{pivotRow, factorOf}
+use Rattle.block_factor.specs.Held.{held}
+use Rattle.block_factor.proofs.Placing.{factor-is}
+use Rattle.block_factor.proofs.Steps.{factor-skewed, factor-goes}
+
+-- ---- causes 14 and 15 leave zero
+
+module _ (place : ℕ → ℕ → ℕ) (a : ℕ → ℕ → Float) (bad : ℕ → Refusal) (clears : (i : ℕ) → keepsAll (bad i) ≡ false) where
+  from-clears : (tol : Float) (n i : ℕ) (l : List Float) (r : Refusal) → factorFrom place bad a tol n i l ≡ refused r → keepsAll r ≡ false
+  unfolding factorFrom
+  from-clears tol zero i l r e = cc
+  from-clears tol (suc n) i l r e =
+      step (above tol (rest place a (leftOf place a i i l) i i)) refl
+      (from-clears tol n (suc i) (set (leftOf place a i i l) (place i i) (rootᶠ (rest place a (leftOf place a i i l) i i))) r)
+    where
+      step : (b : Bool) → above tol (rest place a (leftOf place a i i l) i i) ≡ b
+          → (factorFrom place bad a tol n (suc i) (set (leftOf place a i i l) (place i i) (rootᶠ (rest place a (leftOf place a i i l) i i))) ≡ refused r → keepsAll r ≡ false)
+          → keepsAll r ≡ false
+      step true p ih = ih (rw (p, factorFrom) at e)
+      step false p ih =
+          let q : refused (bad i) ≡ refused r = rw (p, factorFrom) at e in
+          let g : bad i ≡ r = cc in
+          ap keepsAll (sym g) ∙ clears i
+
+same-cause : {A : Type 0} (o : Outcome A) (x y : Refusal) → o ≡ refused x → o ≡ refused y → x ≡ y
+same-cause o x y p q = cc
+
+factor-clears : (first w : ℕ) (d : List Float) (r : Refusal) → factorOf first w d ≡ refused r → keepsAll r ≡ false
+unfolding keepsAll numberOf
+factor-clears first w d r e = step (skewed d w (symmetryTol *ᶠ topOf d)) refl
+  where
+    step : (b : Bool) → skewed d w (symmetryTol *ᶠ topOf d) ≡ b → keepsAll r ≡ false
+    step true p = ap keepsAll (same-cause (factorOf first w d) r (BlockNotSymmetric first) e (factor-skewed first w d p))
+    step false p = from-clears (inBlock w) (λ i j. getD d (inBlock w i j) nan) (pivotRow first) (λ i. refl) (pivotTol *ᶠ topOf d) w 0 blank r (sym (factor-goes first w d p) ∙ e)
+
+-- the outcome of a block, from its answer
+is-accepted : (o : Outcome (List Float)) (place : List Float) → answerOf o ≡ Accepted → o ≡ done (held o place)
+unfolding answerOf held
+is-accepted (done l) place e = refl
+is-accepted (refused r) place e = cc
+
+bind-refused : (o : Outcome (List Float)) (f : List Float → List Float) (r : Refusal) → (o >>= (λ l. done (f l))) ≡ refused r → o ≡ refused r
+unfolding _>>=_
+bind-refused (done l) f r e = cc
+bind-refused (refused q) f r e = cc
+
+pub block-clears : (m : Matrix) (first w : ℕ) (r : Refusal) → blockFactor m first w ≡ refused r → keepsAll r ≡ false
+block-clears m first w r e = factor-clears first w (blockOf m first w) r (bind-refused (factorOf first w (blockOf m first w)) (λ l. take (w * w) l) r (sym (factor-is m first w) ∙ e))
+
+-- ---- one block more, where k blocks are there
+
+module _ (m : Matrix) (size : ℕ) where
+  pub blocks-none : (d : List Float) → factorsFrom m size (blockCount (m .rows) size - 0) 0 (take 0 d) ≡ factorsOf m size
+  unfolding factorsOf
+  blocks-none d = let z : blockCount (m .rows) size - 0 ≡ blockCount (m .rows) size = omega arith in rw z
+
+  module _ (k used end w : ℕ) (h : k < blockCount (m .rows) size) (ew : w ≡ widthOf (m .rows) size k) (ee : end ≡ used + w * w) (d p : List Float) (fits : end ≤ length d)
+      (lp : length p ≡ length (take (end - used) (drop used d))) (ep : p ≡ held (blockFactor m (k * size) w) (take (end - used) (drop used d)))
+      (inv : factorsFrom m size (blockCount (m .rows) size - k) k (take used d) ≡ factorsOf m size) (x : Answer) (ex : x ≡ answerOf (blockFactor m (k * size) w)) where
+    here : factorsFrom m size (suc (blockCount (m .rows) size - suc k)) k (take used d) ≡ factorsOf m size
+    here = let z : suc (blockCount (m .rows) size - suc k) ≡ blockCount (m .rows) size - k = omega arith in rw z inv
+
+    opened : (blockFactor m (k * size) w >>= (λ l. factorsFrom m size (blockCount (m .rows) size - suc k) (suc k) (take used d ++ l))) ≡ factorsOf m size
+    unfolding factorsFrom
+    opened = rw ew here
+
+    -- the place ends where it must
+    pub part-long : length (take (end - used) (drop used d)) ≡ w * w
+    part-long = length-take-le (end - used) (drop used d) (omega (arith, length-drop used d)) ∙ omega arith
+
+    front : take end (putMid used (end - used) d p) ≡ take used d ++ p
+    front =
+        let q : length (take used d ++ p) ≡ end = length-append (take used d) p ∙ omega (arith, length-take-le used d (omega arith), lp, part-long) in
+        ap (λ l. take end l) (sym (append-assoc (take used d) p (drop (end - used) (drop used d)))) ∙ take-at (take used d ++ p) (drop (end - used) (drop used d)) end q
+
+    pub put-length : length (putMid used (end - used) d p) ≡ length d
+    put-length = same-len-mid used (end - used) d p lp
+
+    pub blocks-more : x ≡ Accepted → factorsFrom m size (blockCount (m .rows) size - (k + 1)) (k + 1) (take end (putMid used (end - used) d p)) ≡ factorsOf m size
+    blocks-more e =
+        let o : blockFactor m (k * size) w ≡ done p = is-accepted (blockFactor m (k * size) w) (take (end - used) (drop used d)) (sym ex ∙ e) ∙ ap done (sym ep) in
+        rw (add-one k, front) (sym (goes-on (blockFactor m (k * size) w) p _ o) ∙ opened)
+
+    pub blocks-stop : (r : Refusal) → x ≡ Refused r → (factorsOf m size ≡ refused r) × (keepsAll r ≡ false)
+    blocks-stop r e =
+        let o : blockFactor m (k * size) w ≡ refused r = refused-is (blockFactor m (k * size) w) r (sym ex ∙ e) in
+        (sym opened ∙ stops (blockFactor m (k * size) w) r _ o, block-clears m (k * size) w r o)
+
+  pub blocks-all : (k used : ℕ) (d : List Float) → k ≡ blockCount (m .rows) size → factorsFrom m size (blockCount (m .rows) size - k) k (take used d) ≡ factorsOf m size → factorsOf m size ≡ done (take used d)
+  unfolding factorsFrom
+  blocks-all k used d e inv = let z : blockCount (m .rows) size - k ≡ 0 = omega arith in sym inv ∙ rw z

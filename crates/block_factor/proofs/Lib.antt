@@ -1,0 +1,9 @@
+pub mod Shape
+pub mod Tabs
+pub mod Folds
+pub mod Steps
+pub mod Gathering
+pub mod Placing
+pub mod Turns
+pub mod Filling
+pub mod Calling

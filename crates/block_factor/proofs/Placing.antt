@@ -1,0 +1,93 @@
+-- A block's factor in its place, from what gathering and factoring answer.
+use Prim.Native.Nat.{ℕ, zero, suc, _-_, _*_, _≤_}
+use mathlib.Core.Path.{_≡_, refl, ap, sym, _∙_}
+use mathlib.Core.Bool.{Bool, true, false}
+use mathlib.Core.List.{List, append-nil}
+use native.Mathlib.Omega.{arith}
+use lib.ListN.{length, getD, set, take, length-set, length-replicate, drop-of-length-le}
+use lib.Ieee.{Float, nan}
+use Rattle.numbers.specs.Copied.{copied}
+use Rattle.definitions.specs.Numbers.{_*ᶠ_, rootᶠ, above, zeroᶠ, symmetryTol, pivotTol}
+use Rattle.definitions.specs.Refusal.{Outcome, refused, done, _>>=_}
+use Rattle.definitions.specs.Matrix.{Matrix}
+use Rattle.definitions.specs.Factor.{rest, leftOf, factorFrom}
+use Rattle.definitions.specs.Block.{inBlock, topOf, skewed, blockOf, blockFactor}
+use Rattle.definitions.specs.Answers.{answerOf}
+use Rattle.definitions.specs.declared.Refusal.{Refusal}
+use Rattle.definitions.specs.declared.Answer.the-variants.{Accepted, Refused}
+use Rattle.block_factor.specs.declared.dense.Block.{Block}
+use Rattle.block_factor.specs.declared.cholesky.Factored.{Factored}
+use Rattle.block_factor.specs.Dense.{blank, dense}
+use Rattle.block_factor.specs.Factored.{pivotRow, factorOf, factored}
+use Rattle.block_factor.specs.Held.{held}
+
+-- ---- a factor has as many numbers as it was begun with
+
+module _ (place : ℕ → ℕ → ℕ) (a : ℕ → ℕ → Float) where
+  length-left : (i j : ℕ) (l : List Float) → length (leftOf place a i j l) ≡ length l
+  unfolding leftOf
+  length-left i zero l = refl
+  length-left i (suc j) l = simp length-set (length-left i j l)
+
+  length-from : (bad : ℕ → Refusal) (tol : Float) (n i : ℕ) (l r : List Float) → factorFrom place bad a tol n i l ≡ done r → length r ≡ length l
+  unfolding factorFrom
+  length-from bad tol zero i l r e = let q : l ≡ r = cc in ap length (sym q)
+  length-from bad tol (suc n) i l r e =
+      step (above tol (rest place a (leftOf place a i i l) i i)) refl
+      (length-from bad tol n (suc i) (set (leftOf place a i i l) (place i i) (rootᶠ (rest place a (leftOf place a i i l) i i))) r)
+    where
+      step : (b : Bool) → above tol (rest place a (leftOf place a i i l) i i) ≡ b
+          → (factorFrom place bad a tol n (suc i) (set (leftOf place a i i l) (place i i) (rootᶠ (rest place a (leftOf place a i i l) i i))) ≡ done r
+          → length r ≡ length (set (leftOf place a i i l) (place i i) (rootᶠ (rest place a (leftOf place a i i l) i i))))
+          → length r ≡ length l
+      step true p ih = ih (rw (p, factorFrom) at e) ∙ simp length-set (length-left i i l)
+      step false p ih = let q : refused (bad i) ≡ done r = rw (p, factorFrom) at e in cc
+
+pub length-factor : (first w : ℕ) (d l : List Float) → factorOf first w d ≡ done l → length l ≡ 64
+unfolding factorOf blank
+length-factor first w d l e = step (skewed d w (symmetryTol *ᶠ topOf d)) refl
+  where
+    step : (b : Bool) → skewed d w (symmetryTol *ᶠ topOf d) ≡ b → length l ≡ 64
+    step true p = let q : refused _ ≡ done l = rw (p, factorOf) at e in cc
+    step false p = length-from (inBlock w) (λ i j. getD d (inBlock w i j) nan) (pivotRow first) (pivotTol *ᶠ topOf d) w 0 blank l (rw (p, factorOf) at e) ∙ length-replicate 64 zeroᶠ
+
+-- ---- the block's factor, from the factor of its numbers
+
+pub factor-is : (m : Matrix) (first w : ℕ) → blockFactor m first w ≡ (factorOf first w (blockOf m first w) >>= (λ l. done (take (w * w) l)))
+unfolding blockFactor factorOf _>>=_ blank
+factor-is m first w = step (skewed (blockOf m first w) w (symmetryTol *ᶠ topOf (blockOf m first w))) refl
+  where
+    step : (b : Bool) → skewed (blockOf m first w) w (symmetryTol *ᶠ topOf (blockOf m first w)) ≡ b → blockFactor m first w ≡ (factorOf first w (blockOf m first w) >>= (λ l. done (take (w * w) l)))
+    step true p = rw (p, blockFactor, factorOf)
+    step false p = rw (p, blockFactor, factorOf)
+
+is-refused : (w : ℕ) (o : Outcome (List Float)) (r : Refusal) → factored w o .answer ≡ Refused r → o ≡ refused r
+unfolding factored
+is-refused w (done l) r e = cc
+is-refused w (refused q) r e = cc
+
+is-done : (w : ℕ) (o : Outcome (List Float)) → factored w o .answer ≡ Accepted → o ≡ done (factored w o .block .a)
+unfolding factored
+is-done w (done l) e = refl
+is-done w (refused q) e = cc
+
+module _ (m : Matrix) (first w : ℕ) (b : Block) (made : Factored) (eb : dense w (b .a) ≡ blockOf m first w) (ew : b .size ≡ w)
+    (em : made ≡ factored (b .size) (factorOf first (b .size) (dense (b .size) (b .a)))) where
+  made-is : made ≡ factored w (factorOf first w (blockOf m first w))
+  made-is = em ∙ rw (ew, eb)
+
+  pub into-refused : (r : Refusal) (place : List Float) → made .answer ≡ Refused r → (Refused r ≡ answerOf (blockFactor m first w)) × (place ≡ held (blockFactor m first w) place)
+  unfolding answerOf held _>>=_
+  into-refused r place e =
+      let o : factorOf first w (blockOf m first w) ≡ refused r = is-refused w _ r (ap (λ f. f .answer) (sym made-is) ∙ e) in
+      (rw (factor-is m first w, o), rw (factor-is m first w, o))
+
+  pub into-accepted : (place p : List Float) → made .answer ≡ Accepted → length place ≡ w * w → w * w ≤ 64 → p ≡ copied (made .block .a) place
+      → (Accepted ≡ answerOf (blockFactor m first w)) × (p ≡ held (blockFactor m first w) place)
+  unfolding answerOf held _>>=_ copied
+  into-accepted place p e l h ep =
+      let o : factorOf first w (blockOf m first w) ≡ done (made .block .a)
+      = is-done w _ (ap (λ f. f .answer) (sym made-is) ∙ e) ∙ ap (λ f. done (f .block .a)) (sym made-is) in
+      let n : length (made .block .a) ≡ 64 = length-factor first w (blockOf m first w) (made .block .a) o in
+      let q : p ≡ take (w * w) (made .block .a) = ep ∙ rw (l, drop-of-length-le place {i = length (made .block .a)} (omega arith), append-nil) in
+      (rw (factor-is m first w, o), q ∙ rw (factor-is m first w, o))

@@ -1,0 +1,68 @@
+-- Cholesky's steps as the code takes them.
+use Prim.Native.Nat.{ℕ, suc, _+_, _-_, _<_}
+use mathlib.Core.Path.{_≡_, refl, ap, sym, _∙_}
+use mathlib.Core.Bool.{Bool, true, false}
+use mathlib.Core.List.{List}
+use native.Mathlib.Omega.{arith}
+use native.Mathlib.Numerals.{add-one}
+use lib.ListN.{getD, set}
+use lib.Ieee.{Float, nan}
+use Rattle.definitions.specs.Numbers.{_*ᶠ_, _/ᶠ_, rootᶠ, oneᶠ, above, larger, largest, symmetryTol, pivotTol}
+use Rattle.definitions.specs.Refusal.{refused, done}
+use Rattle.definitions.specs.Factor.{rest, leftOf, factorFrom}
+use Rattle.definitions.specs.Block.{inBlock, topOf, skewed}
+use Rattle.definitions.specs.declared.Refusal.{Refusal}
+use Rattle.definitions.specs.declared.Refusal.the-variants.{BlockNotSymmetric}
+use Rattle.block_factor.specs.Dense.{blank}
+use Rattle.block_factor.specs.Factored.{pivotRow, factorOf}
+
+module _ (place : ℕ → ℕ → ℕ) (a : ℕ → ℕ → Float) where
+  pub left-none : (i : ℕ) (l : List Float) → l ≡ leftOf place a i 0 l
+  unfolding leftOf
+  left-none i l = refl
+
+  pub left-more : (i j : ℕ) (l₀ l m : List Float) (x y z : Float) → l ≡ leftOf place a i j l₀ → x ≡ rest place a l i j → y ≡ getD l (place j j) nan → z ≡ x /ᶠ y → m ≡ set l (place i j) z
+      → m ≡ leftOf place a i (j + 1) l₀
+  unfolding leftOf
+  left-more i j l₀ l m x y z e ex ey ez em = em ∙ rw (add-one, ez, ex, ey, e)
+
+  -- one row more, where i rows are there: m is l with the row's entries left of the diagonal, d its pivot
+  module _ (bad : ℕ → Refusal) (tol : Float) (w i : ℕ) (l m : List Float) (d : Float) (t : Bool) (h : i < w)
+      (em : m ≡ leftOf place a i i l) (ed : d ≡ rest place a m i i) (et : t ≡ above tol d) where
+    here : above tol (rest place a (leftOf place a i i l) i i) ≡ t
+    here = rw (← em, ← ed) (sym et)
+
+    pub row-more : (r : Float) (n : List Float) → t ≡ true → r ≡ rootᶠ d → n ≡ set m (place i i) r
+        → factorFrom place bad a tol (w - i) i l ≡ factorFrom place bad a tol (w - (i + 1)) (i + 1) n
+    unfolding factorFrom
+    row-more r n p er en = let e : w - i ≡ suc (w - suc i) = omega arith in rw (add-one, e, en, er, ed, em) (rw (here ∙ p, factorFrom))
+
+    pub row-refused : t ≡ false → factorFrom place bad a tol (w - i) i l ≡ refused (bad i)
+    unfolding factorFrom
+    row-refused p = let e : w - i ≡ suc (w - suc i) = omega arith in rw e (rw (here ∙ p, factorFrom))
+
+  pub rows-all : (bad : ℕ → Refusal) (tol : Float) (w i : ℕ) (l : List Float) → i ≡ w → factorFrom place bad a tol (w - i) i l ≡ done l
+  unfolding factorFrom
+  rows-all bad tol w i l h = let e : w - i ≡ 0 = omega arith in rw e
+
+module _ (first w : ℕ) (d : List Float) where
+  pub factor-skewed : skewed d w (symmetryTol *ᶠ topOf d) ≡ true → factorOf first w d ≡ refused (BlockNotSymmetric first)
+  unfolding factorOf
+  factor-skewed p = rw (p, factorOf)
+
+  pub factor-goes : skewed d w (symmetryTol *ᶠ topOf d) ≡ false
+      → factorOf first w d ≡ factorFrom (inBlock w) (pivotRow first) (λ i j. getD d (inBlock w i j) nan) (pivotTol *ᶠ topOf d) w 0 blank
+  unfolding factorOf
+  factor-goes p = rw (p, factorOf)
+
+-- the same from the scale s and the top that the code has
+module _ (first w : ℕ) (d : List Float) (s top : Float) (es : s ≡ largest d) (et : top ≡ larger s oneᶠ) (t : Bool) (ef : t ≡ skewed d w (symmetryTol *ᶠ top)) where
+  top-is : top ≡ topOf d
+  unfolding topOf
+  top-is = et ∙ rw es
+
+  pub stopped : t ≡ true → factorOf first w d ≡ refused (BlockNotSymmetric first)
+  stopped p = factor-skewed first w d (rw (← top-is) (sym ef ∙ p))
+
+  pub goes : t ≡ false → factorOf first w d ≡ factorFrom (inBlock w) (pivotRow first) (λ i j. getD d (inBlock w i j) nan) (pivotTol *ᶠ top) w 0 blank
+  goes p = factor-goes first w d (rw (← top-is) (sym ef ∙ p)) ∙ ap (λ u. factorFrom (inBlock w) (pivotRow first) (λ i j. getD d (inBlock w i j) nan) (pivotTol *ᶠ u) w 0 blank) (sym top-is)

@@ -1,0 +1,29 @@
+-- What factoring a dense block answers: the definitions' own steps over its numbers d.
+use Prim.Native.Nat.{ℕ, _+_, _*_}
+use mathlib.Core.Bool.{true, false}
+use mathlib.Core.List.{List}
+use lib.ListN.{getD}
+use lib.Ieee.{Float, nan}
+use Rattle.definitions.specs.Numbers.{_*ᶠ_, symmetryTol, pivotTol}
+use Rattle.definitions.specs.Refusal.{Outcome, refused, done}
+use Rattle.definitions.specs.Block.{inBlock, topOf, skewed}
+use Rattle.definitions.specs.Factor.{factorFrom}
+use Rattle.definitions.specs.declared.Refusal.{Refusal}
+use Rattle.definitions.specs.declared.Refusal.the-variants.{BlockNotSymmetric, BlockPivot}
+use Rattle.definitions.specs.declared.Answer.the-variants.{Accepted, Refused}
+use Rattle.block_factor.specs.declared.cholesky.Factored.{Factored}
+use Rattle.block_factor.specs.Dense.{blank}
+
+abbrev pub pivotRow : ℕ → ℕ → Refusal
+pivotRow first i = BlockPivot (first + i)
+
+unfoldable pub factorOf : ℕ → ℕ → List Float → Outcome (List Float)
+factorOf first w d = elim (skewed d w (symmetryTol *ᶠ topOf d)) [
+  | true ↦ refused (BlockNotSymmetric first)
+  | false ↦ factorFrom (inBlock w) (pivotRow first) (λ i j. getD d (inBlock w i j) nan) (pivotTol *ᶠ topOf d) w 0 blank
+]
+
+-- as a block and an answer
+unfoldable pub factored : ℕ → Outcome (List Float) → Factored
+factored w (done l) = record { block = record { a = l; size = w }; answer = Accepted }
+factored w (refused r) = record { block = record { a = blank; size = w }; answer = Refused r }
