@@ -1,0 +1,4 @@
+pub mod Sums
+pub mod Triangles
+pub mod Places
+pub mod Calling
