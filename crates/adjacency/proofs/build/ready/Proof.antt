@@ -1,0 +1,58 @@
+-- Cleared lists bear no stamp and no strength; the norms are made if they are wanted.
+use Prim.Native.Nat.{_-_, _*_}
+use native.Mathlib.Omega.{arith}
+use lib.ListN.{length}
+use Rattle.definitions.specs.Matrix.{csr}
+use Rattle.adjacency.proofs.Norming.{ready-even, ready-norms, plain-blank}
+use borrow.Author.Needs.{needs}
+use Rattle.adjacency.proofs.build.ready.Statement.{statement}
+use Rattle.adjacency.proofs.build.ready.Tie as tie
+
+zero-ints-requires : tie.Need-zero-ints-requires
+zero-ints-requires c κs = search needs
+
+zero-floats-requires : tie.Need-zero-floats-requires
+zero-floats-requires c κs = search needs
+
+norms-requires : tie.Need-norms-requires
+norms-requires c κs =
+    let b = c .before .before .before .before .before .before .before .before .before .before .before .before .before .before .before in
+    (b .pre .0, (omega (arith, b .pre .1 .1, c .before .before .before .before .zero-floats .kept .0), plain-blank (length (b .args .floats .now)) (c .before .before .before .before .zero-floats .last .0) (c .before .before .before .before .zero-floats .ensures)))
+
+same-length : tie.Need-same-length
+same-length c = search needs
+
+same-length-2 : tie.Need-same-length-2
+same-length-2 c = search needs
+
+returns : tie.Need-returns
+returns c =
+    let b = c .before .before .before .before .before .before .before .before .before .before .before .before .before .before .before .before .before .before in
+    ready-norms (b .args .strong) (csr (b .args .nodes * b .args .size) (b .args .nodes * b .args .size) (b .args .row-ptr .now) (b .args .col-idx .now) (b .args .values .now)) (b .args .size) (b .args .nodes) (length (b .args .ints .now))
+    (c .before .before .before .before .before .before .before .before .before .before .before .zero-ints .last .0) (c .before .before .norms .last .1 .1 .1 .1 .1 .0) (c .before .before .before .before .before .before .before .before .before .before .before .zero-ints .ensures) (b .pre .1 .0) (omega (arith, b .pre .1 .1, c .before .before .before .before .before .before .before .zero-floats .kept .0, c .before .before .norms .kept .1 .1 .1 .1 .1 .0)) (c .before .before .norms .ensures) (c .before .before .before .before .if1 .taken)
+
+same-length-3 : tie.Need-same-length-3
+same-length-3 c = search needs
+
+same-length-4 : tie.Need-same-length-4
+same-length-4 c = search needs
+
+returns-2 : tie.Need-returns-2
+returns-2 c =
+    let b = c .before .before .before .before .before .before .before .before .before .before .before .before .before .before in
+    ready-even (b .args .strong) (csr (b .args .nodes * b .args .size) (b .args .nodes * b .args .size) (b .args .row-ptr .now) (b .args .col-idx .now) (b .args .values .now)) (b .args .size) (b .args .nodes) (length (b .args .ints .now)) (length (b .args .floats .now))
+    (c .before .before .before .before .before .before .before .zero-ints .last .0) (c .before .before .before .zero-floats .last .0) (c .before .before .before .before .before .before .before .zero-ints .ensures) (c .before .before .before .zero-floats .ensures) (b .pre .1 .0) (b .pre .1 .1) (c .if1 .left)
+
+pub ready-spec : {M : Type 1} → statement M
+ready-spec =
+    tie.close
+    (tie.spec
+    zero-ints-requires
+    zero-floats-requires
+    norms-requires
+    same-length
+    same-length-2
+    returns
+    same-length-3
+    same-length-4
+    returns-2)

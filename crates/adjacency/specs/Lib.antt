@@ -1,0 +1,10 @@
+-- What the contracts of `adjacency` cite.
+pub mod Order
+pub mod Collect
+pub mod Strengths
+pub mod Formed
+pub mod Lists
+pub mod Norms
+pub mod Lined
+pub mod Flat
+pub mod Fits

@@ -1,0 +1,147 @@
+// The work lists made ready, the lists built, and the rest of the result list cleared.
+use super::graph::all_lists;
+use super::norms::norms;
+use definitions::TwoLevelAggregation;
+ghost use mathlib.Core.Path.{_≡_};
+ghost use Prim.Native.Nat.{_+_, _*_, _≤_};
+ghost use lib.ListN.{length, replicate};
+ghost use Rattle.definitions.specs.Numbers.{zeroᶠ};
+ghost use Rattle.definitions.specs.Lists.{padded};
+ghost use Rattle.definitions.specs.Matrix.{csr};
+ghost use Rattle.definitions.specs.Neighbours.{flatNeighbours};
+ghost use Rattle.adjacency.specs.Flat.{flatOf};
+ghost use Rattle.adjacency.specs.Formed.{Formed};
+ghost use Rattle.adjacency.specs.Lists.{Between, listOf};
+
+// Clears the work lists, and makes the diagonal norms if strengths are wanted.
+fn ready(
+    strong: bool,
+    row_ptr: &[u32],
+    col_idx: &[u32],
+    values: &[f64],
+    size: u32,
+    nodes: usize,
+    ints: &mut [u32],
+    floats: &mut [f64],
+)
+    requires { ⌜ Formed nodes size (now «row_ptr») (now «col_idx») (now values) ⌝ }
+    requires { ⌜ (2 * nodes ≤ length (now ints)) × (3 * nodes ≤ length (now floats)) ⌝ }
+    ensures { λ _. ⌜ Between strong (csr (nodes * size) (nodes * size) (now («row_ptr» .entry)) (now («col_idx» .entry)) (now (values .entry))) size nodes 0 (now (ints .exit)) (now (floats .exit)) ⌝ }
+{
+    numbers::zero_ints(ints);
+    numbers::zero_floats(floats);
+    if strong {
+        norms(row_ptr, col_idx, values, size, nodes, floats);
+    }
+}
+
+// Builds the lists, by strength if that is wanted.
+fn linked(
+    strong: bool,
+    row_ptr: &[u32],
+    col_idx: &[u32],
+    values: &[f64],
+    size: u32,
+    nodes: usize,
+    lists: &mut [u32],
+    ints: &mut [u32],
+    floats: &mut [f64],
+)
+    requires { ⌜ Formed nodes size (now «row_ptr») (now «col_idx») (now values) ⌝ }
+    requires { ⌜ (nodes + 1 + length (now «col_idx») ≤ length (now lists)) × ((2 * nodes ≤ length (now ints)) × (3 * nodes ≤ length (now floats))) ⌝ }
+    ensures { λ _. ⌜ now (lists .exit) ≡ padded 0 (length (now (lists .entry))) (flatOf (listOf strong (csr (nodes * size) (nodes * size) (now («row_ptr» .entry)) (now («col_idx» .entry)) (now (values .entry))) size nodes) nodes) ⌝ }
+{
+    ready(strong, row_ptr, col_idx, values, size, nodes, ints, floats);
+    let end = all_lists(
+        strong,
+        row_ptr,
+        col_idx,
+        values,
+        size,
+        nodes,
+        lists,
+        ints,
+        floats,
+    );
+    numbers::zero_ints(&mut lists[end..]);
+}
+
+// Fills the result list by policy.
+fn fill(
+    aggregation: TwoLevelAggregation,
+    row_ptr: &[u32],
+    col_idx: &[u32],
+    values: &[f64],
+    size: u32,
+    nodes: usize,
+    lists: &mut [u32],
+    ints: &mut [u32],
+    floats: &mut [f64],
+)
+    requires { ⌜ Formed nodes size (now «row_ptr») (now «col_idx») (now values) ⌝ }
+    requires { ⌜ (nodes + 1 + length (now «col_idx») ≤ length (now lists)) × ((2 * nodes ≤ length (now ints)) × (3 * nodes ≤ length (now floats))) ⌝ }
+    ensures { λ _. ⌜ now (lists .exit) ≡ padded 0 (length (now (lists .entry))) (flatNeighbours aggregation (csr (nodes * size) (nodes * size) (now («row_ptr» .entry)) (now («col_idx» .entry)) (now (values .entry))) size nodes) ⌝ }
+{
+    match aggregation {
+        TwoLevelAggregation::Contiguous => numbers::zero_ints(lists),
+        TwoLevelAggregation::Graph => linked(
+            false,
+            row_ptr,
+            col_idx,
+            values,
+            size,
+            nodes,
+            lists,
+            ints,
+            floats,
+        ),
+        TwoLevelAggregation::StrongGraph => linked(
+            true,
+            row_ptr,
+            col_idx,
+            values,
+            size,
+            nodes,
+            lists,
+            ints,
+            floats,
+        ),
+    }
+}
+
+// Fills the result list, and clears the work lists, of which the front is used.
+pub fn build(
+    aggregation: TwoLevelAggregation,
+    row_ptr: &[u32],
+    col_idx: &[u32],
+    values: &[f64],
+    block_size: usize,
+    nodes: usize,
+    lists: &mut [u32],
+    work_ints: &mut [u32],
+    work_floats: &mut [f64],
+)
+    requires { ⌜ Formed nodes «block_size» (now «row_ptr») (now «col_idx») (now values) ⌝ }
+    requires { ⌜ (nodes + 1 + length (now «col_idx») ≤ length (now lists)) × ((2 * nodes ≤ length (now «work_ints»)) × (3 * nodes ≤ length (now «work_floats»))) ⌝ }
+    requires { ⌜ «block_size» ≤ 8 ⌝ }
+    ensures { λ _. ⌜ now (lists .exit) ≡ padded 0 (length (now (lists .entry))) (flatNeighbours aggregation (csr (nodes * «block_size») (nodes * «block_size») (now («row_ptr» .entry)) (now («col_idx» .entry)) (now (values .entry))) «block_size» nodes) ⌝ }
+    ensures { λ _. ⌜ now («work_ints» .exit) ≡ replicate (length (now («work_ints» .entry))) 0 ⌝ }
+    ensures { λ _. ⌜ now («work_floats» .exit) ≡ replicate (length (now («work_floats» .entry))) zeroᶠ ⌝ }
+{
+    let size = block_size as u32;
+    let ints = 2 * nodes;
+    let floats = 3 * nodes;
+    fill(
+        aggregation,
+        row_ptr,
+        col_idx,
+        values,
+        size,
+        nodes,
+        lists,
+        &mut work_ints[..ints],
+        &mut work_floats[..floats],
+    );
+    numbers::zero_ints(work_ints);
+    numbers::zero_floats(work_floats);
+}

@@ -1,0 +1,8 @@
+// An index from a 32-bit word.
+ghost use mathlib.Core.Path.{_≡_};
+
+pub fn wide(x: u32) -> usize
+    ensures { λ r. ⌜ r ≡ x ⌝ }
+{
+    x as usize
+}
