@@ -1,0 +1,4 @@
+-- The laws of the public functions.
+mod Upto
+mod Stages
+mod Answered

@@ -1,0 +1,102 @@
+-- The stages of grouping, one after another.
+use mathlib.Core.Path.{_≡_, ap, sym, _∙_}
+use mathlib.Core.List.{List, [], _++_, append-nil}
+use Prim.Native.Nat.{ℕ, _-_, _≤_}
+use native.Mathlib.Omega.{arith}
+use lib.ListN.{length, getD, take, drop, replicate, length-append, length-drop, length-replicate, drop-of-length-le}
+use lib.Seq.{getD-take, take-at, take-all, length-take-le}
+use Rattle.definitions.specs.Lists.{padded}
+use Rattle.definitions.specs.Groups.{renumbered, grown, joinings, graphGrouping, listed, noAnchor, floorOf}
+use Rattle.numbers.specs.Copied.{copied}
+use Rattle.aggregates.specs.JoinState.{joinedIds}
+use Rattle.aggregates.specs.Checked.{Accepts}
+use Rattle.aggregates.specs.Numbered.{Numbered}
+use Rattle.aggregates.specs.Settled.{Grows, Settled}
+use Rattle.aggregates.proofs.growth.Between.{grown-all}
+use Rattle.aggregates.proofs.Upto.{joined-ids-upto}
+
+-- after joining the numbers are still those of groups
+pub numbered-after : (n groups floor : ℕ) (offsets nb w w' : List ℕ) → Grows n groups offsets nb w → take n w' ≡ joinedIds offsets nb floor groups (take n w) → length w' ≡ length w → Numbered n groups w'
+numbered-after n groups floor offsets nb w w' o e l = record {
+  upto = λ v h. rw (← getD-take n w' v 0 h, e) (joined-ids-upto (listed offsets nb) noAnchor floor groups (take n w) (o .upto) v);
+  room = omega (arith, o .room);
+  small = o .joins .small .0;
+}
+
+pub settled-after : (n groups floor count : ℕ) (offsets nb w w₁ w₂ : List ℕ) → take n w₁ ≡ joinedIds offsets nb floor groups (take n w) → take n w₂ ≡ renumbered (take n w₁) .ids → count ≡ renumbered (take n w₁) .count → Settled offsets nb n groups floor w w₂ count
+settled-after n groups floor count offsets nb w w₁ w₂ e f g = record { ids = f ∙ ap (λ l. renumbered l .ids) e; number = g ∙ ap (λ l. renumbered l .count) e }
+
+-- the front of a list, cleared
+module _ (n : ℕ) (w t : List ℕ) (fits : n ≤ length w) (z : t ≡ replicate (length (take (n - 0) (drop 0 w))) 0) where
+  front-long : length (take (n - 0) (drop 0 w)) ≡ n
+  front-long = let e : n - 0 ≡ n = omega arith in rw e (length-take-le n w fits)
+
+  pub front-zero : take n (take 0 w ++ (t ++ drop (n - 0) (drop 0 w))) ≡ replicate n 0
+  front-zero =
+      let q : t ≡ replicate n 0 = z ∙ ap (λ k. replicate k 0) front-long in
+      take-at t (drop (n - 0) (drop 0 w)) n (ap length q ∙ length-replicate n 0) ∙ q
+
+  pub front-length : length (take 0 w ++ (t ++ drop (n - 0) (drop 0 w))) ≡ length w
+  front-length = let e : length t ≡ n = ap length z ∙ length-replicate (length (take (n - 0) (drop 0 w))) 0 ∙ front-long in simp (length-append, e, length-drop) (omega arith)
+
+-- zeros behind the front of a list
+module _ (n : ℕ) (w t ids : List ℕ) (fits : n ≤ length w) (front : take n w ≡ ids) (z : t ≡ replicate (length (take (length w - n) (drop n w))) 0) where
+  rest-long : length (take (length w - n) (drop n w)) ≡ length w - length ids
+  rest-long =
+      let e : length ids ≡ n = ap length (sym front) ∙ length-take-le n w fits in
+      rw (e, take-all (length w - n) (drop n w) (rw length-drop (omega arith))) (length-drop n w)
+
+  none-left : drop (length w - n) (drop n w) ≡ []
+  none-left = drop-of-length-le (drop n w) {i = length w - n} (rw length-drop (omega arith))
+
+  pub zeros-behind : take n w ++ (t ++ drop (length w - n) (drop n w)) ≡ padded 0 (length w) ids
+  unfolding padded
+  zeros-behind = rw (none-left, append-nil t, front, z, rest-long)
+
+module _ (n size : ℕ) (offsets nb : List ℕ) (room : ℕ) (ok : Accepts n size offsets nb room) (groups : ℕ) (w : List ℕ) (e : (take n w, groups) ≡ grown (listed offsets nb) noAnchor n size) where
+  ids-are : take n w ≡ grown (listed offsets nb) noAnchor n size .0
+  ids-are = ap (λ p. p .0) e
+
+  count-is : groups ≡ grown (listed offsets nb) noAnchor n size .1
+  count-is = ap (λ p. p .1) e
+
+  ids-upto : (u : ℕ) → getD (take n w) u 0 ≤ groups
+  ids-upto u = rw (ids-are, count-is) (grown-all (listed offsets nb) n size (ok .least) .upto u)
+
+  pub grows-after : length w ≡ room → groups ≤ n → Grows n groups offsets nb w
+  grows-after l f = record {
+    joins = record {
+      lists = ok .lists;
+      room = omega (arith, ok .room);
+      few = f;
+      small = (omega (arith, ok .few), omega (arith, ok .entries));
+      grouped = λ v h. rw (← getD-take n w v 0 h) (ids-upto v);
+    };
+    upto = ids-upto;
+    room = omega (arith, ok .room, ok .few);
+  }
+
+  module _ (floor count : ℕ) (w' : List ℕ) (fis : floor ≡ floorOf size) (s : Settled offsets nb n groups floor w w' count) where
+    joined-is : renumbered (joinedIds offsets nb floor groups (take n w)) ≡ graphGrouping (listed offsets nb) noAnchor n size
+    unfolding graphGrouping joinings
+    joined-is = rw (fis, ids-are, count-is)
+
+    pub build-ids : take n w' ≡ graphGrouping (listed offsets nb) noAnchor n size .ids
+    build-ids = s .ids ∙ ap (λ g. g .ids) joined-is
+
+    pub build-count : count ≡ graphGrouping (listed offsets nb) noAnchor n size .count
+    build-count = s .number ∙ ap (λ g. g .count) joined-is
+
+-- the front of one list copied over another
+pub copy-front : (n : ℕ) (work ids l : List ℕ) → n ≤ length work → n ≤ length ids → l ≡ copied (take (n - 0) (drop 0 work)) ids → take n l ≡ take n work
+unfolding copied
+copy-front n work ids l a b e =
+    let z : n - 0 ≡ n = omega arith in
+    let k : length (take n work) ≡ n = length-take-le n work a in
+    let e' : l ≡ take (length ids) (take n work) ++ drop (length (take n work)) ids = rw z at e in
+    let whole : take (length ids) (take n work) ≡ take n work = take-all (length ids) (take n work) (rw k b) in
+    ap (take n) e' ∙ ap (λ f. take n (f ++ drop (length (take n work)) ids)) whole ∙ take-at (take n work) (drop (length (take n work)) ids) n k
+
+pub padded-front : (n m : ℕ) (ids l : List ℕ) → length ids ≡ n → l ≡ padded 0 m ids → take n l ≡ ids
+unfolding padded
+padded-front n m ids l e p = ap (take n) p ∙ take-at ids (replicate (m - length ids) 0) n e

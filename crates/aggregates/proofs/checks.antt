@@ -1,0 +1,3 @@
+-- The laws of the checks that several proofs cite.
+mod Scan
+pub mod Order

@@ -1,0 +1,7 @@
+-- The laws of growth that several proofs cite.
+mod Free
+mod Growing
+mod Pushing
+mod Queue
+mod Seeding
+pub mod Between

@@ -1,0 +1,17 @@
+-- The laws that several proofs of joining cite.
+mod Laws
+mod Counting
+mod Together
+mod Names
+mod Chains
+mod Moving
+mod Clearing
+mod View
+mod Linking
+mod Edges
+mod Moved
+mod Turns
+mod Whole
+mod Rounds
+mod Begun
+pub mod Fewer

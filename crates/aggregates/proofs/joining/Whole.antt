@@ -1,0 +1,165 @@
+-- A group's turn over one list: what `join_one` asks of its callees, and that they make the turn of the definitions.
+use mathlib.Core.Path.{_≡_, refl, ap, sym, _∙_}
+use mathlib.Core.List.{List, [], _∷_, _++_}
+use Prim.Native.Nat.{ℕ, suc, _+_, _-_, _*_, _^_, _≤_, _<_}
+use native.Mathlib.Omega.{arith}
+use lib.ListN.{length, getD, take, drop, length-drop}
+use lib.Seq.{slice, drop-at, getD-drop, getD-take, take-take, take-append-le, length-take-le}
+use Rattle.definitions.specs.Groups.{Groups, Joining, edgesTo, chosen, listed, noAnchor, takerOf, joined, replay, relabelled}
+use Rattle.aggregates.specs.JoinChoice.{at, namedBy, Named, Zeros}
+use Rattle.aggregates.specs.JoinState.{All, chainOf, moved, membersOf, stateOf, turnOf, Rep, Gathers, Moves}
+use Rattle.aggregates.specs.Stops.{Other, all-imp}
+use Rattle.aggregates.proofs.joining.Laws.{getD-all}
+use Rattle.aggregates.proofs.joining.View.{counts-are, heads-are}
+use Rattle.aggregates.proofs.joining.Edges.{front-kept}
+use Rattle.aggregates.proofs.joining.Moved.{moved-state, moved-rep}
+use Rattle.aggregates.proofs.joining.Turns.{turn-stays, turn-joins, listed-all, low-members, edges-within, none-empty, none-floor, names, names-few, names-ok, named-cong, choice-same, taker-is, good, both-few, state-still, rep-still}
+
+pub chain-is : (n : ℕ) (w : List ℕ) (g : ℕ) → chainOf n w g ≡ membersOf n (drop n w) g
+unfolding membersOf
+chain-is n w g = rw (counts-are n w g, heads-are n w g) refl
+
+-- the groups that one list stands for
+abbrev pub stateIn : ℕ → ℕ → List ℕ → Groups
+stateIn n groups w = stateOf n groups (take n w) (drop n w)
+
+-- the list w' and the answer r are what the turn of g makes of the list w
+abbrev pub Turned : ℕ → ℕ → List ℕ → List ℕ → ℕ → ℕ → List ℕ → List ℕ → ℕ → Type 0
+Turned n groups offsets nb floor g w w' r =
+    (r ≡ length (turnOf (listed offsets nb) floor (stateIn n groups w) g)) × ((stateIn n groups w' ≡ replay (turnOf (listed offsets nb) floor (stateIn n groups w) g) (stateIn n groups w)) × Rep n groups offsets nb (take n w') (drop n w'))
+
+module _ (n groups : ℕ) (offsets nb w : List ℕ) (rep : Rep n groups offsets nb (take n w) (drop n w)) where
+  pub room : 5 * n + length nb + 3 ≤ length w
+  room = omega (arith, rep .room, length-drop n w)
+
+  module _ (floor g : ℕ) (hg : g ≤ groups) where
+    idle : (w' : List ℕ) → takerOf (listed offsets nb) noAnchor floor (stateIn n groups w) g ≡ 0 → stateIn n groups w' ≡ stateIn n groups w → Rep n groups offsets nb (take n w') (drop n w') → Turned n groups offsets nb floor g w w' 0
+    unfolding replay
+    idle w' e s r = rw (turn-stays (listed offsets nb) floor (stateIn n groups w) g e) (refl, (s, r))
+
+    pub turn-empty : at (3 * n + 1) w g ≡ 0 → Turned n groups offsets nb floor g w w 0
+    turn-empty z = idle w (none-empty n groups offsets nb (take n w) (drop n w) rep floor g hg (sym (counts-are n w g) ∙ z)) refl rep
+
+    pub turn-large : (at (3 * n + 1) w g ≡ 0 → ⊥) → floor ≤ at (3 * n + 1) w g → Turned n groups offsets nb floor g w w 0
+    turn-large z h = idle w (none-floor n groups offsets nb (take n w) (drop n w) rep floor g hg (λ e. z (counts-are n w g ∙ e)) (omega (arith, counts-are n w g))) refl rep
+
+    group-low : (v : ℕ) → v < n → getD w v 0 ≤ groups
+    group-low v h = rw (getD-take n w v 0 h) at (rep .grouped v h)
+
+    pub asks-gather : Gathers n offsets w g
+    asks-gather = record {
+      own = omega (arith, rep .few);
+      sizes = λ v h. omega (arith, group-low v h, rep .few);
+      nodes = rw (chain-is n w g) (low-members n groups offsets nb (take n w) (drop n w) rep g hg);
+      room = rw (chain-is n w g) (omega (arith, room, edges-within n groups offsets nb (take n w) (drop n w) rep g hg));
+    }
+
+    abbrev named : List ℕ
+    named = names n groups offsets nb (take n w) (drop n w) rep floor g hg
+
+    -- the names by the whole list
+    named-are : namedBy (listed offsets nb) g w (at (3 * n + 1) w) (chainOf n w g) ≡ named
+    named-are = rw (chain-is n w g) (named-cong (listed offsets nb) g w (take n w) (at (3 * n + 1) w) (at (2 * n + 1) (drop n w)) (membersOf n (drop n w) g)
+        (all-imp (λ v. v < n) (λ v. All (λ x. (getD w x 0 ≡ getD (take n w) x 0) × (at (3 * n + 1) w (getD (take n w) x 0) ≡ at (2 * n + 1) (drop n w) (getD (take n w) x 0))) (listed offsets nb v))
+        (λ v h. listed-all n groups offsets nb (take n w) (drop n w) rep (λ x. (getD w x 0 ≡ getD (take n w) x 0) × (at (3 * n + 1) w (getD (take n w) x 0) ≡ at (2 * n + 1) (drop n w) (getD (take n w) x 0)))
+        (λ x l. (sym (getD-take n w x 0 l), counts-are n w (getD (take n w) x 0))) v h)
+        (membersOf n (drop n w) g) (low-members n groups offsets nb (take n w) (drop n w) rep g hg)))
+
+    -- after `gather`
+    module _ (w₁ : List ℕ) (end : ℕ) (long : length w₁ ≡ length w)
+        (count' : end ≡ 5 * n + 3 + length (namedBy (listed offsets nb) g w (at (3 * n + 1) w) (chainOf n w g)))
+        (list' : take end w₁ ≡ take (5 * n + 3) w ++ namedBy (listed offsets nb) g w (at (3 * n + 1) w) (chainOf n w g)) (fits : end ≤ length w) where
+      count : end ≡ 5 * n + 3 + length named
+      count = rw named-are at count'
+
+      list : take end w₁ ≡ take (5 * n + 3) w ++ named
+      list = rw named-are at list'
+
+      front : (k : ℕ) → k < 5 * n + 3 → getD w₁ k 0 ≡ getD w k 0
+      front k h = front-kept w₁ w named end (5 * n + 3) k list (omega (arith, room)) (omega (arith, count)) h
+
+      ids-same : take n w₁ ≡ take n w
+      ids-same =
+          sym (take-take n end w₁ (omega (arith, count))) ∙ ap (take n) list ∙ take-append-le n (take (5 * n + 3) w) named (rw (length-take-le (5 * n + 3) w (omega (arith, room))) (omega arith)) ∙ take-take n (5 * n + 3) w (omega arith)
+
+      long' : length (drop n w₁) ≡ length (drop n w)
+      long' = omega (arith, length-drop n w₁, length-drop n w)
+
+      front' : (k : ℕ) → k < 4 * n + 3 → getD (drop n w₁) k 0 ≡ getD (drop n w) k 0
+      front' k h = getD-drop n w₁ k 0 ∙ front (n + k) (omega arith) ∙ sym (getD-drop n w k 0)
+
+      rep₁ : Rep n groups offsets nb (take n w) (drop n w₁)
+      rep₁ = rep-still n groups offsets nb (take n w) (drop n w) (drop n w₁) rep long' front'
+
+      state₁ : stateIn n groups w₁ ≡ stateIn n groups w
+      state₁ = rw ids-same (state-still n groups offsets nb (take n w) (drop n w) (drop n w₁) rep long' front')
+
+      pub names-are : slice (5 * n + 3) end w₁ ≡ named
+      names-are = ap (drop (5 * n + 3)) list ∙ drop-at (take (5 * n + 3) w) named (5 * n + 3) (length-take-le (5 * n + 3) w (omega (arith, room)))
+
+      pub named-still : Named (4 * n + 2) (5 * n + 3) end w₁
+      named-still k lo hi =
+          let j = k - (5 * n + 3) in
+          let e : 5 * n + 3 + j ≡ k = omega arith in
+          let is : getD w₁ k 0 ≡ getD named j 0 = ap (λ x. getD w₁ x 0) (sym e) ∙ (sym (getD-take end w₁ (5 * n + 3 + j) 0 (omega arith)) ∙ sym (getD-drop (5 * n + 3) (take end w₁) j 0) ∙ ap (λ l. getD l j 0) names-are) in
+          omega (arith, is, getD-all (λ o. (o ≤ groups) × Other g (at (2 * n + 1) (drop n w)) o) named (names-ok n groups offsets nb (take n w) (drop n w) rep floor g hg) j (omega (arith, count)) .0, rep .few)
+
+      pub zeros-still : Zeros (4 * n + 2) (5 * n + 3) w₁
+      zeros-still k lo hi =
+          let j = k - n in
+          let e : n + j ≡ k = omega arith in
+          ap (λ x. getD w₁ x 0) (sym e) ∙ sym (getD-drop n w₁ j 0) ∙ rep₁ .quiet j (omega arith) (omega arith)
+
+      pub asks-choose : (5 * n + 3 ≤ end) × ((end ≤ length w₁) × ((end < 5 * n + 3 + 2 ^ 32) × ((3 * n + 1 + (5 * n + 3 - (4 * n + 2)) ≤ 4 * n + 2) × (4 * n + 2 < 5 * n + 3))))
+      asks-choose = omega (arith, count, fits, long, rep .small, names-few n groups offsets nb (take n w) (drop n w) rep floor g hg)
+
+      same-sizes : (o : ℕ) → o ≤ groups → at (3 * n + 1) w₁ o ≡ at (2 * n + 1) (drop n w) o
+      same-sizes o h = front (3 * n + 1 + o) (omega (arith, rep .few)) ∙ counts-are n w o
+
+      -- after `choose_group`
+      module _ (some : 0 < at (3 * n + 1) w g) (low : at (3 * n + 1) w g < floor) (b : ℕ)
+          (choice : b ≡ chosen (edgesTo (slice (5 * n + 3) end w₁)) (at (3 * n + 1) w₁) 0 (slice (5 * n + 3) end w₁)) where
+        some' : 0 < at (2 * n + 1) (drop n w) g
+        some' = rw (counts-are n w g) at some
+
+        low' : at (2 * n + 1) (drop n w) g < floor
+        low' = rw (counts-are n w g) at low
+
+        b-is : b ≡ chosen (edgesTo named) (at (2 * n + 1) (drop n w)) 0 named
+        b-is = (rw names-are at choice) ∙ choice-same n groups offsets nb (take n w) (drop n w) rep floor g hg (at (3 * n + 1) w₁) same-sizes
+
+        taker-b : takerOf (listed offsets nb) noAnchor floor (stateIn n groups w) g ≡ b
+        taker-b = taker-is n groups offsets nb (take n w) (drop n w) rep floor g hg some' low' ∙ sym b-is
+
+        -- none is named
+        pub turn-none : b ≡ 0 → Turned n groups offsets nb floor g w w₁ 0
+        turn-none z = idle w₁ (taker-b ∙ z) state₁ (rw ids-same rep₁)
+
+        module _ (found : b ≡ 0 → ⊥) where
+          fine : (b ≤ groups) × Other g (at (2 * n + 1) (drop n w)) b
+          fine = good n groups offsets nb (take n w) (drop n w) rep floor g hg some' low' b b-is found
+
+          pub asks-move : Moves n w₁ g b
+          asks-move = record {
+            own = omega (arith, rep .few, fine .0);
+            room = omega (arith, long, room);
+            some = rw (same-sizes g hg) some';
+            fits = rw (same-sizes g hg, same-sizes b (fine .0)) (both-few n groups offsets nb (take n w) (drop n w) rep floor g hg some' low' b b-is found);
+            small = rep .small .0;
+            nodes = rw (chain-is n w₁ g) (low-members n groups offsets nb (take n w) (drop n w₁) rep₁ g hg);
+          }
+
+          some₁ : 0 < at (2 * n + 1) (drop n w₁) g
+          some₁ = rw (front' (2 * n + 1 + g) (omega (arith, rep .few))) some'
+
+          -- after `move_group`
+          pub turn-moved : (w₂ : List ℕ) → take n w₂ ≡ relabelled b (chainOf n w₁ g) (take n w₁) → drop n w₂ ≡ moved n g b (drop n w₁) → Turned n groups offsets nb floor g w w₂ 1
+          unfolding replay
+          turn-moved w₂ ids work =
+              let j : Joining = record { moved = g; taker = b } in
+              let e : b ≡ suc (b - 1) = omega (arith, found) in
+              let is : j ≡ record { moved = g; taker = suc (b - 1) } = ap (λ x. record { moved = g; taker = x }) e in
+              let t : turnOf (listed offsets nb) floor (stateIn n groups w) g ≡ j ∷ [] = turn-joins (listed offsets nb) floor (stateIn n groups w) g (b - 1) j is (taker-b ∙ e) in
+              let ids' : take n w₂ ≡ relabelled b (membersOf n (drop n w₁) g) (take n w) = rw (chain-is n w₁ g, ids-same) at ids in
+              let s : stateIn n groups w₂ ≡ joined j (stateIn n groups w) = rw (ids', work) (moved-state n groups offsets nb (take n w) (drop n w₁) rep₁ g b hg (fine .0) (fine .1 .1) some₁ j refl ∙ ap (joined j) (state-still n groups offsets nb (take n w) (drop n w) (drop n w₁) rep long' front')) in
+              rw t (refl, (s, rw (ids', work) (moved-rep n groups offsets nb (take n w) (drop n w₁) rep₁ g b hg (fine .0) (fine .1 .1) some₁)))

@@ -1,0 +1,104 @@
+-- `join_groups`: cleared and linked, the list stands for the grown groups, and the rounds join them.
+use mathlib.Core.Path.{_≡_, _∙_}
+use Prim.Native.Nat.{ℕ, _+_, _*_, _≤_, _<_}
+use native.Mathlib.Omega.{arith}
+use borrow.Author.Needs.{needs}
+use lib.ListN.{length, take}
+use Rattle.aggregates.proofs.joining.Clearing.{cleared, cleared-front, cleared-length, cleared-zeros}
+use Rattle.aggregates.proofs.joining.Begun.{low₁, ids₂, begun-rep, begun-state}
+use Rattle.aggregates.proofs.joining.join_groups.Statement.{statement}
+use Rattle.aggregates.proofs.joining.join_groups.Tie as tie
+
+mul-from : tie.Need-mul-from
+mul-from c = omega (arith, c .before .before .before .pre .room)
+
+add-from : tie.Need-add-from
+add-from c = omega (arith, c .before .before .before .pre .room)
+
+mul-to : tie.Need-mul-to
+mul-to c = omega (arith, c .before .before .before .pre .room)
+
+add-to : tie.Need-add-to
+add-to c = omega (arith, c .before .before .before .pre .room)
+
+mul-zero-ints : tie.Need-mul-zero-ints
+mul-zero-ints c = omega (arith, c .before .before .before .pre .room)
+
+sub-zero-ints : tie.Need-sub-zero-ints
+sub-zero-ints c = omega arith
+
+part-zero-ints-start : tie.Need-part-zero-ints-start
+part-zero-ints-start c = omega arith
+
+part-zero-ints-end : tie.Need-part-zero-ints-end
+part-zero-ints-end c = omega (arith, c .before .before .before .pre .room)
+
+link-requires : tie.Need-link-requires
+link-requires c κs =
+    let a = c .before .before .before .before .before .before .before .before .args in
+    let from = 3 * a .nodes + 1 in
+    let to = 5 * a .nodes + 3 in
+    let fits : to ≤ length (a .w .now) = omega (arith, c .before .before .before .before .before .before .before .before .pre .room) in
+    let t = c .before .before .before .zero-ints .last .0 in
+    let z = c .before .before .before .zero-ints .ensures in
+    let long = cleared-length from to (a .w .now) t (omega arith) fits z in (
+      omega (arith, c .before .before .before .before .before .before .before .before .pre .small, long),
+      (low₁ (a .nodes) (a .groups) (a .offsets .now) (a .neighbours .now) (a .w .now) (c .before .before .before .before .before .before .before .before .pre) (cleared from to (a .w .now) t (omega arith) fits z) long (cleared-front from to (a .w .now) t (omega arith) fits z), cleared-zeros from to (a .w .now) t (omega arith) fits z),
+    )
+
+join-rounds-requires : tie.Need-join-rounds-requires
+join-rounds-requires c κs =
+    let a = c .before .before .before .before .before .before .before .before .before .before .before .before .args in
+    let from = 3 * a .nodes + 1 in
+    let to = 5 * a .nodes + 3 in
+    let fits : to ≤ length (a .w .now) = omega (arith, c .before .before .before .before .before .before .before .before .before .before .before .before .pre .room) in
+    let t = c .before .before .before .before .before .before .before .zero-ints .last .0 in
+    let z = c .before .before .before .before .before .before .before .zero-ints .ensures in
+    let w₁ = cleared from to (a .w .now) t (omega arith) fits z in
+    let long = cleared-length from to (a .w .now) t (omega arith) fits z in
+    let front = cleared-front from to (a .w .now) t (omega arith) fits z in
+    let l = c .before .before .before .link in (
+      begun-rep (a .nodes) (a .groups) (a .offsets .now) (a .neighbours .now) (a .w .now) (c .before .before .before .before .before .before .before .before .before .before .before .before .pre) w₁ long front (l .last .0) (l .kept .0) (l .ensures .0) (l .ensures .1 .0) (l .ensures .1 .1),
+      begun-state (a .nodes) (a .groups) (a .offsets .now) (a .neighbours .now) (a .w .now) (c .before .before .before .before .before .before .before .before .before .before .before .before .pre) w₁ long front (l .last .0) (l .kept .0) (l .ensures .0) (l .ensures .1 .0) (l .ensures .1 .1),
+    )
+
+same-length : tie.Need-same-length
+same-length c =
+    let a = c .before .before .before .before .before .before .before .before .before .before .before .before .before .before .before .args in
+    c .before .before .join-rounds .kept .1 .1 .0 ∙ c .before .before .before .before .before .before .link .kept .0 ∙ cleared-length (3 * a .nodes + 1) (5 * a .nodes + 3) (a .w .now) (c .before .before .before .before .before .before .before .before .before .before .zero-ints .last .0) (omega arith) (omega (arith, c .before .before .before .before .before .before .before .before .before .before .before .before .before .before .before .pre .room)) (c .before .before .before .before .before .before .before .before .before .before .zero-ints .ensures)
+
+returns : tie.Need-returns
+returns c =
+    let a = c .before .before .before .before .before .before .before .before .before .before .before .before .before .before .before .args in
+    let from = 3 * a .nodes + 1 in
+    let to = 5 * a .nodes + 3 in
+    let fits : to ≤ length (a .w .now) = omega (arith, c .before .before .before .before .before .before .before .before .before .before .before .before .before .before .before .pre .room) in
+    let t = c .before .before .before .before .before .before .before .before .before .before .zero-ints .last .0 in
+    let z = c .before .before .before .before .before .before .before .before .before .before .zero-ints .ensures in
+    let w₁ = cleared from to (a .w .now) t (omega arith) fits z in
+    let long = cleared-length from to (a .w .now) t (omega arith) fits z in
+    let front = cleared-front from to (a .w .now) t (omega arith) fits z in
+    let l = c .before .before .before .before .before .before .link in
+    let e : take (a .nodes) (l .last .0) ≡ take (a .nodes) (a .w .now) = ids₂ (a .nodes) (a .groups) (a .offsets .now) (a .neighbours .now) (a .w .now) (c .before .before .before .before .before .before .before .before .before .before .before .before .before .before .before .pre) w₁ long front (l .last .0) (l .kept .0) (l .ensures .0) (l .ensures .1 .0) (l .ensures .1 .1) in
+    rw e at (c .before .before .join-rounds .ensures)
+
+zero-ints-requires : tie.Need-zero-ints-requires
+zero-ints-requires c κs = search needs
+
+pub join-groups-spec : {M : Type 1} → statement M
+join-groups-spec =
+    tie.close
+    (tie.spec
+    mul-from
+    add-from
+    mul-to
+    add-to
+    mul-zero-ints
+    sub-zero-ints
+    part-zero-ints-start
+    part-zero-ints-end
+    zero-ints-requires
+    link-requires
+    join-rounds-requires
+    same-length
+    returns)

@@ -1,0 +1,131 @@
+-- `join_one`: `gather`, `choose_group` and `move_group` make the turn of the definitions.
+use mathlib.Core.Path.{_≡_, _∙_}
+use Prim.Native.Nat.{_+_, _*_, _<_}
+use native.Mathlib.Omega.{arith}
+use borrow.Author.Needs.{needs}
+use Rattle.aggregates.specs.JoinChoice.{at}
+use Rattle.aggregates.proofs.joining.Whole.{room, turn-empty, turn-large, asks-gather, named-still, zeros-still, asks-choose, turn-none, asks-move, turn-moved}
+use Rattle.aggregates.proofs.joining.join_one.Statement.{statement}
+use Rattle.aggregates.proofs.joining.join_one.Tie as tie
+
+mul-counts : tie.Need-mul-counts
+mul-counts c = let a = c .before .before .before .args in omega (arith, room (a .nodes) (a .groups) (a .offsets .now) (a .neighbours .now) (a .w .now) (c .before .before .before .pre .0))
+
+add-counts : tie.Need-add-counts
+add-counts c = let a = c .before .before .before .args in omega (arith, room (a .nodes) (a .groups) (a .offsets .now) (a .neighbours .now) (a .w .now) (c .before .before .before .pre .0))
+
+add-size : tie.Need-add-size
+add-size c = let a = c .before .before .before .before .args in omega (arith, room (a .nodes) (a .groups) (a .offsets .now) (a .neighbours .now) (a .w .now) (c .before .before .before .before .pre .0), c .before .before .before .before .pre .0 .few, c .before .before .before .before .pre .1, c .wide .ensures)
+
+mul-size : tie.Need-mul-size
+mul-size c = let a = c .before .before .before .before .args in omega (arith, room (a .nodes) (a .groups) (a .offsets .now) (a .neighbours .now) (a .w .now) (c .before .before .before .before .pre .0), c .before .before .before .before .pre .0 .few, c .before .before .before .before .pre .1, c .wide .ensures)
+
+slice-read-size : tie.Need-slice-read-size
+slice-read-size c = let a = c .before .before .before .before .before .args in omega (arith, room (a .nodes) (a .groups) (a .offsets .now) (a .neighbours .now) (a .w .now) (c .before .before .before .before .before .pre .0), c .before .before .before .before .before .pre .0 .few, c .before .before .before .before .before .pre .1, c .before .wide .ensures)
+
+returns : tie.Need-returns
+returns c =
+    let a = c .before .before .before .before .before .before .args in
+    let e : c .before .before .wide .result ≡ a .g = c .before .before .wide .ensures in
+    turn-empty (a .nodes) (a .groups) (a .offsets .now) (a .neighbours .now) (a .w .now) (c .before .before .before .before .before .before .pre .0) (a .floor) (a .g) (c .before .before .before .before .before .before .pre .1) (rw e at (c .if1 .taken))
+
+returns-2 : tie.Need-returns-2
+returns-2 c =
+    let a = c .before .before .before .before .before .before .before .args in
+    let e : c .before .before .before .wide .result ≡ a .g = c .before .before .before .wide .ensures in
+    turn-large (a .nodes) (a .groups) (a .offsets .now) (a .neighbours .now) (a .w .now) (c .before .before .before .before .before .before .before .pre .0) (a .floor) (a .g) (c .before .before .before .before .before .before .before .pre .1) (rw e at (c .before .if1 .left)) (omega (arith, rw e at (c .if2 .taken)))
+
+gather-requires : tie.Need-gather-requires
+gather-requires c κs =
+    let a = c .before .before .before .before .before .before .before .before .args in
+    (c .before .before .before .before .before .before .before .before .pre .0 .lists, asks-gather (a .nodes) (a .groups) (a .offsets .now) (a .neighbours .now) (a .w .now) (c .before .before .before .before .before .before .before .before .pre .0) (a .floor) (a .g) (c .before .before .before .before .before .before .before .before .pre .1))
+
+mul-choose-group : tie.Need-mul-choose-group
+mul-choose-group c = let a = c .before .before .before .before .before .before .before .before .before .before .before .before .args in omega (arith, room (a .nodes) (a .groups) (a .offsets .now) (a .neighbours .now) (a .w .now) (c .before .before .before .before .before .before .before .before .before .before .before .before .pre .0))
+
+add-choose-group : tie.Need-add-choose-group
+add-choose-group c = let a = c .before .before .before .before .before .before .before .before .before .before .before .before .args in omega (arith, room (a .nodes) (a .groups) (a .offsets .now) (a .neighbours .now) (a .w .now) (c .before .before .before .before .before .before .before .before .before .before .before .before .pre .0))
+
+mul-choose-group-2 : tie.Need-mul-choose-group-2
+mul-choose-group-2 c = let a = c .before .before .before .before .before .before .before .before .before .before .before .before .args in omega (arith, room (a .nodes) (a .groups) (a .offsets .now) (a .neighbours .now) (a .w .now) (c .before .before .before .before .before .before .before .before .before .before .before .before .pre .0))
+
+add-choose-group-2 : tie.Need-add-choose-group-2
+add-choose-group-2 c = let a = c .before .before .before .before .before .before .before .before .before .before .before .before .args in omega (arith, room (a .nodes) (a .groups) (a .offsets .now) (a .neighbours .now) (a .w .now) (c .before .before .before .before .before .before .before .before .before .before .before .before .pre .0))
+
+choose-group-requires : tie.Need-choose-group-requires
+choose-group-requires c κs =
+    let a = c .before .before .before .before .before .before .before .before .before .before .before .before .args in
+    let f = c .before .before .before .gather in (
+      asks-choose (a .nodes) (a .groups) (a .offsets .now) (a .neighbours .now) (a .w .now) (c .before .before .before .before .before .before .before .before .before .before .before .before .pre .0) (a .floor) (a .g) (c .before .before .before .before .before .before .before .before .before .before .before .before .pre .1) (f .last .1 .1 .0) (f .result) (f .kept .1 .1 .0) (f .ensures .0) (f .ensures .1 .0) (f .ensures .1 .1),
+      (
+        named-still (a .nodes) (a .groups) (a .offsets .now) (a .neighbours .now) (a .w .now) (c .before .before .before .before .before .before .before .before .before .before .before .before .pre .0) (a .floor) (a .g) (c .before .before .before .before .before .before .before .before .before .before .before .before .pre .1) (f .last .1 .1 .0) (f .result) (f .kept .1 .1 .0) (f .ensures .0) (f .ensures .1 .0) (f .ensures .1 .1),
+        zeros-still (a .nodes) (a .groups) (a .offsets .now) (a .neighbours .now) (a .w .now) (c .before .before .before .before .before .before .before .before .before .before .before .before .pre .0) (a .floor) (a .g) (c .before .before .before .before .before .before .before .before .before .before .before .before .pre .1) (f .last .1 .1 .0) (f .result) (f .kept .1 .1 .0) (f .ensures .0) (f .ensures .1 .0) (f .ensures .1 .1),
+      ),
+    )
+
+same-length : tie.Need-same-length
+same-length c = c .before .before .before .choose-group .kept .0 ∙ c .before .before .before .before .before .before .before .gather .kept .1 .1 .0
+
+returns-3 : tie.Need-returns-3
+returns-3 c =
+    let a = c .before .before .before .before .before .before .before .before .before .before .before .before .before .before .before .before .args in
+    let e : c .before .before .before .before .before .before .before .before .before .before .before .before .wide .result ≡ a .g = c .before .before .before .before .before .before .before .before .before .before .before .before .wide .ensures in
+    let f = c .before .before .before .before .before .before .before .gather in
+    let h = c .before .before .before .choose-group in
+    let some : 0 < at (3 * a .nodes + 1) (a .w .now) (a .g) = omega (arith, rw e at (c .before .before .before .before .before .before .before .before .before .before .if1 .left)) in
+    let low : at (3 * a .nodes + 1) (a .w .now) (a .g) < a .floor = omega (arith, rw e at (c .before .before .before .before .before .before .before .before .before .if2 .left)) in
+    let back : h .last .0 ≡ f .last .1 .1 .0 = h .ensures .1 in
+    rw back (turn-none (a .nodes) (a .groups) (a .offsets .now) (a .neighbours .now) (a .w .now) (c .before .before .before .before .before .before .before .before .before .before .before .before .before .before .before .before .pre .0) (a .floor) (a .g) (c .before .before .before .before .before .before .before .before .before .before .before .before .before .before .before .before .pre .1) (f .last .1 .1 .0) (f .result) (f .kept .1 .1 .0) (f .ensures .0) (f .ensures .1 .0) (f .ensures .1 .1) some low (h .result) (h .ensures .0) (c .if3 .taken))
+
+move-group-requires : tie.Need-move-group-requires
+move-group-requires c κs =
+    let a = c .before .before .before .before .before .before .before .before .before .before .before .before .before .before .before .before .before .args in
+    let e : c .before .before .before .before .before .before .before .before .before .before .before .before .before .wide .result ≡ a .g = c .before .before .before .before .before .before .before .before .before .before .before .before .before .wide .ensures in
+    let f = c .before .before .before .before .before .before .before .before .gather in
+    let h = c .before .before .before .before .choose-group in
+    let some : 0 < at (3 * a .nodes + 1) (a .w .now) (a .g) = omega (arith, rw e at (c .before .before .before .before .before .before .before .before .before .before .before .if1 .left)) in
+    let low : at (3 * a .nodes + 1) (a .w .now) (a .g) < a .floor = omega (arith, rw e at (c .before .before .before .before .before .before .before .before .before .before .if2 .left)) in
+    let back : h .last .0 ≡ f .last .1 .1 .0 = h .ensures .1 in
+    rw back (asks-move (a .nodes) (a .groups) (a .offsets .now) (a .neighbours .now) (a .w .now) (c .before .before .before .before .before .before .before .before .before .before .before .before .before .before .before .before .before .pre .0) (a .floor) (a .g) (c .before .before .before .before .before .before .before .before .before .before .before .before .before .before .before .before .before .pre .1) (f .last .1 .1 .0) (f .result) (f .kept .1 .1 .0) (f .ensures .0) (f .ensures .1 .0) (f .ensures .1 .1) some low (h .result) (h .ensures .0) (c .before .if3 .left))
+
+same-length-2 : tie.Need-same-length-2
+same-length-2 c = c .before .before .move-group .kept .0 ∙ c .before .before .before .before .before .before .before .choose-group .kept .0 ∙ c .before .before .before .before .before .before .before .before .before .before .before .gather .kept .1 .1 .0
+
+returns-4 : tie.Need-returns-4
+returns-4 c =
+    let a = c .before .before .before .before .before .before .before .before .before .before .before .before .before .before .before .before .before .before .before .before .args in
+    let e : c .before .before .before .before .before .before .before .before .before .before .before .before .before .before .before .before .wide .result ≡ a .g = c .before .before .before .before .before .before .before .before .before .before .before .before .before .before .before .before .wide .ensures in
+    let f = c .before .before .before .before .before .before .before .before .before .before .before .gather in
+    let h = c .before .before .before .before .before .before .before .choose-group in
+    let m = c .before .before .move-group in
+    let some : 0 < at (3 * a .nodes + 1) (a .w .now) (a .g) = omega (arith, rw e at (c .before .before .before .before .before .before .before .before .before .before .before .before .before .before .if1 .left)) in
+    let low : at (3 * a .nodes + 1) (a .w .now) (a .g) < a .floor = omega (arith, rw e at (c .before .before .before .before .before .before .before .before .before .before .before .before .before .if2 .left)) in
+    let back : h .last .0 ≡ f .last .1 .1 .0 = h .ensures .1 in
+    turn-moved (a .nodes) (a .groups) (a .offsets .now) (a .neighbours .now) (a .w .now) (c .before .before .before .before .before .before .before .before .before .before .before .before .before .before .before .before .before .before .before .before .pre .0) (a .floor) (a .g) (c .before .before .before .before .before .before .before .before .before .before .before .before .before .before .before .before .before .before .before .before .pre .1) (f .last .1 .1 .0) (f .result) (f .kept .1 .1 .0) (f .ensures .0) (f .ensures .1 .0) (f .ensures .1 .1) some low (h .result) (h .ensures .0) (c .before .before .before .before .if3 .left) (m .last .0) (rw back at (m .ensures .0)) (rw back at (m .ensures .1))
+
+wide-requires : tie.Need-wide-requires
+wide-requires c κs = search needs
+
+pub join-one-spec : {M : Type 1} → statement M
+join-one-spec =
+    tie.close
+    (tie.spec
+    mul-counts
+    add-counts
+    wide-requires
+    add-size
+    mul-size
+    slice-read-size
+    returns
+    returns-2
+    gather-requires
+    mul-choose-group
+    add-choose-group
+    mul-choose-group-2
+    add-choose-group-2
+    choose-group-requires
+    same-length
+    returns-3
+    move-group-requires
+    same-length-2
+    returns-4)

@@ -1,0 +1,3 @@
+-- The laws of renumbering that several proofs cite.
+mod Numbering
+mod Table

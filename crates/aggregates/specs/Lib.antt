@@ -1,0 +1,10 @@
+-- What the contracts of `aggregates` cite besides the definitions.
+pub mod Lists
+pub mod Growth
+pub mod Numbered
+pub mod JoinChoice
+pub mod JoinState
+pub mod Stops
+pub mod Checked
+pub mod Settled
+pub mod Appearance

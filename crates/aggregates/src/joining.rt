@@ -1,0 +1,326 @@
+// Joining: a group below the floor goes over to a group that its nodes' lists name, in rounds, until a round joins nothing.
+// With n nodes, w[0..n] is the group of each node, from 1, and behind it lie
+//     w[n..2n]           the next member of a node's group
+//     w[2n..3n+1]        the first member of a group
+//     w[3n+1..4n+2]      how many members a group has
+//     w[4n+2..5n+3]      the edges to a group, zero but while a group looks for another
+//     w[5n+3..]          the groups that are named, one for each edge
+ghost use mathlib.Core.Path.{_≡_};
+ghost use mathlib.Core.Bool.{_||_};
+ghost use mathlib.Core.List.{List, [], _∷_, _++_};
+ghost use Prim.Native.Nat.{ℕ, suc, _+_, _-_, _*_, _^_, _<_, _≤_};
+ghost use lib.Dec.{eqb};
+ghost use lib.ListN.{length, getD, take, drop};
+ghost use lib.Seq.{slice};
+ghost use Rattle.definitions.specs.Groups.{chosen, edgesTo, listed, noAnchor, nodesOf, relabelled, replay, groupsOf};
+ghost use Rattle.aggregates.specs.Lists.{Lists};
+ghost use Rattle.aggregates.specs.JoinChoice.{at, beforeBy, better, bump, namedBy, othersBy, wipe, Named, Zeros};
+ghost use Rattle.aggregates.specs.JoinState.{All, Gathers, Joins, Moves, Reads, Rep, chainOf, hop, joinedIds, membersOf, moved, stateOf, turnOf, walk};
+
+fn wide(x: u32) -> usize
+    ensures { λ r. ⌜ r ≡ x ⌝ }
+{
+    x as usize
+}
+
+// Counts the groups that w[from..end] names: a count for each group, from w[hits] on.
+fn tally(w: &mut [u32], hits: usize, from: usize, end: usize)
+    requires { ⌜ (from ≤ end) × ((end ≤ length (now w)) × (end < from + 2 ^ 32)) ⌝ }
+    requires { ⌜ Named hits from end (now w) ⌝ }
+    requires { ⌜ Zeros hits from (now w) ⌝ }
+    ensures { λ _. ⌜ now (w .exit) ≡ bump hits (slice from end (now (w .entry))) (now (w .entry)) ⌝ }
+{
+    let mut i = from;
+    while i < end {
+        let at = hits + wide(w[i]);
+        w[at] += 1;
+        i += 1;
+    }
+}
+
+// Clears the counts that `tally` made: as many steps as there are names, not groups.
+fn untally(w: &mut [u32], hits: usize, from: usize, end: usize)
+    requires { ⌜ (from ≤ end) × (end ≤ length (now w)) ⌝ }
+    requires { ⌜ Named hits from end (now w) ⌝ }
+    ensures { λ _. ⌜ now (w .exit) ≡ wipe hits (slice from end (now (w .entry))) (now (w .entry)) ⌝ }
+{
+    let mut i = from;
+    while i < end {
+        let at = hits + wide(w[i]);
+        w[at] = 0;
+        i += 1;
+    }
+}
+
+// Does the group a come before the group b? Most edges, then fewer members, then the lower id.
+fn comes_before(va: u32, vb: u32, ca: u32, cb: u32, a: u32, b: u32) -> bool
+    ensures { λ r. ⌜ r ≡ beforeBy va vb ca cb a b ⌝ }
+{
+    if va > vb {
+        return true;
+    }
+    if va < vb {
+        return false;
+    }
+    if ca < cb {
+        return true;
+    }
+    if ca > cb {
+        return false;
+    }
+    a < b
+}
+
+// The first of the group `best`, if there is one yet, and the group a.
+fn better_of(w: &[u32], counts: usize, hits: usize, best: u32, a: u32) -> u32
+    requires { ⌜ (counts + a < length (now w)) × (hits + a < length (now w)) ⌝ }
+    requires { ⌜ (counts + best < length (now w)) × (hits + best < length (now w)) ⌝ }
+    ensures { λ r. ⌜ r ≡ better (at hits (now (w .entry))) (at counts (now (w .entry))) best a ⌝ }
+{
+    if best == 0 {
+        return a;
+    }
+    let va = w[hits + wide(a)];
+    let vb = w[hits + wide(best)];
+    let ca = w[counts + wide(a)];
+    let cb = w[counts + wide(best)];
+    if comes_before(va, vb, ca, cb, a, best) {
+        return a;
+    }
+    best
+}
+
+// The first of the groups that w[from..end] names, and 0 if there is none.
+fn pick(w: &[u32], counts: usize, hits: usize, from: usize, end: usize) -> u32
+    requires { ⌜ (from ≤ end) × ((end ≤ length (now w)) × ((counts ≤ hits) × (hits < from))) ⌝ }
+    requires { ⌜ Named hits from end (now w) ⌝ }
+    ensures { λ r. ⌜ r ≡ chosen (at hits (now (w .entry))) (at counts (now (w .entry))) 0 (slice from end (now (w .entry))) ⌝ }
+{
+    let mut best: u32 = 0;
+    let mut i = from;
+    while i < end {
+        let a = w[i];
+        best = better_of(w, counts, hits, best, a);
+        i += 1;
+    }
+    best
+}
+
+// The group that w[from..end] names most often, then with fewer members, then with the lower id; 0 if it names none.
+// The counts in w[hits..from] are zero before and after.
+fn choose_group(w: &mut [u32], counts: usize, hits: usize, from: usize, end: usize) -> u32
+    requires { ⌜ (from ≤ end) × ((end ≤ length (now w)) × ((end < from + 2 ^ 32) × ((counts + (from - hits) ≤ hits) × (hits < from)))) ⌝ }
+    requires { ⌜ Named hits from end (now w) ⌝ }
+    requires { ⌜ Zeros hits from (now w) ⌝ }
+    ensures { λ r. ⌜ r ≡ chosen (edgesTo (slice from end (now (w .entry)))) (at counts (now (w .entry))) 0 (slice from end (now (w .entry))) ⌝ }
+    ensures { λ _. ⌜ now (w .exit) ≡ now (w .entry) ⌝ }
+{
+    tally(w, hits, from, end);
+    let best = pick(&w[..], counts, hits, from, end);
+    untally(w, hits, from, end);
+    best
+}
+
+// Is the group o that a list of the group g names g itself, or empty?
+fn left_out(w: &[u32], counts: usize, g: u32, o: u32) -> bool
+    requires { ⌜ counts + o < length (now w) ⌝ }
+    ensures { λ r. ⌜ r ≡ (eqb o g || eqb (at counts (now (w .entry)) o) 0) ⌝ }
+{
+    if o == g {
+        return true;
+    }
+    w[counts + wide(o)] == 0
+}
+
+// Puts the groups that neighbours[from..to] names at w[tail..], and returns the new end.
+fn names_of(
+    neighbours: &[u32],
+    w: &mut [u32],
+    counts: usize,
+    g: u32,
+    from: usize,
+    to: usize,
+    tail: usize,
+) -> usize
+    requires { ⌜ (from ≤ to) × ((to ≤ length (now neighbours)) × (tail + (to - from) ≤ length (now w))) ⌝ }
+    requires { ⌜ Reads counts tail (now neighbours) (now w) ⌝ }
+    ensures { λ r. ⌜ r ≡ tail + length (othersBy g (now (w .entry)) (at counts (now (w .entry))) (slice from to (now (neighbours .entry)))) ⌝ }
+    ensures { λ r. ⌜ take r (now (w .exit)) ≡ take tail (now (w .entry)) ++ othersBy g (now (w .entry)) (at counts (now (w .entry))) (slice from to (now (neighbours .entry))) ⌝ }
+{
+    let mut end = tail;
+    let mut i = from;
+    while i < to {
+        let o = w[wide(neighbours[i])];
+        if left_out(&w[..], counts, g, o) {} else {
+            w[end] = o;
+            end += 1;
+        }
+        i += 1;
+    }
+    end
+}
+
+// Puts the groups that the lists of the group g name into w[5 * nodes + 3..], one for each edge, and returns the end.
+fn gather(offsets: &[u32], neighbours: &[u32], w: &mut [u32], nodes: usize, g: u32) -> usize
+    requires { ⌜ Lists nodes (now offsets) (now neighbours) ⌝ }
+    requires { ⌜ Gathers nodes (now offsets) (now w) g ⌝ }
+    ensures { λ r. ⌜ r ≡ 5 * nodes + 3 + length (namedBy (listed (now (offsets .entry)) (now (neighbours .entry))) g (now (w .entry)) (at (3 * nodes + 1) (now (w .entry))) (chainOf nodes (now (w .entry)) g)) ⌝ }
+    ensures { λ r. ⌜ take r (now (w .exit)) ≡ take (5 * nodes + 3) (now (w .entry)) ++ namedBy (listed (now (offsets .entry)) (now (neighbours .entry))) g (now (w .entry)) (at (3 * nodes + 1) (now (w .entry))) (chainOf nodes (now (w .entry)) g) ⌝ }
+    ensures { λ r. ⌜ r ≤ length (now (w .entry)) ⌝ }
+{
+    let heads = 2 * nodes;
+    let counts = 3 * nodes + 1;
+    let mut left = w[counts + wide(g)];
+    let mut cur = w[heads + wide(g)];
+    let mut end = 5 * nodes + 3;
+    while 0 < left {
+        let v = wide(cur);
+        let first = wide(offsets[v]);
+        let last = wide(offsets[v + 1]);
+        end = names_of(neighbours, w, counts, g, first, last, end);
+        cur = w[nodes + v];
+        left -= 1;
+    }
+    end
+}
+
+// The n members of a chain go to the group b. Returns the last of them.
+fn relabel_chain(w: &mut [u32], nodes: usize, first: u32, n: u32, b: u32) -> u32
+    requires { ⌜ (2 * nodes ≤ length (now w)) × All (λ v. v < nodes) (walk n (drop nodes (now w)) first) ⌝ }
+    ensures { λ r. ⌜ take nodes (now (w .exit)) ≡ relabelled b (walk n (drop nodes (now (w .entry))) first) (take nodes (now (w .entry))) ⌝ }
+    ensures { λ r. ⌜ drop nodes (now (w .exit)) ≡ drop nodes (now (w .entry)) ⌝ }
+    ensures { λ r. ⌜ (0 < n → r ≡ hop (n - 1) (drop nodes (now (w .entry))) first) ⌝ }
+{
+    let mut left = n;
+    let mut cur = first;
+    let mut last = first;
+    while 0 < left {
+        let v = wide(cur);
+        w[v] = b;
+        last = cur;
+        cur = w[nodes + v];
+        left -= 1;
+    }
+    last
+}
+
+// All of the group g goes to the group b: its chain is put before that of b.
+fn move_group(w: &mut [u32], nodes: usize, g: u32, b: u32)
+    requires { ⌜ Moves nodes (now w) g b ⌝ }
+    ensures { λ _. ⌜ take nodes (now (w .exit)) ≡ relabelled b (chainOf nodes (now (w .entry)) g) (take nodes (now (w .entry))) ⌝ }
+    ensures { λ _. ⌜ drop nodes (now (w .exit)) ≡ moved nodes g b (drop nodes (now (w .entry))) ⌝ }
+{
+    let from = wide(g);
+    let to = wide(b);
+    let heads = 2 * nodes;
+    let counts = 3 * nodes + 1;
+    let n = w[counts + from];
+    let first = w[heads + from];
+    let second = w[heads + to];
+    let more = w[counts + to];
+    let last = wide(relabel_chain(w, nodes, first, n, b));
+    w[nodes + last] = second;
+    w[heads + to] = first;
+    w[counts + to] = n + more;
+    w[counts + from] = 0;
+}
+
+// The turn of the group g: it joins another, if it is below the floor and names one. Returns 1 if it did.
+fn join_one(
+    offsets: &[u32],
+    neighbours: &[u32],
+    w: &mut [u32],
+    nodes: usize,
+    groups: u32,
+    floor: u32,
+    g: u32,
+) -> u32
+    requires { ⌜ Rep nodes groups (now offsets) (now neighbours) (take nodes (now w)) (drop nodes (now w)) ⌝ }
+    requires { ⌜ g ≤ groups ⌝ }
+    ensures { λ r. ⌜ r ≡ length (turnOf (listed (now (offsets .entry)) (now (neighbours .entry))) floor (stateOf nodes groups (take nodes (now (w .entry))) (drop nodes (now (w .entry)))) g) ⌝ }
+    ensures { λ _. ⌜ stateOf nodes groups (take nodes (now (w .exit))) (drop nodes (now (w .exit))) ≡ replay (turnOf (listed (now (offsets .entry)) (now (neighbours .entry))) floor (stateOf nodes groups (take nodes (now (w .entry))) (drop nodes (now (w .entry)))) g) (stateOf nodes groups (take nodes (now (w .entry))) (drop nodes (now (w .entry)))) ⌝ }
+    ensures { λ _. ⌜ Rep nodes groups (now (offsets .entry)) (now (neighbours .entry)) (take nodes (now (w .exit))) (drop nodes (now (w .exit))) ⌝ }
+{
+    let counts = 3 * nodes + 1;
+    let size = w[counts + wide(g)];
+    if size == 0 {
+        return 0;
+    }
+    if floor <= size {
+        return 0;
+    }
+    let end = gather(offsets, neighbours, w, nodes, g);
+    let b = choose_group(w, counts, 4 * nodes + 2, 5 * nodes + 3, end);
+    if b == 0 {
+        return 0;
+    }
+    move_group(w, nodes, g, b);
+    1
+}
+
+// Rounds over the groups, until one joins nothing.
+fn join_rounds(
+    offsets: &[u32],
+    neighbours: &[u32],
+    w: &mut [u32],
+    nodes: usize,
+    groups: u32,
+    floor: u32,
+)
+    requires { ⌜ Rep nodes groups (now offsets) (now neighbours) (take nodes (now w)) (drop nodes (now w)) ⌝ }
+    requires { ⌜ stateOf nodes groups (take nodes (now w)) (drop nodes (now w)) ≡ groupsOf (take nodes (now w)) groups ⌝ }
+    ensures { λ _. ⌜ take nodes (now (w .exit)) ≡ joinedIds (now (offsets .entry)) (now (neighbours .entry)) floor groups (take nodes (now (w .entry))) ⌝ }
+{
+    'rounds: loop {
+        let mut joins: u32 = 0;
+        let mut g: u32 = 1;
+        while g <= groups {
+            joins += join_one(offsets, neighbours, w, nodes, groups, floor, g);
+            g += 1;
+        }
+        if joins == 0 {
+            break 'rounds;
+        }
+    }
+}
+
+// Puts each node into the chain of its group, the highest first, so that each chain goes upward.
+fn link(w: &mut [u32], nodes: usize)
+    requires { ⌜ (5 * nodes + 3 ≤ length (now w)) × (nodes < 2 ^ 31) ⌝ }
+    requires { ⌜ ((v : ℕ) → v < nodes → getD (now w) v 0 ≤ nodes) ⌝ }
+    requires { ⌜ Zeros (3 * nodes + 1) (5 * nodes + 3) (now w) ⌝ }
+    ensures { λ _. ⌜ take nodes (now (w .exit)) ≡ take nodes (now (w .entry)) ⌝ }
+    ensures { λ _. ⌜ ((o : ℕ) → o ≤ nodes → membersOf nodes (drop nodes (now (w .exit))) o ≡ nodesOf o 0 (take nodes (now (w .entry)))) ⌝ }
+    ensures { λ _. ⌜ Zeros (3 * nodes + 2) (4 * nodes + 3) (drop nodes (now (w .exit))) ⌝ }
+{
+    let heads = 2 * nodes;
+    let counts = 3 * nodes + 1;
+    let mut v = nodes;
+    while 0 < v {
+        v -= 1;
+        let o = wide(w[v]);
+        let more = w[counts + o] + 1;
+        w[nodes + v] = w[heads + o];
+        w[heads + o] = v as u32;
+        w[counts + o] = more;
+    }
+}
+
+// Joins undersized groups until a round joins nothing: w[0..nodes] has the group of each node, from 1; the rest of w is room, and may hold anything.
+pub fn join_groups(
+    offsets: &[u32],
+    neighbours: &[u32],
+    w: &mut [u32],
+    nodes: usize,
+    groups: u32,
+    floor: u32,
+)
+    requires { ⌜ Joins nodes groups (now offsets) (now neighbours) (now w) ⌝ }
+    ensures { λ _. ⌜ take nodes (now (w .exit)) ≡ joinedIds (now (offsets .entry)) (now (neighbours .entry)) floor groups (take nodes (now (w .entry))) ⌝ }
+{
+    let from = 3 * nodes + 1;
+    let to = 5 * nodes + 3;
+    numbers::zero_ints(&mut w[from..to]);
+    link(w, nodes);
+    join_rounds(offsets, neighbours, w, nodes, groups, floor);
+}

@@ -1,0 +1,44 @@
+// Numbers by first appearance, from 0. The numbers are w[0..nodes], each at most `top`. A table behind them has, for each number, its new number and one, and 0 while it has none.
+ghost use mathlib.Core.Path.{_≡_};
+ghost use lib.ListN.{length, take};
+ghost use Rattle.definitions.specs.Groups.{renumbered};
+ghost use Rattle.aggregates.specs.Numbered.{Numbered, Blank};
+
+fn wide(x: u32) -> usize
+    ensures { λ r. ⌜ r ≡ x ⌝ }
+{
+    x as usize
+}
+
+// With a cleared table. Returns how many numbers there are.
+fn number_all(w: &mut [u32], nodes: usize, top: u32) -> u32
+    requires { ⌜ Numbered nodes top (now w) ⌝ }
+    requires { ⌜ Blank nodes top (now w) ⌝ }
+    ensures { λ r. ⌜ take nodes (now (w .exit)) ≡ (renumbered (take nodes (now (w .entry)))) .ids ⌝ }
+    ensures { λ r. ⌜ r ≡ (renumbered (take nodes (now (w .entry)))) .count ⌝ }
+{
+    let mut count: u32 = 0;
+    let mut v: usize = 0;
+    while v < nodes {
+        let at = nodes + wide(w[v]);
+        let mut new = w[at];
+        if new == 0 {
+            count += 1;
+            new = count;
+            w[at] = count;
+        }
+        w[v] = new - 1;
+        v += 1;
+    }
+    count
+}
+
+pub fn renumber(w: &mut [u32], nodes: usize, top: u32) -> u32
+    requires { ⌜ Numbered nodes top (now w) ⌝ }
+    ensures { λ r. ⌜ take nodes (now (w .exit)) ≡ (renumbered (take nodes (now (w .entry)))) .ids ⌝ }
+    ensures { λ r. ⌜ r ≡ (renumbered (take nodes (now (w .entry)))) .count ⌝ }
+{
+    let end = nodes + wide(top) + 1;
+    numbers::zero_ints(&mut w[nodes..end]);
+    number_all(w, nodes, top)
+}
