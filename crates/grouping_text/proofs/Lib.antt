@@ -1,0 +1,2 @@
+-- The laws of the public function.
+mod Program

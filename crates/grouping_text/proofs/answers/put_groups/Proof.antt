@@ -1,0 +1,35 @@
+-- `put_groups`: the head, then the lines.
+use Rattle.definitions.specs.Text.{line, decimal, groupsWord}
+use Rattle.grouping_text.specs.Puts.{linesFrom}
+use Rattle.grouping_text.proofs.printing.Bytes.{puts-then}
+use borrow.Author.Needs.{needs}
+use Rattle.grouping_text.proofs.answers.put_groups.Statement.{statement}
+use Rattle.grouping_text.proofs.answers.put_groups.Tie as tie
+use Rattle.grouping_text.proofs.answers.put_groups.Reads as reads
+use Rattle.grouping_text.proofs.answers.put_groups.Lts as lts
+use Rattle.grouping_text.proofs.printing.put_head.Reads as put-head-reads
+use Rattle.grouping_text.proofs.printing.put_ids.Reads as put-ids-reads
+
+slice-aggregate-put-head : tie.Need-slice-aggregate-put-head
+slice-aggregate-put-head c = search needs
+
+put-head-requires : tie.Need-put-head-requires
+put-head-requires c κs = search needs
+
+put-ids-requires : tie.Need-put-ids-requires
+put-ids-requires c κs = search needs
+
+same-length : tie.Need-same-length
+same-length c = search needs
+
+returns : tie.Need-returns
+returns c =
+    let a = c .before .before .before .before .before .before .before .before .before .before .before .args in
+    let h = c .before .before .before .before .before .before .put-head in
+    let p = c .before .before .put-ids in
+    puts-then (a .out .now) 0 (line groupsWord (decimal (a .count))) (h .last .0) (h .result) (h .ensures) (linesFrom 0 (a .ids .now)) (p .last .0) (p .result) (p .ensures)
+
+pub put-groups-spec : {M : Type 1} → statement M
+put-groups-spec =
+    tie.close
+    (tie.spec slice-aggregate-put-head put-head-requires put-ids-requires same-length returns)

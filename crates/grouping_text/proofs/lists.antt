@@ -1,0 +1,3 @@
+-- The laws of reading lists that several proofs cite.
+pub mod Lists
+pub mod Nodes

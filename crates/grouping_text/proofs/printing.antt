@@ -1,0 +1,2 @@
+-- The laws of printing that several proofs cite.
+pub mod Bytes

@@ -1,0 +1,67 @@
+-- `put_all` goes through the bytes.
+use Prim.Native.Nat.{_-_}
+use native.Mathlib.Omega.{arith}
+use lib.ListN.{length}
+use Rattle.grouping_text.proofs.printing.Bytes.{Copying, copy-first, copy-next, copy-last}
+use borrow.Author.Needs.{needs}
+use Rattle.grouping_text.proofs.printing.put_all.Statement.{statement}
+use Rattle.grouping_text.proofs.printing.put_all.Tie as tie
+use Rattle.grouping_text.proofs.printing.put_all.Reads as reads
+use Rattle.grouping_text.proofs.printing.put_all.Lts as lts
+use Rattle.grouping_text.proofs.printing.put.Reads as put-reads
+
+abbrev Inv-loop : tie.InvT-loop
+Inv-loop out₀ at bytes end₀ i₀ out end i = Copying out₀ at bytes out end i
+
+abbrev μ-loop : tie.MeasureT-loop
+μ-loop out₀ at bytes end₀ i₀ out end i = length bytes - i
+
+loop-holds : tie.Need-loop-holds Inv-loop μ-loop
+loop-holds c =
+    let s = c .before .before in
+    copy-first (s .args .out .now) (s .args .at) (s .pre) (s .args .bytes .now)
+
+shared-slice-read-put : tie.Need-shared-slice-read-put Inv-loop μ-loop
+shared-slice-read-put c = search needs
+
+put-requires : tie.Need-put-requires Inv-loop μ-loop
+put-requires c κs = c .before .before .before .loop .inv .within
+
+add-i : tie.Need-add-i Inv-loop μ-loop
+add-i c = search needs
+
+loop-less : tie.Need-loop-less Inv-loop μ-loop
+loop-less c = omega arith
+
+loop-again : tie.Need-loop-again Inv-loop μ-loop
+loop-again c =
+    let s = c .before .before .before .before .before .before .before .before .before in
+    let a = s .args in
+    let l = c .before .before .before .before .before .before .loop in
+    let p = c .before .before .put in
+    copy-next (a .out .now) (a .at) (s .pre) (a .bytes .now) (l .out) (l .end) (l .i) (l .inv) (omega arith) (p .last .0) (p .result) (p .ensures)
+
+same-length : tie.Need-same-length Inv-loop μ-loop
+same-length c = c .before .loop .inv .same
+
+returns : tie.Need-returns Inv-loop μ-loop
+returns c =
+    let s = c .before .before .before .before in
+    let a = s .args in
+    let l = c .before .loop in
+    copy-last (a .out .now) (a .at) (s .pre) (a .bytes .now) (l .out) (l .end) (l .i) (l .inv) (omega arith)
+
+pub put-all-spec : {M : Type 1} → statement M
+put-all-spec =
+    tie.close
+    (tie.spec
+    Inv-loop
+    μ-loop
+    loop-holds
+    shared-slice-read-put
+    put-requires
+    add-i
+    loop-less
+    loop-again
+    same-length
+    returns)

@@ -1,0 +1,47 @@
+-- `put_head` puts the four pieces.
+use Rattle.definitions.specs.Text.{decimal}
+use Rattle.grouping_text.proofs.printing.Bytes.{puts-line, puts-decimal}
+use borrow.Author.Needs.{needs}
+use Rattle.grouping_text.proofs.printing.put_head.Statement.{statement}
+use Rattle.grouping_text.proofs.printing.put_head.Tie as tie
+use Rattle.grouping_text.proofs.printing.put_head.Reads as reads
+use Rattle.grouping_text.proofs.printing.put_head.Lts as lts
+use Rattle.grouping_text.proofs.printing.put.Reads as put-reads
+use Rattle.grouping_text.proofs.printing.put_all.Reads as put-all-reads
+use Rattle.grouping_text.proofs.printing.put_decimal.Reads as put-decimal-reads
+
+put-all-requires : tie.Need-put-all-requires
+put-all-requires c κs = search needs
+
+put-requires : tie.Need-put-requires
+put-requires c κs = search needs
+
+put-decimal-requires : tie.Need-put-decimal-requires
+put-decimal-requires c κs = search needs
+
+put-requires-2 : tie.Need-put-requires-2
+put-requires-2 c κs = search needs
+
+same-length : tie.Need-same-length
+same-length c = search needs
+
+returns : tie.Need-returns
+returns c =
+    let s = c .before .before .before .before .before .before .before .before .before .before .before .before .before .before .before .before .before .before in
+    let a = s .args in
+    let p = c .before .before .before .before .before .before .before .before .before .before .before .before .before .before .put-all in
+    let q = c .before .before .before .before .before .before .before .before .before .before .put in
+    let r = c .before .before .before .before .before .before .put-decimal in
+    let z = c .before .before .put2 in
+    puts-line (a .out .now) 0 (a .word .now) (decimal (a .n)) (p .last .0) (q .last .0) (r .last .0) (z .last .0) (p .result) (q .result) (r .result) (z .result) (p .ensures) (q .ensures) (puts-decimal (q .last .0) (q .result) (a .n) (r .last .0) (r .result) (r .ensures)) (z .ensures)
+
+pub put-head-spec : {M : Type 1} → statement M
+put-head-spec =
+    tie.close
+    (tie.spec
+    put-all-requires
+    put-requires
+    put-decimal-requires
+    put-requires-2
+    same-length
+    returns)

@@ -1,0 +1,2 @@
+-- The laws of reading that several proofs cite.
+pub mod Bytes

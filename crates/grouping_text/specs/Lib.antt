@@ -1,0 +1,6 @@
+-- What the contracts of `grouping_text` cite besides the definitions.
+pub mod Capped
+pub mod Agrees
+pub mod Steps
+pub mod Puts
+pub mod Lengths
