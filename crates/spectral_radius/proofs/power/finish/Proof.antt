@@ -1,0 +1,74 @@
+-- rho is the vector times its image; stages 3 and 4 test rho and the damping factor.
+use mathlib.Core.Path.{_≡_, sym, _∙_}
+use lib.ListN.{take}
+use Rattle.definitions.specs.Matrix.{csr}
+use Rattle.definitions.specs.Estimate.{rhoOf, dampingOf}
+use Rattle.spectral_radius.specs.Power.{vectorIn, imageIn}
+use Rattle.spectral_radius.proofs.Stages.{kept-vector, image-made, rho-is, finished, fails-at-3, fails-at-4}
+use borrow.Author.Needs.{needs}
+use Rattle.spectral_radius.proofs.power.finish.Statement.{statement}
+use Rattle.spectral_radius.proofs.power.finish.Tie as tie
+
+-- what the code divides is rho
+rho-ok : (c : tie.After-quotient) → c .quotient .result ≡ rhoOf (csr (c .before .before .before .before .before .before .before .before .before .before .args .rows) (c .before .before .before .before .before .before .before .before .before .before .args .rows) (c .before .before .before .before .before .before .before .before .before .before .args .ptr .now) (c .before .before .before .before .before .before .before .before .before .before .args .idx .now) (c .before .before .before .before .before .before .before .before .before .before .args .vals .now)) (take (c .before .before .before .before .before .before .before .before .before .before .args .rows) (c .before .before .before .before .before .before .before .before .before .before .args .w .now)) (vectorIn (c .before .before .before .before .before .before .before .before .before .before .args .rows) (c .before .before .before .before .before .before .before .before .before .before .args .w .now))
+rho-ok c =
+    let s = c .before .before .before .before .before .before .before .before .before .before in
+    let a = s .args in
+    let m = csr (a .rows) (a .rows) (a .ptr .now) (a .idx .now) (a .vals .now) in
+    let d = c .before .before .before .before .map-vector in
+    let w = d .last .1 .1 .1 .1 .0 in
+    rho-is m (take (a .rows) (a .w .now)) (vectorIn (a .rows) (a .w .now)) (vectorIn (a .rows) w) (imageIn (a .rows) w) (c .quotient .result) (c .quotient .ensures)
+    (kept-vector (a .rows) m (a .w .now) w (s .pre .1) (d .ensures)) (image-made (a .rows) m (a .w .now) w (s .pre .1) (d .ensures))
+
+map-vector-requires : tie.Need-map-vector-requires
+map-vector-requires c κs = search needs
+
+quotient-requires : tie.Need-quotient-requires
+quotient-requires c κs = search needs
+
+above-requires : tie.Need-above-requires
+above-requires c κs = search needs
+
+above-requires-2 : tie.Need-above-requires-2
+above-requires-2 c κs = search needs
+
+same-length : tie.Need-same-length
+same-length c = search needs
+
+returns : tie.Need-returns
+unfolding dampingOf
+returns c =
+    let a = c .before .before .before .before .before .before .before .before .before .before .before .before .before .before .args in
+    finished (csr (a .rows) (a .rows) (a .ptr .now) (a .idx .now) (a .vals .now)) (take (a .rows) (a .w .now)) (vectorIn (a .rows) (a .w .now)) (c .before .before .before .before .quotient .result) (rho-ok (c .before .before .before .before)) (sym (c .before .before .before .above .ensures) ∙ c .before .before .if1 .taken) (sym (c .before .above2 .ensures) ∙ c .if2 .taken)
+
+same-length-2 : tie.Need-same-length-2
+same-length-2 c = search needs
+
+returns-2 : tie.Need-returns-2
+unfolding dampingOf
+returns-2 c =
+    let a = c .before .before .before .before .before .before .before .before .before .before .before .before .before .before .args in
+    fails-at-4 (csr (a .rows) (a .rows) (a .ptr .now) (a .idx .now) (a .vals .now)) (take (a .rows) (a .w .now)) (vectorIn (a .rows) (a .w .now)) (c .before .before .before .before .quotient .result) (rho-ok (c .before .before .before .before)) (sym (c .before .before .before .above .ensures) ∙ c .before .before .if1 .taken) (sym (c .before .above2 .ensures) ∙ c .if2 .left)
+
+same-length-3 : tie.Need-same-length-3
+same-length-3 c = search needs
+
+returns-3 : tie.Need-returns-3
+returns-3 c =
+    let a = c .before .before .before .before .before .before .before .before .before .before .before .before .args in
+    fails-at-3 (csr (a .rows) (a .rows) (a .ptr .now) (a .idx .now) (a .vals .now)) (take (a .rows) (a .w .now)) (vectorIn (a .rows) (a .w .now)) (c .before .before .quotient .result) (rho-ok (c .before .before)) (sym (c .before .above .ensures) ∙ c .if1 .left)
+
+pub finish-spec : {M : Type 1} → statement M
+finish-spec =
+    tie.close
+    (tie.spec
+    map-vector-requires
+    quotient-requires
+    above-requires
+    above-requires-2
+    same-length
+    returns
+    same-length-2
+    returns-2
+    same-length-3
+    returns-3)

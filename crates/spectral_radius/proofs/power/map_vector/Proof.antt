@@ -1,0 +1,86 @@
+-- The image grows behind the vector; what it is made from stands in front of it and is not touched.
+use Prim.Native.Nat.{_+_, _≤_, _-_}
+use mathlib.Core.Path.{_≡_, refl, ap}
+use mathlib.Core.List.{_++_}
+use native.Mathlib.Omega.{arith}
+use lib.ListN.{length, take, length-set}
+use Rattle.definitions.specs.Lists.{tab}
+use Rattle.definitions.specs.Matrix.{csr}
+use Rattle.definitions.specs.Estimate.{image}
+use Rattle.spectral_radius.specs.Power.{imageAt, vectorIn}
+use Rattle.spectral_radius.proofs.Regions.{filled-none, image-more}
+use borrow.Author.Needs.{needs}
+use Rattle.spectral_radius.proofs.power.map_vector.Statement.{statement}
+use Rattle.spectral_radius.proofs.power.map_vector.Tie as tie
+
+abbrev Inv-loop : tie.InvT-loop
+Inv-loop rows ptr idx vals w₀ start i₀ w i = (i ≤ rows) × (length w ≡ length w₀) × (start ≡ rows + rows) × (take (rows + rows + i) w ≡ take (rows + rows) w₀ ++ tab (imageAt (csr rows rows ptr idx vals) (take rows w₀) (vectorIn rows w₀)) i)
+
+abbrev μ-loop : tie.MeasureT-loop
+μ-loop rows ptr idx vals w₀ start i₀ w i = rows - i
+
+add-start : tie.Need-add-start Inv-loop μ-loop
+add-start c = search needs
+
+loop-holds : tie.Need-loop-holds Inv-loop μ-loop
+loop-holds c =
+    let a = c .before .before .before .before .args in
+    (omega arith, refl, refl, filled-none (imageAt (csr (a .rows) (a .rows) (a .ptr .now) (a .idx .now) (a .vals .now)) (take (a .rows) (a .w .now)) (vectorIn (a .rows) (a .w .now))) (a .rows + a .rows) (a .w .now))
+
+row-image-requires : tie.Need-row-image-requires Inv-loop μ-loop
+row-image-requires c κs = search needs
+
+add-w : tie.Need-add-w Inv-loop μ-loop
+add-w c = search needs
+
+mul-w : tie.Need-mul-w Inv-loop μ-loop
+mul-w c = search needs
+
+slice-write-w : tie.Need-slice-write-w Inv-loop μ-loop
+slice-write-w c = search needs
+
+add-i : tie.Need-add-i Inv-loop μ-loop
+add-i c = search needs
+
+loop-less : tie.Need-loop-less Inv-loop μ-loop
+loop-less c = omega arith
+
+loop-again : tie.Need-loop-again Inv-loop μ-loop
+loop-again c =
+    let a = c .before .before .before .before .before .before .before .before .args in
+    let l = c .before .before .before .loop in
+    let n = a .rows in (
+      omega arith,
+      simp length-set (l .inv .1),
+      refl,
+      image-more n (csr n n (a .ptr .now) (a .idx .now) (a .vals .now)) (a .w .now) (l .w) (l .i) (c .row-image .result) (omega arith) (omega arith) (l .inv .3) (c .row-image .ensures),
+    )
+
+same-length : tie.Need-same-length Inv-loop μ-loop
+same-length c = search needs
+
+returns : tie.Need-returns Inv-loop μ-loop
+unfolding image
+returns c =
+    let a = c .before .before .before .before .before .before .args in
+    let l = c .before .loop in
+    let e : l .i ≡ a .rows = omega arith in
+    rw e at (l .inv .3)
+
+pub map-vector-spec : {M : Type 1} → statement M
+map-vector-spec =
+    tie.close
+    (tie.spec
+    Inv-loop
+    μ-loop
+    add-start
+    loop-holds
+    row-image-requires
+    add-w
+    mul-w
+    slice-write-w
+    add-i
+    loop-less
+    loop-again
+    same-length
+    returns)

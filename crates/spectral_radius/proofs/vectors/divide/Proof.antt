@@ -1,0 +1,76 @@
+-- A list filled by index is a `tab`, and each element is read before it is written.
+use Prim.Native.Nat.{_+_, _≤_, _-_}
+use mathlib.Core.Path.{_≡_, refl, ap, _∙_}
+use mathlib.Core.List.{_++_}
+use native.Mathlib.Omega.{arith}
+use lib.ListN.{length, getD, drop, length-set}
+use lib.Ieee.{nan}
+use Rattle.definitions.specs.Lists.{tab}
+use Rattle.definitions.specs.Numbers.{_/ᶠ_}
+use Rattle.spectral_radius.proofs.Sums.{tab-none, tab-more, tab-all, tab-unread, map-tab}
+use borrow.Author.Needs.{needs}
+use Rattle.spectral_radius.proofs.vectors.divide.Statement.{statement}
+use Rattle.spectral_radius.proofs.vectors.divide.Tie as tie
+
+abbrev Inv-loop : tie.InvT-loop
+Inv-loop x₀ norm k₀ k-end x k = (k ≤ k-end) × (k-end ≡ length x₀) × (length x ≡ length x₀) × (x ≡ tab (λ i. getD x₀ i nan /ᶠ norm) k ++ drop k x₀)
+
+abbrev μ-loop : tie.MeasureT-loop
+μ-loop x₀ norm k₀ k-end x k = k-end - k
+
+loop-holds : tie.Need-loop-holds Inv-loop μ-loop
+loop-holds c = let a = c .args in (omega arith, refl, refl, tab-none (λ i. getD (a .x .now) i nan /ᶠ a .norm) (a .x .now))
+
+mul-x : tie.Need-mul-x Inv-loop μ-loop
+mul-x c = search needs
+
+slice-read-x : tie.Need-slice-read-x Inv-loop μ-loop
+slice-read-x c = search needs
+
+mul-x-2 : tie.Need-mul-x-2 Inv-loop μ-loop
+mul-x-2 c = search needs
+
+slice-write-x : tie.Need-slice-write-x Inv-loop μ-loop
+slice-write-x c = search needs
+
+add-k : tie.Need-add-k Inv-loop μ-loop
+add-k c = search needs
+
+loop-less : tie.Need-loop-less Inv-loop μ-loop
+loop-less c = omega arith
+
+loop-again : tie.Need-loop-again Inv-loop μ-loop
+loop-again c =
+    let a = c .before .before .before .args in
+    let l = c .before .before .loop in (
+      omega arith,
+      refl,
+      simp length-set (l .inv .2),
+      tab-more (λ i. getD (a .x .now) i nan /ᶠ a .norm) (l .k) (l .x) (a .x .now) (getD (l .x) (l .k) nan /ᶠ a .norm) (omega arith) (l .inv .3) (ap (λ v. v /ᶠ a .norm) (tab-unread nan (λ i. getD (a .x .now) i nan /ᶠ a .norm) (l .k) (l .x) (a .x .now) (omega arith) (l .inv .3))),
+    )
+
+same-length : tie.Need-same-length Inv-loop μ-loop
+same-length c = search needs
+
+returns : tie.Need-returns Inv-loop μ-loop
+returns c =
+    let a = c .before .before .args in
+    let l = c .before .loop in
+    tab-all (λ i. getD (a .x .now) i nan /ᶠ a .norm) (l .k) (l .x) (a .x .now) (omega arith) (l .inv .3) ∙ map-tab nan (λ v. v /ᶠ a .norm) (a .x .now)
+
+pub divide-spec : {M : Type 1} → statement M
+divide-spec =
+    tie.close
+    (tie.spec
+    Inv-loop
+    μ-loop
+    loop-holds
+    mul-x
+    slice-read-x
+    mul-x-2
+    slice-write-x
+    add-k
+    loop-less
+    loop-again
+    same-length
+    returns)
