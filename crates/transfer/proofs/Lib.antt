@@ -1,0 +1,10 @@
+mod Inserting
+mod Passes
+mod Spreading
+mod Copying
+mod Visiting
+mod Weighing
+mod Rowwise
+mod Storing
+mod Checking
+mod Calling

@@ -1,0 +1,104 @@
+-- What the entries that are left take off stays what the whole row takes off.
+use Prim.Native.Nat.{_<_, _≤_, _-_}
+use mathlib.Core.Path.{_≡_, refl, sym, ap, _∙_}
+use native.Mathlib.Omega.{arith}
+use lib.ListN.{length, length-set}
+use Rattle.definitions.specs.Transfer.{coarseColumn}
+use Rattle.transfer.proofs.Passes.{rest, rest-step, rest-done}
+use borrow.Author.Needs.{needs}
+use Rattle.transfer.proofs.weights.smooth.Statement.{statement}
+use Rattle.transfer.proofs.weights.smooth.Tie as tie
+
+abbrev Inv-loop : tie.InvT-loop
+Inv-loop idx vals ids size cols from to damping inv w₀ k₀ w k = (from ≤ k) × (k ≤ to) × (length w ≡ length w₀) × (rest idx vals (coarseColumn size ids) damping inv to k w ≡ rest idx vals (coarseColumn size ids) damping inv to from w₀)
+
+abbrev μ-loop : tie.MeasureT-loop
+μ-loop idx vals ids size cols from to damping inv w₀ k₀ w k = to - k
+
+-- the column read is one of the matrix's, and its coarse column a place of the weights
+column-ok : (c : tie.After-wide Inv-loop μ-loop) → c .wide .result < c .before .before .before .before .before .before .before .before .args .cols
+column-ok c = rw (c .wide .ensures) (c .before .before .before .before .before .before .before .before .pre .1 .0 (c .before .before .before .loop .k) (omega arith))
+
+place-ok : (c : tie.After-coarse-of Inv-loop μ-loop) → c .coarse-of .result < length (c .before .before .before .before .loop .w)
+place-ok c = rw (c .coarse-of .ensures, c .before .before .before .before .loop .inv .2) (c .before .before .before .before .before .before .before .before .before .pre .1 .1 .within (c .before .wide .result) (column-ok (c .before)))
+
+loop-holds : tie.Need-loop-holds Inv-loop μ-loop
+loop-holds c = (omega arith, omega arith, refl, refl)
+
+mul-wide : tie.Need-mul-wide Inv-loop μ-loop
+mul-wide c = search needs
+
+shared-slice-read-wide : tie.Need-shared-slice-read-wide Inv-loop μ-loop
+shared-slice-read-wide c = search needs
+
+wide-requires : tie.Need-wide-requires Inv-loop μ-loop
+wide-requires c κs = search needs
+
+coarse-of-requires : tie.Need-coarse-of-requires Inv-loop μ-loop
+coarse-of-requires c κs =
+    let g = c .before .before .before .before .before .before .before .before .pre .1 .1 in
+    (g .some, g .known (c .wide .result) (column-ok c), omega (arith, g .within (c .wide .result) (column-ok c), g .small))
+
+mul-v : tie.Need-mul-v Inv-loop μ-loop
+mul-v c = search needs
+
+shared-slice-read-v : tie.Need-shared-slice-read-v Inv-loop μ-loop
+shared-slice-read-v c = search needs
+
+mul-w : tie.Need-mul-w Inv-loop μ-loop
+mul-w c = omega (arith, place-ok (c .before))
+
+slice-read-w : tie.Need-slice-read-w Inv-loop μ-loop
+slice-read-w c = place-ok (c .before .before)
+
+slice-write-w : tie.Need-slice-write-w Inv-loop μ-loop
+slice-write-w c = place-ok (c .before .before)
+
+add-k : tie.Need-add-k Inv-loop μ-loop
+add-k c = search needs
+
+loop-less : tie.Need-loop-less Inv-loop μ-loop
+loop-less c = omega arith
+
+loop-again : tie.Need-loop-again Inv-loop μ-loop
+loop-again c =
+    let a = c .before .before .before .before .before .before .before .before .before .before .before .args in
+    let l = c .before .before .before .before .before .before .loop in (
+      omega arith,
+      omega arith,
+      simp length-set (l .inv .2),
+      rest-step (a .idx .now) (a .vals .now) (coarseColumn (a .size) (a .ids .now)) (a .damping) (a .inv) (a .to) (l .k) (c .before .before .coarse-of .result) (l .w) (omega arith) (omega arith) (omega arith)
+          (c .before .before .coarse-of .ensures ∙ ap (coarseColumn (a .size) (a .ids .now)) (c .before .before .before .wide .ensures)) ∙ l .inv .3,
+    )
+
+same-length : tie.Need-same-length Inv-loop μ-loop
+same-length c = search needs
+
+returns : tie.Need-returns Inv-loop μ-loop
+returns c =
+    let a = c .before .before .before .before .before .before .args in
+    let l = c .before .loop in
+    let e : l .k ≡ a .to = omega arith in
+    sym (rest-done (a .idx .now) (a .vals .now) (coarseColumn (a .size) (a .ids .now)) (a .damping) (a .inv) (a .to) (l .w)) ∙ (rw e at (l .inv .3))
+
+pub smooth-spec : {M : Type 1} → statement M
+smooth-spec =
+    tie.close
+    (tie.spec
+    Inv-loop
+    μ-loop
+    loop-holds
+    mul-wide
+    shared-slice-read-wide
+    wide-requires
+    coarse-of-requires
+    mul-v
+    shared-slice-read-v
+    mul-w
+    slice-read-w
+    slice-write-w
+    add-k
+    loop-less
+    loop-again
+    same-length
+    returns)

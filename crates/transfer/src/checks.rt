@@ -1,0 +1,82 @@
+// The checks of the call that follow those of the matrix.
+use crate::touched::wide;
+use definitions::Answer;
+use definitions::Refusal;
+ghost use mathlib.Core.Path.{_≡_};
+ghost use Prim.Native.Nat.{_≤_};
+ghost use lib.Dec.{leb};
+ghost use lib.ListN.{length};
+ghost use Rattle.definitions.specs.Lists.{any};
+ghost use Rattle.definitions.specs.Matrix.{maxRows, maxEntries};
+ghost use Rattle.definitions.specs.Answers.{answerOf};
+ghost use Rattle.transfer.specs.Call.{shapeChecked, groupsChecked, roomChecked};
+
+pub fn shape(rows: usize, cols: usize, size: usize, diagonal: usize) -> Answer
+    ensures { λ r. ⌜ r ≡ answerOf (shapeChecked rows cols size diagonal) ⌝ }
+{
+    if cols != rows {
+        return Answer::Refused(Refusal::NotSquare);
+    }
+    if size < 1 {
+        return Answer::Refused(Refusal::BlockSize);
+    }
+    if 8 < size {
+        return Answer::Refused(Refusal::BlockSize);
+    }
+    if rows % size != 0 {
+        return Answer::Refused(Refusal::NotMultiple);
+    }
+    if diagonal != rows {
+        let expected = rows as u64;
+        let actual = diagonal as u64;
+        return Answer::Refused(Refusal::WrongLength { expected, actual });
+    }
+    Answer::Accepted
+}
+
+// Whether some id is not below the number of groups.
+fn id_outside(ids: &[u32], groups: usize) -> bool
+    ensures { λ r. ⌜ r ≡ any (λ g. leb groups g) (now (ids .entry)) ⌝ }
+{
+    let mut i: usize = 0;
+    while i < ids.len() {
+        if groups <= wide(ids[i]) {
+            return true;
+        }
+        i += 1;
+    }
+    false
+}
+
+pub fn groups(rows: usize, size: usize, ids: &[u32], count: usize) -> Answer
+    requires { ⌜ (rows ≤ maxRows) × (1 ≤ size) × (size ≤ 8) ⌝ }
+    ensures { λ r. ⌜ r ≡ answerOf (groupsChecked rows size (now (ids .entry)) count) ⌝ }
+{
+    if rows < count {
+        return Answer::Refused(Refusal::SetupMisfit);
+    }
+    let c = count * size;
+    if 2_048 < c {
+        return Answer::Refused(Refusal::CoarseTooLarge(c as u64));
+    }
+    if ids.len() != rows / size {
+        return Answer::Refused(Refusal::SetupMisfit);
+    }
+    if id_outside(ids, count) {
+        return Answer::Refused(Refusal::SetupMisfit);
+    }
+    Answer::Accepted
+}
+
+pub fn room(rows: usize, entries: usize, c: usize, ints: usize, floats: usize) -> Answer
+    requires { ⌜ (rows ≤ maxRows) × (entries ≤ maxEntries) × (c ≤ 2_048) ⌝ }
+    ensures { λ r. ⌜ r ≡ answerOf (roomChecked rows entries c ints floats) ⌝ }
+{
+    if ints < 2 * rows + entries + 1 + 2 * c {
+        return Answer::Refused(Refusal::ListTooShort);
+    }
+    if floats < rows + entries + c {
+        return Answer::Refused(Refusal::ListTooShort);
+    }
+    Answer::Accepted
+}

@@ -1,0 +1,155 @@
+// The smoothed transfer: a row's own coarse column, less one damped Jacobi step, as compressed rows.
+mod checks;
+mod rows;
+mod stored;
+mod touched;
+mod weights;
+
+use definitions::Answer;
+use definitions::Refusal;
+ghost use mathlib.Core.Path.{_≡_};
+ghost use Prim.Native.Nat.{_+_, _*_, _≤_};
+ghost use lib.ListN.{length};
+ghost use Rattle.definitions.specs.Matrix.{csr};
+ghost use Rattle.definitions.specs.Answers.{answerOf};
+ghost use Rattle.definitions.specs.Transfer.{transferOf};
+ghost use Rattle.csr32.specs.Rows.{Rows};
+ghost use Rattle.transfer.specs.Touched.{Grouped};
+ghost use Rattle.transfer.specs.Weights.{Left};
+ghost use Rattle.transfer.specs.Call.{transferChecked, smoothedTransferCall, transferAnswer, transferInts, transferFloats};
+
+// How many weights the transfer has.
+pub enum TransferAnswer {
+    Count(u64),
+    Refused(Refusal),
+}
+
+// All checks of the call, in their order.
+fn check(
+    rows: usize,
+    cols: usize,
+    ptr: &[u32],
+    idx: &[u32],
+    vals: &[f64],
+    size: usize,
+    ids: &[u32],
+    groups: usize,
+    diagonal: usize,
+    ints: usize,
+    floats: usize,
+) -> Answer
+    ensures { λ r. ⌜ r ≡ answerOf (transferChecked (csr rows cols (now (ptr .entry)) (now (idx .entry)) (now (vals .entry))) size (now (ids .entry)) groups diagonal ints floats) ⌝ }
+{
+    let valid = csr32::validate(rows, cols, ptr, idx, vals);
+    match valid {
+        Answer::Accepted => {
+            let shaped = checks::shape(rows, cols, size, diagonal);
+            match shaped {
+                Answer::Accepted => {
+                    let grouped = checks::groups(rows, size, ids, groups);
+                    match grouped {
+                        Answer::Accepted => {
+                            let c = groups * size;
+                            checks::room(rows, vals.len(), c, ints, floats)
+                        }
+                        Answer::Refused(cause) => Answer::Refused(cause),
+                    }
+                }
+                Answer::Refused(cause) => Answer::Refused(cause),
+            }
+        }
+        Answer::Refused(cause) => Answer::Refused(cause),
+    }
+}
+
+// The transfer, with zeros behind it in both lists; returns how many weights it has.
+fn assemble(
+    rows: usize,
+    ptr: &[u32],
+    idx: &[u32],
+    vals: &[f64],
+    size: usize,
+    ids: &[u32],
+    diagonal: &[f64],
+    damping: f64,
+    c: usize,
+    ints: &mut [u32],
+    floats: &mut [f64],
+) -> usize
+    requires { ⌜ Rows (csr rows rows (now ptr) (now idx) (now vals)) ⌝ }
+    requires { ⌜ Grouped size (now ids) rows c ⌝ }
+    requires { ⌜ (length (now diagonal) ≡ rows) × (rows + 1 + (rows + length (now vals)) + c ≤ length (now ints)) × (rows + length (now vals) + c ≤ length (now floats)) ⌝ }
+    ensures { λ r. ⌜ Left (transferOf (csr rows rows (now (ptr .entry)) (now (idx .entry)) (now (vals .entry))) (now (diagonal .entry)) damping size (now (ids .entry)) c) r (now (ints .entry)) (now (ints .exit)) (now (floats .entry)) (now (floats .exit)) ⌝ }
+{
+    let n = rows::build(
+        rows,
+        ptr,
+        idx,
+        vals,
+        size,
+        ids,
+        diagonal,
+        damping,
+        c,
+        ints,
+        floats,
+    );
+    let used = rows + 1 + n;
+    numbers::zero_ints(&mut ints[used..]);
+    numbers::zero_floats(&mut floats[n..]);
+    n
+}
+
+// The smoothed transfer: pointers, then columns, at the front of one list, the weights at the front of the other, zeros behind them.
+pub fn smoothed_transfer(
+    rows: usize,
+    cols: usize,
+    row_ptr: &[u32],
+    col_idx: &[u32],
+    values: &[f64],
+    block_size: usize,
+    ids: &[u32],
+    groups: usize,
+    diagonal: &[f64],
+    damping: f64,
+    ints: &mut [u32],
+    floats: &mut [f64],
+) -> TransferAnswer
+    ensures { λ r. ⌜ r ≡ transferAnswer (smoothedTransferCall (csr rows cols (now («row_ptr» .entry)) (now («col_idx» .entry)) (now (values .entry))) «block_size» (now (ids .entry)) groups (now (diagonal .entry)) damping (length (now (ints .entry))) (length (now (floats .entry)))) ⌝ }
+    ensures { λ _. ⌜ now (ints .exit) ≡ transferInts (smoothedTransferCall (csr rows cols (now («row_ptr» .entry)) (now («col_idx» .entry)) (now (values .entry))) «block_size» (now (ids .entry)) groups (now (diagonal .entry)) damping (length (now (ints .entry))) (length (now (floats .entry)))) (now (ints .entry)) ⌝ }
+    ensures { λ _. ⌜ now (floats .exit) ≡ transferFloats (smoothedTransferCall (csr rows cols (now («row_ptr» .entry)) (now («col_idx» .entry)) (now (values .entry))) «block_size» (now (ids .entry)) groups (now (diagonal .entry)) damping (length (now (ints .entry))) (length (now (floats .entry)))) (now (floats .entry)) ⌝ }
+{
+    let checked = check(
+        rows,
+        cols,
+        row_ptr,
+        col_idx,
+        values,
+        block_size,
+        ids,
+        groups,
+        diagonal.len(),
+        ints.len(),
+        floats.len(),
+    );
+    match checked {
+        Answer::Accepted => {
+            let c = groups * block_size;
+            let n = assemble(
+                rows,
+                row_ptr,
+                col_idx,
+                values,
+                block_size,
+                ids,
+                diagonal,
+                damping,
+                c,
+                ints,
+                floats,
+            );
+            TransferAnswer::Count(n as u64)
+        }
+        Answer::Refused(cause) => TransferAnswer::Refused(cause),
+    }
+}

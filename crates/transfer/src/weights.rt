@@ -1,0 +1,100 @@
+// A row's weights, one place for each coarse column.
+use crate::touched::coarse_of;
+use crate::touched::wide;
+ghost use mathlib.Core.Path.{_≡_};
+ghost use Prim.Native.Nat.{_+_, _^_, _≤_, _<_};
+ghost use mathlib.Core.Bool.{cond};
+ghost use lib.ListN.{length, take};
+ghost use Rattle.definitions.specs.Lists.{keep};
+ghost use Rattle.definitions.specs.Numbers.{oneᶠ, _/ᶠ_};
+ghost use Rattle.definitions.specs.Matrix.{stored};
+ghost use Rattle.definitions.specs.Transfer.{coarseColumn};
+ghost use Rattle.transfer.specs.Touched.{Below, Grouped, Gathered};
+ghost use Rattle.transfer.specs.Weights.{zeroAt, lowered, smoothing, weighed, counts};
+
+fn zero_at(w: &mut [f64], t: &[u32])
+    requires { ⌜ Below (length (now w)) (now t) ⌝ }
+    ensures { λ _. ⌜ now (w .exit) ≡ zeroAt (now (t .entry)) (now (w .entry)) ⌝ }
+{
+    for k in 0..t.len() {
+        let j = wide(t[k]);
+        w[j] = 0.0;
+    }
+}
+
+// Takes the entries from..to off, each at its coarse column.
+fn smooth(
+    idx: &[u32],
+    vals: &[f64],
+    ids: &[u32],
+    size: usize,
+    cols: usize,
+    from: usize,
+    to: usize,
+    damping: f64,
+    inv: f64,
+    w: &mut [f64],
+)
+    requires { ⌜ (from ≤ to) × (to ≤ length (now vals)) × (length (now idx) ≡ length (now vals)) ⌝ }
+    requires { ⌜ Below cols (now idx) ⌝ }
+    requires { ⌜ Grouped size (now ids) cols (length (now w)) ⌝ }
+    ensures { λ _. ⌜ now (w .exit) ≡ lowered (smoothing (coarseColumn size (now (ids .entry))) damping inv (stored (now (idx .entry)) (now (vals .entry)) from to)) (now (w .entry)) ⌝ }
+{
+    for k in from..to {
+        let j = coarse_of(ids, size, wide(idx[k]));
+        let v = damping * vals[k] * inv;
+        w[j] -= v;
+    }
+}
+
+// The weights of a row at the columns t: 1 at its own, and the smoothing taken off.
+pub fn weigh(
+    idx: &[u32],
+    vals: &[f64],
+    ids: &[u32],
+    size: usize,
+    cols: usize,
+    own: usize,
+    from: usize,
+    to: usize,
+    damping: f64,
+    d: f64,
+    t: &[u32],
+    w: &mut [f64],
+)
+    requires { ⌜ (from ≤ to) × (to ≤ length (now vals)) × (length (now idx) ≡ length (now vals)) × (own < length (now w)) ⌝ }
+    requires { ⌜ Below cols (now idx) ⌝ }
+    requires { ⌜ Grouped size (now ids) cols (length (now w)) ⌝ }
+    requires { ⌜ Below (length (now w)) (now t) ⌝ }
+    ensures { λ _. ⌜ now (w .exit) ≡ weighed (coarseColumn size (now (ids .entry))) damping (oneᶠ /ᶠ d) own (stored (now (idx .entry)) (now (vals .entry)) from to) (now (t .entry)) (now (w .entry)) ⌝ }
+{
+    zero_at(w, t);
+    w[own] = 1.0;
+    let inv = 1.0 / d;
+    smooth(idx, vals, ids, size, cols, from, to, damping, inv, w);
+}
+
+// One more than r where the weight at j is not zero.
+fn advance(w: &[f64], j: usize, r: usize) -> usize
+    requires { ⌜ (j < length (now w)) × (r < 2 ^ 32) ⌝ }
+    ensures { λ n. ⌜ n ≡ cond (counts (now (w .entry)) j) (r + 1) r ⌝ }
+{
+    if w[j] != 0.0 {
+        return r + 1;
+    }
+    r
+}
+
+// Keeps those of the first count columns whose weight is not zero; returns how many they are.
+pub fn compress(t: &mut [u32], count: usize, w: &[f64]) -> usize
+    requires { ⌜ (count ≤ length (now t)) × (count ≤ 2 ^ 32) × Below (length (now w)) (take count (now t)) ⌝ }
+    ensures { λ r. ⌜ Gathered (now (t .exit)) r (keep (counts (now (w .entry))) (take count (now (t .entry)))) × (r ≤ count) ⌝ }
+{
+    let mut r: usize = 0;
+    for k in 0..count {
+        let j = t[k];
+        t[r] = j;
+        r = advance(w, wide(j), r);
+    }
+    r
+}
