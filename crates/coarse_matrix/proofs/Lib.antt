@@ -1,0 +1,6 @@
+pub mod Scattered
+pub mod Squares
+pub mod Checks
+pub mod Marking
+pub mod Weighing
+pub mod Product

@@ -1,0 +1,73 @@
+use mathlib.Core.List.{_++_}
+use lib.ListN.{length, drop, getD, length-replicate}
+use Rattle.definitions.specs.Transfer.{coarseColumn}
+use Rattle.averaging.proofs.Lists.{front-length}
+use Rattle.coarse_matrix.proofs.Squares.{constant-law}
+use Prim.Native.Nat.{ℕ, suc, _+_, _*_, _/_, _<_, _≤_, _-_}
+use mathlib.Core.Path.{_≡_, refl, ap, sym, _∙_}
+use native.Mathlib.Omega.{arith}
+use borrow.Author.Needs.{needs}
+use Rattle.coarse_matrix.proofs.constant.constant_into.Statement.{statement}
+use Rattle.coarse_matrix.proofs.constant.constant_into.Tie as tie
+use Rattle.coarse_matrix.proofs.constant.constant_into.Reads as reads
+use Rattle.coarse_matrix.proofs.constant.constant_into.Lts as lts
+use Rattle.averaging.proofs.average.Reads as average-reads
+use Rattle.coarse_matrix.proofs.constant.add_matrix.Reads as add-matrix-reads
+use Rattle.numbers.proofs.zero_floats.Reads as zero-floats-reads
+
+zero-floats-requires : tie.Need-zero-floats-requires
+zero-floats-requires c κs = search needs
+
+mul-square : tie.Need-mul-square
+mul-square c = search needs
+
+mul-add-matrix : tie.Need-mul-add-matrix
+mul-add-matrix c = search needs
+
+sub-add-matrix : tie.Need-sub-add-matrix
+sub-add-matrix c = search needs
+
+part-add-matrix-start : tie.Need-part-add-matrix-start
+part-add-matrix-start c = search needs
+
+part-add-matrix-end : tie.Need-part-add-matrix-end
+part-add-matrix-end c = search needs
+
+add-matrix-requires : tie.Need-add-matrix-requires
+add-matrix-requires c κs =
+    let a = c .before .before .before .before .before .before .before .before .before .before .args in
+    let p = c .before .before .before .before .before .before .before .before .before .before .pre in
+    let z = c .before .before .before .zero-floats in
+    let n : length (z .last .0) ≡ length (a .coarse .now) = ap length (z .ensures) ∙ length-replicate (length (a .coarse .now)) _ in
+    (p .0, (p .1 .0, omega (arith, front-length (z .last .0) (a .c * a .c) (omega (arith, n, p .1 .1)))))
+
+average-requires : tie.Need-average-requires
+average-requires c κs = search needs
+
+same-length : tie.Need-same-length
+same-length c = search needs
+
+returns : tie.Need-returns
+returns c =
+    let a = c .before .before .before .before .before .before .before .before .before .before .before .before .before .before .before .before .before .args in
+    let p = c .before .before .before .before .before .before .before .before .before .before .before .before .before .before .before .before .before .pre in
+    let z = c .before .before .before .before .before .before .before .before .before .before .zero-floats in
+    let m = c .before .before .before .before .before .before .add-matrix in
+    constant-law (a .n) (a .c) (a .ptr .now) (a .idx .now) (a .vals .now) (coarseColumn (a .size) (a .ids .now)) (λ k h. p .1 .0 .within (getD (a .idx .now) k 0) (p .0 .within k h))
+    (a .coarse .now) (z .last .0) (m .last .1 .1 .1 .1 .1 .1 .1 .0) (m .last .1 .1 .1 .1 .1 .1 .1 .0 ++ drop (a .c * a .c - 0) (z .last .0)) (c .before .before .average .last .1 .0) (p .1 .0 .small) (p .1 .1)
+    (z .ensures) (m .ensures) refl (c .before .before .average .ensures)
+
+pub constant-into-spec : {M : Type 1} → statement M
+constant-into-spec =
+    tie.close
+    (tie.spec
+    zero-floats-requires
+    mul-square
+    mul-add-matrix
+    sub-add-matrix
+    part-add-matrix-start
+    part-add-matrix-end
+    add-matrix-requires
+    average-requires
+    same-length
+    returns)

@@ -1,0 +1,3 @@
+pub mod Scatter
+pub mod Calls
+pub mod Galerkin

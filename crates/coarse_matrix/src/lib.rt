@@ -1,0 +1,214 @@
+// The coarse matrix, by the basis that is constant over a group and by the smoothed one.
+use csr32::column_outside;
+use csr32::pointer_falls;
+use csr32::validate;
+use definitions::Answer;
+use definitions::Refusal;
+ghost use mathlib.Core.Path.{_≡_};
+ghost use mathlib.Core.Bool.{true};
+ghost use Prim.Native.Nat.{_≤_};
+ghost use lib.ListN.{length};
+ghost use Rattle.definitions.specs.Numbers.{zeroᶠ};
+ghost use Rattle.definitions.specs.Matrix.{csr};
+ghost use Rattle.definitions.specs.Answers.{answerOf};
+ghost use Rattle.definitions.specs.declared.Answer.the-variants.{Accepted};
+ghost use Rattle.coarse_matrix.specs.Calls.{resultOrKept, constantChecks, constantCoarseCall, ConstantFacts, transferFits, galerkinChecks, galerkinCoarseCall, workOrKept, GalerkinFacts};
+ghost use Rattle.coarse_matrix.specs.Scatter.{Walk};
+
+mod constant;
+mod galerkin;
+
+// The checks that follow those of the matrix.
+fn constant_checks(
+    rows: usize,
+    cols: usize,
+    size: usize,
+    ids: &[u32],
+    groups: usize,
+    lent: usize,
+) -> Answer
+    ensures { λ r. ⌜ (r ≡ answerOf (constantChecks rows cols size (now (ids .entry)) groups lent)) × (r ≡ Accepted → ConstantFacts rows cols size (now (ids .entry)) groups lent) ⌝ }
+{
+    if rows != cols {
+        return Answer::Refused(Refusal::NotSquare);
+    }
+    if size == 0 {
+        return Answer::Refused(Refusal::BlockSize);
+    }
+    if 8 < size {
+        return Answer::Refused(Refusal::BlockSize);
+    }
+    if rows % size != 0 {
+        return Answer::Refused(Refusal::NotMultiple);
+    }
+    let nodes = rows / size;
+    if nodes < groups {
+        return Answer::Refused(Refusal::SetupMisfit);
+    }
+    let c = groups * size;
+    if 2048 < c {
+        return Answer::Refused(Refusal::CoarseTooLarge(c as u64));
+    }
+    if ids.len() != nodes {
+        return Answer::Refused(Refusal::SetupMisfit);
+    }
+    if column_outside(ids, groups) {
+        return Answer::Refused(Refusal::SetupMisfit);
+    }
+    if lent < c * c {
+        return Answer::Refused(Refusal::ListTooShort);
+    }
+    Answer::Accepted
+}
+
+// The coarse matrix of the basis that is constant over a group, averaged with its transpose, with zeros after it.
+pub fn constant_coarse(
+    rows: usize,
+    cols: usize,
+    row_ptr: &[u32],
+    col_idx: &[u32],
+    values: &[f64],
+    block_size: usize,
+    ids: &[u32],
+    groups: usize,
+    coarse: &mut [f64],
+) -> Answer
+    ensures { λ r. ⌜ (r ≡ answerOf (constantCoarseCall (csr rows cols (now («row_ptr» .entry)) (now («col_idx» .entry)) (now (values .entry))) «block_size» (now (ids .entry)) groups (length (now (coarse .entry))))) × (now (coarse .exit) ≡ resultOrKept zeroᶠ (constantCoarseCall (csr rows cols (now («row_ptr» .entry)) (now («col_idx» .entry)) (now (values .entry))) «block_size» (now (ids .entry)) groups (length (now (coarse .entry)))) (now (coarse .entry))) ⌝ }
+{
+    let valid = validate(rows, cols, row_ptr, col_idx, values);
+    match valid {
+        Answer::Refused(cause) => Answer::Refused(cause),
+        Answer::Accepted => {
+            let checked = constant_checks(rows, cols, block_size, ids, groups, coarse.len());
+            match checked {
+                Answer::Refused(cause) => Answer::Refused(cause),
+                Answer::Accepted => {
+                    constant::constant_into(
+                        row_ptr,
+                        col_idx,
+                        values,
+                        ids,
+                        block_size,
+                        rows,
+                        groups * block_size,
+                        coarse,
+                    );
+                    Answer::Accepted
+                }
+            }
+        }
+    }
+}
+
+// Whether the transfer is compressed rows with columns below c.
+fn transfer_fits(rows: usize, c: usize, ptr: &[u32], idx: &[u32], count: usize) -> bool
+    requires { ⌜ rows ≤ 1048576 ⌝ }
+    ensures { λ r. ⌜ (r ≡ transferFits rows c (now (ptr .entry)) (now (idx .entry)) count) × (r ≡ true → Walk rows c (now (ptr .entry)) (now (idx .entry)) count) ⌝ }
+{
+    if ptr.len() != rows + 1 {
+        return false;
+    }
+    if idx.len() != count {
+        return false;
+    }
+    let first = constant::wide(ptr[0]);
+    if first != 0 {
+        return false;
+    }
+    let last = constant::wide(ptr[rows]);
+    if last != count {
+        return false;
+    }
+    if pointer_falls(ptr) {
+        return false;
+    }
+    if column_outside(idx, c) {
+        return false;
+    }
+    true
+}
+
+// The checks that follow those of the matrix.
+fn galerkin_checks(
+    rows: usize,
+    cols: usize,
+    c: usize,
+    ptr: &[u32],
+    idx: &[u32],
+    count: usize,
+    ints: usize,
+    floats: usize,
+) -> Answer
+    requires { ⌜ rows ≤ 1048576 ⌝ }
+    ensures { λ r. ⌜ (r ≡ answerOf (galerkinChecks rows cols c (now (ptr .entry)) (now (idx .entry)) count ints floats)) × (r ≡ Accepted → GalerkinFacts rows cols c (now (ptr .entry)) (now (idx .entry)) count ints floats) ⌝ }
+{
+    if rows != cols {
+        return Answer::Refused(Refusal::NotSquare);
+    }
+    if 2048 < c {
+        return Answer::Refused(Refusal::CoarseTooLarge(c as u64));
+    }
+    if transfer_fits(rows, c, ptr, idx, count) {
+        if ints < 2 * c {
+            return Answer::Refused(Refusal::ListTooShort);
+        }
+        if floats < c * c + c {
+            return Answer::Refused(Refusal::ListTooShort);
+        }
+        Answer::Accepted
+    } else {
+        Answer::Refused(Refusal::SetupMisfit)
+    }
+}
+
+// The coarse matrix of the smoothed basis, averaged with its transpose, with zeros after it; the integers are work, left zero.
+pub fn galerkin_coarse(
+    rows: usize,
+    cols: usize,
+    row_ptr: &[u32],
+    col_idx: &[u32],
+    values: &[f64],
+    c: usize,
+    transfer_ptr: &[u32],
+    transfer_idx: &[u32],
+    weights: &[f64],
+    ints: &mut [u32],
+    floats: &mut [f64],
+) -> Answer
+    ensures { λ r. ⌜ (r ≡ answerOf (galerkinCoarseCall (csr rows cols (now («row_ptr» .entry)) (now («col_idx» .entry)) (now (values .entry))) c (now («transfer_ptr» .entry)) (now («transfer_idx» .entry)) (now (weights .entry)) (length (now (ints .entry))) (length (now (floats .entry))))) × (now (ints .exit) ≡ workOrKept 0 (galerkinCoarseCall (csr rows cols (now («row_ptr» .entry)) (now («col_idx» .entry)) (now (values .entry))) c (now («transfer_ptr» .entry)) (now («transfer_idx» .entry)) (now (weights .entry)) (length (now (ints .entry))) (length (now (floats .entry)))) (now (ints .entry))) × (now (floats .exit) ≡ resultOrKept zeroᶠ (galerkinCoarseCall (csr rows cols (now («row_ptr» .entry)) (now («col_idx» .entry)) (now (values .entry))) c (now («transfer_ptr» .entry)) (now («transfer_idx» .entry)) (now (weights .entry)) (length (now (ints .entry))) (length (now (floats .entry)))) (now (floats .entry))) ⌝ }
+{
+    let valid = validate(rows, cols, row_ptr, col_idx, values);
+    match valid {
+        Answer::Refused(cause) => Answer::Refused(cause),
+        Answer::Accepted => {
+            let checked = galerkin_checks(
+                rows,
+                cols,
+                c,
+                transfer_ptr,
+                transfer_idx,
+                weights.len(),
+                ints.len(),
+                floats.len(),
+            );
+            match checked {
+                Answer::Refused(cause) => Answer::Refused(cause),
+                Answer::Accepted => {
+                    galerkin::galerkin_into(
+                        row_ptr,
+                        col_idx,
+                        values,
+                        rows,
+                        transfer_ptr,
+                        transfer_idx,
+                        weights,
+                        c,
+                        ints,
+                        floats,
+                    );
+                    Answer::Accepted
+                }
+            }
+        }
+    }
+}
