@@ -1,0 +1,112 @@
+-- The rows of the inverse, one after the other in a list.
+use Prim.Native.Nat.{ℕ, zero, suc, _+_, _-_, _*_, _<_, _≤_}
+use mathlib.Core.Path.{_≡_, refl, ap, sym, _∙_}
+use mathlib.Core.Bool.{true, false, cond}
+use mathlib.Core.List.{List, [], _∷_, _++_, flatMap, append-nil, append-assoc}
+use native.Mathlib.Omega.{arith}
+use native.Mathlib.Numerals.{add-one}
+use native.Mathlib.Decide.{ℕ-discrete}
+use lib.Dec.{eqb}
+use lib.ListN.{length, getD, set, take, drop, replicate, length-set, length-replicate, getD-replicate, length-append, length-drop}
+use lib.Seq.{getD-set-same, getD-set-other, take-at, drop-at, drop-drop, length-take-le, take-all, drop-append-add}
+use lib.Ieee.{Float, nan}
+use borrow.Author.Tests.{eq-eqb, ne-eqb}
+use Rattle.definitions.specs.Lists.{tab, upTo, padded}
+use Rattle.definitions.specs.Numbers.{zeroᶠ, oneᶠ}
+use Rattle.definitions.specs.Coarse.{packedSolve, unit, inverseOf, averagedSquare}
+use Rattle.averaging.proofs.Lists.{tab-is, tab-snoc, length-tab, tail-zeros}
+use Rattle.averaging.specs.Averaging.{averagedIn}
+use Rattle.averaging.proofs.Laws.{average-fits, length-averaged}
+use Rattle.coarse_factor.specs.Stored.{solvedRows}
+use Rattle.coarse_factor.specs.Lanes.{fourSolved}
+use Rattle.coarse_factor.proofs.Products.{length-solve}
+
+pub unit-law : (y z : List Float) (i : ℕ) → i < length y → z ≡ replicate (length y) zeroᶠ → set z i oneᶠ ≡ unit (length y) i
+unfolding unit
+unit-law y z i h ez = rw ez (tab-is nan (set (replicate n zeroᶠ) i oneᶠ) (λ j. cond (eqb j i) oneᶠ zeroᶠ) n (length-set (replicate n zeroᶠ) i oneᶠ ∙ length-replicate n zeroᶠ) (λ j q. step j q (ℕ-discrete j i)))
+  where
+    n : ℕ
+    n = length y
+
+    step : (j : ℕ) → j < n → Dec (j ≡ i) → getD (set (replicate n zeroᶠ) i oneᶠ) j nan ≡ cond (eqb j i) oneᶠ zeroᶠ
+    step j q (yes e) = rw (e, eq-eqb i i refl) (getD-set-same (replicate n zeroᶠ) i oneᶠ nan (rw (length-replicate n zeroᶠ) h))
+    step j q (no d) = rw (ne-eqb j i d) (getD-set-other (replicate n zeroᶠ) i j oneᶠ nan d ∙ getD-replicate n j zeroᶠ nan q)
+
+pub length-unit : (c i : ℕ) → length (unit c i) ≡ c
+unfolding unit
+length-unit c i = length-tab (λ j. cond (eqb j i) oneᶠ zeroᶠ) c
+
+flatMap-snoc : {A B : Type 0} (f : A → List B) (xs : List A) (x : A) → flatMap f (xs ++ (x ∷ [])) ≡ flatMap f xs ++ f x
+unfolding flatMap
+flatMap-snoc f [] x = append-nil (f x)
+flatMap-snoc f (y ∷ ys) x = rw (flatMap-snoc f ys x) (sym (append-assoc (f y) (flatMap f ys) (f x)))
+
+module _ (c : ℕ) (l : List Float) where
+  pub solved-none : (w : List Float) → w ≡ solvedRows c l 0 ++ drop (0 * c) w
+  unfolding solvedRows upTo tab flatMap
+  solved-none w = let z : 0 * c ≡ 0 = omega arith in rw z
+
+  pub solved-snoc : (i : ℕ) → solvedRows c l (suc i) ≡ solvedRows c l i ++ packedSolve c l (unit c i)
+  unfolding solvedRows upTo
+  solved-snoc i = rw (tab-snoc (λ k. k) i) (flatMap-snoc (λ k. packedSolve c l (unit c k)) (tab (λ k. k) i) i)
+
+  pub length-solved : (i : ℕ) → length (solvedRows c l i) ≡ i * c
+  unfolding solvedRows upTo tab flatMap
+  length-solved zero = omega arith
+  length-solved (suc i) = ap length (solved-snoc i) ∙ length-append (solvedRows c l i) (packedSolve c l (unit c i)) ∙ rw (length-solved i, length-solve c l (unit c i)) (omega arith)
+
+  -- a row more, put in place of what lay there
+  pub solved-more : (w u r : List Float) (i from to : ℕ) → from ≡ i * c → to ≡ from + c → (i + 1) * c ≤ length u → u ≡ solvedRows c l i ++ drop (i * c) w
+      → r ≡ packedSolve (length (take (to - from) (drop from u))) l (unit (length (take (to - from) (drop from u))) i)
+      → take from u ++ (r ++ drop (to - from) (drop from u)) ≡ solvedRows c l (i + 1) ++ drop ((i + 1) * c) w
+  solved-more w u r i from to ef et h eu er =
+      let k : to - from ≡ c = omega arith in
+      let n : length (take c (drop (i * c) u)) ≡ c = length-take-le c (drop (i * c) u) (rw (length-drop (i * c) u) (omega arith)) in
+      let t : take (i * c) u ≡ solvedRows c l i = rw eu (take-at (solvedRows c l i) (drop (i * c) w) (i * c) (length-solved i)) in
+      let d : drop (i * c) u ≡ drop (i * c) w = rw eu (drop-at (solvedRows c l i) (drop (i * c) w) (i * c) (length-solved i)) in
+      let s : (i + 1) * c ≡ i * c + c = omega arith in
+      let r′ : r ≡ packedSolve c l (unit c i) = er ∙ rw (k, ef, n) in
+      rw (k, ef, t, d, drop-drop c (i * c) w, r′, s, add-one, solved-snoc i) (sym (append-assoc (solvedRows c l i) (packedSolve c l (unit c i)) (drop (i * c + c) w)))
+
+module _ (c : ℕ) (l : List Float) where
+  rows-four : (i : ℕ) → solvedRows c l (i + 4) ≡ solvedRows c l i ++ fourSolved l c i
+  rows-four i =
+      let n4 : i + 4 ≡ suc (suc (suc (suc i))) = omega arith in
+      let m1 : i + 1 ≡ suc i = omega arith in
+      let m2 : i + 2 ≡ suc (suc i) = omega arith in
+      let m3 : i + 3 ≡ suc (suc (suc i)) = omega arith in
+      rw (n4, solved-snoc c l (suc (suc (suc i))), solved-snoc c l (suc (suc i)), solved-snoc c l (suc i), solved-snoc c l i, m1, m2, m3) (simp append-assoc)
+
+  -- four rows more, put in place of what lay there
+  pub solved-four : (w u r : List Float) (i from to : ℕ) → from ≡ i * c → to ≡ from + (c + c + c + c) → u ≡ solvedRows c l i ++ drop (i * c) w → r ≡ fourSolved l c i
+      → take from u ++ (r ++ drop (to - from) (drop from u)) ≡ solvedRows c l (i + 4) ++ drop ((i + 4) * c) w
+  solved-four w u r i from to ef et eu er =
+      let k : to - from ≡ c + c + c + c = omega arith in
+      let t : take (i * c) u ≡ solvedRows c l i = rw eu (take-at (solvedRows c l i) (drop (i * c) w) (i * c) (length-solved c l i)) in
+      let d : drop (i * c) u ≡ drop (i * c) w = rw eu (drop-at (solvedRows c l i) (drop (i * c) w) (i * c) (length-solved c l i)) in
+      let s : (i + 4) * c ≡ i * c + (c + c + c + c) = omega arith in
+      rw (k, ef, t, d, drop-drop (c + c + c + c) (i * c) w, er, s, rows-four i) (sym (append-assoc (solvedRows c l i) (fourSolved l c i) (drop (i * c + (c + c + c + c)) w)))
+
+pub length-four : (l : List Float) (c i : ℕ) → length (fourSolved l c i) ≡ c + c + c + c
+length-four l c i = simp (length-append, length-solve) (omega arith)
+
+-- c elements lent from a place on
+pub row-length : (u : List Float) (from c : ℕ) → from + c ≤ length u → length (take (from + c - from) (drop from u)) ≡ c
+row-length u from c h = let k : from + c - from ≡ c = omega arith in rw k (length-take-le c (drop from u) (rw (length-drop from u) (omega arith)))
+
+-- all rows, averaged, and zeros after them
+pub invert-law : (c : ℕ) (l w u v z : List Float) → c ≤ 2_048 → c * c ≤ length w → u ≡ solvedRows c l c ++ drop (c * c) w → v ≡ averagedIn c u
+    → z ≡ replicate (length (take (length v - c * c) (drop (c * c) v))) zeroᶠ
+    → take (c * c) v ++ (z ++ drop (length v - c * c) (drop (c * c) v)) ≡ padded zeroᶠ (length w) (inverseOf c l)
+unfolding padded inverseOf solvedRows
+invert-law c l w u v z h k eu ev ez =
+    let s = flatMap (λ i. packedSolve c l (unit c i)) (upTo c) in
+    let ns : length s ≡ c * c = length-solved c l c in
+    let nu : length u ≡ length w = ap length eu ∙ length-append s (drop (c * c) w) ∙ rw (ns, length-drop (c * c) w) (omega arith) in
+    let ku : c * c ≤ length u = omega arith in
+    let t : take (c * c) u ≡ s = rw eu (take-at s (drop (c * c) w) (c * c) ns) in
+    let ev′ : v ≡ averagedSquare c s ++ drop (c * c) u = ev ∙ average-fits c u h ku ∙ rw t in
+    let nv : length v ≡ length w = ap length ev′ ∙ length-append (averagedSquare c s) (drop (c * c) u) ∙ rw (length-averaged c s, length-drop (c * c) u, nu) (omega arith) in
+    let tv : take (c * c) v ≡ averagedSquare c s = rw ev′ (take-at (averagedSquare c s) (drop (c * c) u) (c * c) (length-averaged c s)) in
+    let kv : c * c ≤ length v = omega arith in
+    tail-zeros (c * c) v z zeroᶠ kv ez ∙ rw (tv, nv, length-averaged c s)

@@ -1,0 +1,155 @@
+use lib.ListN.{length, getD, length-set}
+use Rattle.definitions.specs.Factor.{leftOf}
+use Rattle.definitions.specs.Coarse.{packed, packedLength, entryIn}
+use Rattle.averaging.proofs.Places.{place}
+use Rattle.coarse_factor.proofs.Packed.{tri-row}
+use Rattle.coarse_factor.proofs.Cholesky.{left-none, length-left}
+use Rattle.coarse_factor.proofs.Columns.{Rows4, rows4, fours-more}
+use Prim.Native.Nat.{ℕ, suc, _+_, _*_, _/_, _<_, _≤_, _-_}
+use mathlib.Core.Path.{_≡_, refl, ap, sym, _∙_}
+use native.Mathlib.Omega.{arith}
+use borrow.Author.Needs.{needs}
+use Rattle.coarse_factor.proofs.factor.fill_fours.Statement.{statement}
+use Rattle.coarse_factor.proofs.factor.fill_fours.Tie as tie
+use Rattle.coarse_factor.proofs.factor.fill_fours.Reads as reads
+use Rattle.coarse_factor.proofs.factor.fill_fours.Lts as lts
+use Rattle.coarse_factor.proofs.factor.four_at.Reads as four-at-reads
+use Rattle.coarse_factor.proofs.factor.put_four.Reads as put-four-reads
+use Rattle.coarse_factor.proofs.factor.rest_four.Reads as rest-four-reads
+use Rattle.coarse_factor.proofs.factor.solved_four.Reads as solved-four-reads
+
+abbrev Inv-loop : tie.InvT-loop
+Inv-loop m l₀ c i start base row₀ j₀ l row j = (j ≤ i) × (row ≡ packedLength j) × (length l ≡ length l₀) × (l ≡ leftOf packed (entryIn m c) i j l₀)
+
+abbrev μ-loop : tie.MeasureT-loop
+μ-loop m l₀ c i start base row₀ j₀ l row j = i - j
+
+room : (c : tie.In-loop Inv-loop μ-loop) → (length (c .before .loop .l) ≡ length (c .before .before .before .before .args .l .now)) × Rows4 (c .before .before .before .before .args .c) (c .before .before .before .before .args .i) (c .before .loop .j) (c .before .before .before .before .args .start) (c .before .loop .row) × (packedLength (c .before .before .before .before .args .i) + suc (c .before .before .before .before .args .i) ≤ length (c .before .loop .l)) × (length (c .before .before .before .before .args .l .now) ≡ packedLength (c .before .before .before .before .args .c)) × (length (c .before .before .before .before .args .m .now) ≡ c .before .before .before .before .args .c * c .before .before .before .before .args .c)
+room c =
+    let a = c .before .before .before .before .args in
+    let p = c .before .before .before .before .pre in
+    let o = c .before .loop in
+    (o .inv .2, rows4 (a .c) (a .i) (o .j) (a .start) (o .row) (p .0) (omega arith) (p .3) (o .inv .1), rw (o .inv .2 ∙ p .2) (tri-row (a .i) (a .c) (p .0)), p .2, p .1)
+
+mul-base : tie.Need-mul-base Inv-loop μ-loop
+mul-base c = omega (arith, place (c .before .before .args .i) 0 (c .before .before .args .c) (c .before .before .args .c) (omega arith) (omega arith))
+
+loop-holds : tie.Need-loop-holds Inv-loop μ-loop
+loop-holds c = (omega arith, refl, refl, left-none (entryIn (c .before .before .args .m .now) (c .before .before .args .c)) (c .before .before .args .i) (c .before .before .args .l .now))
+
+add-loop : tie.Need-add-loop Inv-loop μ-loop
+add-loop c = omega arith
+
+add-second : tie.Need-add-second Inv-loop μ-loop
+add-second c = omega (arith, room c)
+
+add-second-2 : tie.Need-add-second-2 Inv-loop μ-loop
+add-second-2 c = omega (arith, room c)
+
+add-third : tie.Need-add-third Inv-loop μ-loop
+add-third c = omega (arith, room c)
+
+add-third-2 : tie.Need-add-third-2 Inv-loop μ-loop
+add-third-2 c = omega (arith, room c)
+
+add-fourth : tie.Need-add-fourth Inv-loop μ-loop
+add-fourth c = omega (arith, room c)
+
+add-fourth-2 : tie.Need-add-fourth-2 Inv-loop μ-loop
+add-fourth-2 c = omega (arith, room c)
+
+add-four-at : tie.Need-add-four-at Inv-loop μ-loop
+add-four-at c = omega (arith, room c)
+
+four-at-requires : tie.Need-four-at-requires Inv-loop μ-loop
+four-at-requires c κs = omega (arith, room c)
+
+rest-four-requires : tie.Need-rest-four-requires Inv-loop μ-loop
+rest-four-requires c κs = let f = room (c .before .before) in (omega arith, omega arith, omega arith, omega arith, omega arith)
+
+add-solved-four : tie.Need-add-solved-four Inv-loop μ-loop
+add-solved-four c = omega (arith, room (c .before .before .before .before))
+
+add-solved-four-2 : tie.Need-add-solved-four-2 Inv-loop μ-loop
+add-solved-four-2 c = omega (arith, room (c .before .before .before .before))
+
+add-solved-four-3 : tie.Need-add-solved-four-3 Inv-loop μ-loop
+add-solved-four-3 c = omega (arith, room (c .before .before .before .before))
+
+add-solved-four-4 : tie.Need-add-solved-four-4 Inv-loop μ-loop
+add-solved-four-4 c = omega (arith, room (c .before .before .before .before))
+
+solved-four-requires : tie.Need-solved-four-requires Inv-loop μ-loop
+solved-four-requires c κs = let f = room (c .before .before .before .before) in (omega arith, omega arith, omega arith, omega arith)
+
+add-put-four : tie.Need-add-put-four Inv-loop μ-loop
+add-put-four c = omega (arith, room (c .before .before .before .before .before .before))
+
+put-four-requires : tie.Need-put-four-requires Inv-loop μ-loop
+put-four-requires c κs = omega (arith, room (c .before .before .before .before .before .before))
+
+add-row : tie.Need-add-row Inv-loop μ-loop
+add-row c = omega (arith, room (c .before .before .before .before .before .before .before .before .before))
+
+add-row-2 : tie.Need-add-row-2 Inv-loop μ-loop
+add-row-2 c = omega (arith, room (c .before .before .before .before .before .before .before .before .before))
+
+add-j : tie.Need-add-j Inv-loop μ-loop
+add-j c = omega (arith, room (c .before .before .before .before .before .before .before .before .before))
+
+loop-less : tie.Need-loop-less Inv-loop μ-loop
+loop-less c = omega arith
+
+loop-again : tie.Need-loop-again Inv-loop μ-loop
+loop-again c =
+    let a = c .before .before .before .before .before .before .before .before .before .before .before .before .before .args in
+    let p = c .before .before .before .before .before .before .before .before .before .before .before .before .before .pre in
+    let o = c .before .before .before .before .before .before .before .before .before .before .loop in
+    let f = room (c .before .before .before .before .before .before .before .before .before) .1 in
+    let r = c .before .before .put-four .last .0 in (
+      omega arith,
+      f .next,
+      ap length (c .before .before .put-four .ensures) ∙ simp length-set (o .inv .2),
+      fours-more (a .m .now) (a .c) (a .i) (o .j) (a .l .now) (o .l) (a .start) (o .row) (o .row + o .j + 1) (o .row + o .j + 1 + o .j + 2) (o .row + o .j + 1 + o .j + 2 + o .j + 3)
+          (c .before .before .before .before .before .before .before .before .four-at .result) (c .before .before .before .before .before .before .rest-four .result) (c .before .before .before .before .solved-four .result) (omega arith) (room (c .before .before .before .before .before .before .before .before .before) .2) (p .3) (o .inv .1) (f .second) (f .third) (f .fourth)
+          (o .inv .3) (c .before .before .before .before .before .before .before .before .four-at .ensures) (c .before .before .before .before .before .before .rest-four .ensures) (c .before .before .before .before .solved-four .ensures) r (c .before .before .put-four .ensures),
+    )
+
+same-length : tie.Need-same-length Inv-loop μ-loop
+same-length c = c .before .loop .inv .2
+
+returns : tie.Need-returns Inv-loop μ-loop
+returns c = (omega arith, c .before .loop .inv .3)
+
+pub fill-fours-spec : {M : Type 1} → statement M
+fill-fours-spec =
+    tie.close
+    (tie.spec
+    Inv-loop
+    μ-loop
+    mul-base
+    loop-holds
+    add-loop
+    add-second
+    add-second-2
+    add-third
+    add-third-2
+    add-fourth
+    add-fourth-2
+    add-four-at
+    four-at-requires
+    rest-four-requires
+    add-solved-four
+    add-solved-four-2
+    add-solved-four-3
+    add-solved-four-4
+    solved-four-requires
+    add-put-four
+    put-four-requires
+    add-row
+    add-row-2
+    add-j
+    loop-less
+    loop-again
+    same-length
+    returns)

@@ -1,0 +1,133 @@
+use Prim.Native.Nat.{ℕ, suc, _+_, _*_, _/_, _<_, _≤_, _-_}
+use mathlib.Core.Path.{_≡_, refl, ap, sym, _∙_}
+use mathlib.Core.List.{List}
+use lib.ListN.{length, getD, length-set}
+use lib.Ieee.{Float, nan}
+use Rattle.definitions.specs.Factor.{leftOf}
+use Rattle.definitions.specs.Coarse.{packed, packedLength, entryIn}
+use Rattle.averaging.proofs.Places.{place}
+use Rattle.coarse_factor.proofs.Packed.{tri-next}
+use Rattle.coarse_factor.proofs.Cholesky.{left-more, fill-room, triangle-small}
+use native.Mathlib.Omega.{arith}
+use borrow.Author.Needs.{needs}
+use Rattle.coarse_factor.proofs.factor.fill_rest.Statement.{statement}
+use Rattle.coarse_factor.proofs.factor.fill_rest.Tie as tie
+use Rattle.coarse_factor.proofs.factor.fill_rest.Reads as reads
+use Rattle.coarse_factor.proofs.factor.fill_rest.Lts as lts
+use Rattle.coarse_factor.proofs.factor.rest.Reads as rest-reads
+
+abbrev Inv-loop : tie.InvT-loop
+Inv-loop m l₀ c i start from base row₀ j₀ l row j = (j ≤ i) × (length l ≡ length l₀) × (row ≡ packedLength j) × ((k : List Float) → l₀ ≡ leftOf packed (entryIn m c) i from k → l ≡ leftOf packed (entryIn m c) i j k)
+
+abbrev μ-loop : tie.MeasureT-loop
+μ-loop m l₀ c i start from base row₀ j₀ l row j = i - j
+
+-- the rows read lie before the row written, and that within the list
+room : (c : tie.In-loop Inv-loop μ-loop) → (c .before .loop .row + suc (c .before .loop .j) ≤ c .before .before .before .before .args .start) × (c .before .before .before .before .args .start + suc (c .before .before .before .before .args .i) ≤ length (c .before .before .before .before .args .l .now)) × (c .before .before .before .before .args .i * c .before .before .before .before .args .c + c .before .loop .j < length (c .before .before .before .before .args .m .now)) × (length (c .before .loop .l) ≡ length (c .before .before .before .before .args .l .now))
+room c =
+    let a = c .before .before .before .before .args in
+    let p = c .before .before .before .before .pre in
+    let l = c .before .loop in
+    let f = fill-room (a .c) (a .i) (l .j) (a .start) (l .row) (p .0) (omega arith) (p .4) (l .inv .2) in
+    (f .0, rw (p .3) (f .1), rw (p .2) (f .2), l .inv .1)
+
+mul-base : tie.Need-mul-base Inv-loop μ-loop
+mul-base c = omega (arith, place (c .before .before .args .i) 0 (c .before .before .args .c) (c .before .before .args .c) (omega arith) (omega arith))
+
+add-row : tie.Need-add-row Inv-loop μ-loop
+add-row c = search needs
+
+mul-row : tie.Need-mul-row Inv-loop μ-loop
+mul-row c = omega (arith, triangle-small (c .before .before .args .from) (omega arith))
+
+loop-holds : tie.Need-loop-holds Inv-loop μ-loop
+loop-holds c = (omega arith, refl, refl, λ k e. e)
+
+add-rest : tie.Need-add-rest Inv-loop μ-loop
+add-rest c = omega (arith, room (c .before))
+
+mul-rest : tie.Need-mul-rest Inv-loop μ-loop
+mul-rest c = omega (arith, room (c .before))
+
+shared-slice-read-rest : tie.Need-shared-slice-read-rest Inv-loop μ-loop
+shared-slice-read-rest c = omega (arith, room (c .before .before))
+
+rest-requires : tie.Need-rest-requires Inv-loop μ-loop
+rest-requires c κs = (omega (arith, room (c .before .before)), omega (arith, room (c .before .before)))
+
+add-l : tie.Need-add-l Inv-loop μ-loop
+add-l c = omega (arith, room (c .before .before .before))
+
+mul-l : tie.Need-mul-l Inv-loop μ-loop
+mul-l c = omega (arith, room (c .before .before .before))
+
+slice-read-l : tie.Need-slice-read-l Inv-loop μ-loop
+slice-read-l c = omega (arith, room (c .before .before .before .before))
+
+add-l-2 : tie.Need-add-l-2 Inv-loop μ-loop
+add-l-2 c = omega (arith, room (c .before .before .before .before))
+
+mul-l-2 : tie.Need-mul-l-2 Inv-loop μ-loop
+mul-l-2 c = omega (arith, room (c .before .before .before .before))
+
+slice-write-l : tie.Need-slice-write-l Inv-loop μ-loop
+slice-write-l c = omega (arith, room (c .before .before .before .before))
+
+add-row-2 : tie.Need-add-row-2 Inv-loop μ-loop
+add-row-2 c = omega (arith, room (c .before .before .before .before))
+
+add-row-3 : tie.Need-add-row-3 Inv-loop μ-loop
+add-row-3 c = omega (arith, room (c .before .before .before .before))
+
+add-j : tie.Need-add-j Inv-loop μ-loop
+add-j c = search needs
+
+loop-less : tie.Need-loop-less Inv-loop μ-loop
+loop-less c = omega arith
+
+loop-again : tie.Need-loop-again Inv-loop μ-loop
+loop-again c =
+    let a = c .before .before .before .before .before .before .before .before .args in
+    let p = c .before .before .before .before .before .before .before .before .pre in
+    let l = c .before .before .before .before .before .loop in (
+      omega arith,
+      simp length-set (l .inv .1),
+      tri-next (l .row) (l .j) (l .inv .2),
+      λ k e. left-more (a .m .now) (a .c) (a .i) (l .j) k (p .4) (l .inv .2) (l .inv .3 k e) (c .before .rest .ensures),
+    )
+
+same-length : tie.Need-same-length Inv-loop μ-loop
+same-length c = c .before .loop .inv .1
+
+returns : tie.Need-returns Inv-loop μ-loop
+returns c =
+    let e : c .before .loop .j ≡ c .before .before .before .before .args .i = omega arith in
+    (c .before .loop .inv .1, λ k q. rw e at (c .before .loop .inv .3 k q))
+
+pub fill-rest-spec : {M : Type 1} → statement M
+fill-rest-spec =
+    tie.close
+    (tie.spec
+    Inv-loop
+    μ-loop
+    mul-base
+    add-row
+    mul-row
+    loop-holds
+    add-rest
+    mul-rest
+    shared-slice-read-rest
+    rest-requires
+    add-l
+    mul-l
+    slice-read-l
+    add-l-2
+    mul-l-2
+    slice-write-l
+    add-row-2
+    add-row-3
+    add-j
+    loop-less
+    loop-again
+    same-length
+    returns)

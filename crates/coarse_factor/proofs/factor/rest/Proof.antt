@@ -1,0 +1,70 @@
+use Prim.Native.Nat.{ℕ, suc, _+_, _*_, _<_, _≤_, _-_}
+use mathlib.Core.Path.{_≡_, refl, ap, sym, _∙_}
+use lib.ListN.{length, getD}
+use lib.Ieee.{Float, nan}
+use Rattle.definitions.specs.Lists.{tab}
+use Rattle.definitions.specs.Numbers.{reduced, _*ᶠ_}
+use Rattle.coarse_factor.proofs.Cholesky.{reduced-none, reduced-more}
+use native.Mathlib.Omega.{arith}
+use borrow.Author.Needs.{needs}
+use Rattle.coarse_factor.proofs.factor.rest.Statement.{statement}
+use Rattle.coarse_factor.proofs.factor.rest.Tie as tie
+use Rattle.coarse_factor.proofs.factor.rest.Reads as reads
+use Rattle.coarse_factor.proofs.factor.rest.Lts as lts
+
+abbrev Inv-loop : tie.InvT-loop
+Inv-loop l x a b n sum₀ k₀ sum k = (k ≤ n) × (sum ≡ reduced x (tab (λ t. getD l (a + t) nan *ᶠ getD l (b + t) nan) k))
+
+abbrev μ-loop : tie.MeasureT-loop
+μ-loop l x a b n sum₀ k₀ sum k = n - k
+
+loop-holds : tie.Need-loop-holds Inv-loop μ-loop
+loop-holds c = let a = c .args in (omega arith, reduced-none (a .x) (λ t. getD (a .l .now) (a .a + t) nan *ᶠ getD (a .l .now) (a .b + t) nan))
+
+add-sum : tie.Need-add-sum Inv-loop μ-loop
+add-sum c = search needs
+
+mul-sum : tie.Need-mul-sum Inv-loop μ-loop
+mul-sum c = search needs
+
+shared-slice-read-sum : tie.Need-shared-slice-read-sum Inv-loop μ-loop
+shared-slice-read-sum c = search needs
+
+add-sum-2 : tie.Need-add-sum-2 Inv-loop μ-loop
+add-sum-2 c = search needs
+
+mul-sum-2 : tie.Need-mul-sum-2 Inv-loop μ-loop
+mul-sum-2 c = search needs
+
+shared-slice-read-sum-2 : tie.Need-shared-slice-read-sum-2 Inv-loop μ-loop
+shared-slice-read-sum-2 c = search needs
+
+add-k : tie.Need-add-k Inv-loop μ-loop
+add-k c = search needs
+
+loop-less : tie.Need-loop-less Inv-loop μ-loop
+loop-less c = omega arith
+
+loop-again : tie.Need-loop-again Inv-loop μ-loop
+loop-again c = let a = c .before .before .before .before .args in (omega arith, reduced-more (a .x) (λ t. getD (a .l .now) (a .a + t) nan *ᶠ getD (a .l .now) (a .b + t) nan) (c .before .before .before .loop .k) (c .before .before .before .loop .inv .1) refl)
+
+returns : tie.Need-returns Inv-loop μ-loop
+returns c = let e : c .before .loop .k ≡ c .before .before .args .n = omega arith in rw e at (c .before .loop .inv .1)
+
+pub rest-spec : {M : Type 1} → statement M
+rest-spec =
+    tie.close
+    (tie.spec
+    Inv-loop
+    μ-loop
+    loop-holds
+    add-sum
+    mul-sum
+    shared-slice-read-sum
+    add-sum-2
+    mul-sum-2
+    shared-slice-read-sum-2
+    add-k
+    loop-less
+    loop-again
+    returns)

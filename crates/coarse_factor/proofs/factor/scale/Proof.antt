@@ -1,0 +1,62 @@
+use Prim.Native.Nat.{ℕ, suc, _+_, _*_, _<_, _≤_, _-_}
+use mathlib.Core.Path.{_≡_, refl, ap, sym, _∙_}
+use lib.ListN.{length, getD, take}
+use Rattle.definitions.specs.Numbers.{largest}
+use Rattle.coarse_factor.proofs.Cholesky.{largest-none, largest-more, largest-all}
+use native.Mathlib.Omega.{arith}
+use borrow.Author.Needs.{needs}
+use Rattle.coarse_factor.proofs.factor.scale.Statement.{statement}
+use Rattle.coarse_factor.proofs.factor.scale.Tie as tie
+use Rattle.coarse_factor.proofs.factor.scale.Reads as reads
+use Rattle.coarse_factor.proofs.factor.scale.Lts as lts
+use Rattle.numbers.proofs.larger.Reads as larger-reads
+use Rattle.numbers.proofs.magnitude.Reads as magnitude-reads
+
+abbrev Inv-loop : tie.InvT-loop
+Inv-loop m top₀ k₀ k-end top k = (k ≤ k-end) × (k-end ≡ length m) × (top ≡ largest (take k m))
+
+abbrev μ-loop : tie.MeasureT-loop
+μ-loop m top₀ k₀ k-end top k = k-end - k
+
+loop-holds : tie.Need-loop-holds Inv-loop μ-loop
+loop-holds c = (omega arith, refl, largest-none (c .before .args .m .now))
+
+mul-magnitude : tie.Need-mul-magnitude Inv-loop μ-loop
+mul-magnitude c = search needs
+
+shared-slice-read-magnitude : tie.Need-shared-slice-read-magnitude Inv-loop μ-loop
+shared-slice-read-magnitude c = search needs
+
+magnitude-requires : tie.Need-magnitude-requires Inv-loop μ-loop
+magnitude-requires c κs = search needs
+
+larger-requires : tie.Need-larger-requires Inv-loop μ-loop
+larger-requires c κs = search needs
+
+add-k : tie.Need-add-k Inv-loop μ-loop
+add-k c = search needs
+
+loop-less : tie.Need-loop-less Inv-loop μ-loop
+loop-less c = omega arith
+
+loop-again : tie.Need-loop-again Inv-loop μ-loop
+loop-again c = (omega arith, c .before .before .before .before .loop .inv .1, largest-more (c .before .before .before .before .before .before .args .m .now) (c .before .before .before .before .loop .k) (omega arith) (c .before .before .before .before .loop .inv .2) (c .before .magnitude .ensures) (c .larger .ensures))
+
+returns : tie.Need-returns Inv-loop μ-loop
+returns c = largest-all (c .before .before .before .args .m .now) (c .before .loop .k) (omega arith) (c .before .loop .inv .2)
+
+pub scale-spec : {M : Type 1} → statement M
+scale-spec =
+    tie.close
+    (tie.spec
+    Inv-loop
+    μ-loop
+    loop-holds
+    mul-magnitude
+    shared-slice-read-magnitude
+    magnitude-requires
+    larger-requires
+    add-k
+    loop-less
+    loop-again
+    returns)

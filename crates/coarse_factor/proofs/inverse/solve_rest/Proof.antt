@@ -1,0 +1,113 @@
+use mathlib.Core.List.{List, _++_}
+use lib.ListN.{length, take, drop, length-drop}
+use lib.Seq.{length-take-le}
+use lib.Ieee.{Float}
+use native.Mathlib.Nat.{mul-le-mul-right}
+use borrow.Rule.Slice.PartMut.{same-len-mid}
+use Rattle.definitions.specs.Coarse.{packedLength}
+use Rattle.averaging.proofs.Places.{place, next-row, square-small}
+use Rattle.coarse_factor.specs.Stored.{solvedRows}
+use Rattle.coarse_factor.proofs.Rows.{solved-more, row-length, length-unit}
+use Rattle.coarse_factor.proofs.Products.{length-solve}
+use Prim.Native.Nat.{ℕ, suc, _+_, _*_, _/_, _<_, _≤_, _-_}
+use mathlib.Core.Path.{_≡_, refl, ap, sym, _∙_}
+use native.Mathlib.Omega.{arith}
+use borrow.Author.Needs.{needs}
+use Rattle.coarse_factor.proofs.inverse.solve_rest.Statement.{statement}
+use Rattle.coarse_factor.proofs.inverse.solve_rest.Tie as tie
+use Rattle.coarse_factor.proofs.inverse.solve_rest.Reads as reads
+use Rattle.coarse_factor.proofs.inverse.solve_rest.Lts as lts
+use Rattle.coarse_factor.proofs.inverse.unit_solve.Reads as unit-solve-reads
+
+abbrev Inv-loop : tie.InvT-loop
+Inv-loop c lower inverse₀ first from₀ i₀ inverse from i = (i ≤ c) × (from ≡ i * c) × (length inverse ≡ length inverse₀) × ((w : List Float) → inverse₀ ≡ solvedRows c lower first ++ drop (first * c) w → inverse ≡ solvedRows c lower i ++ drop (i * c) w)
+
+abbrev μ-loop : tie.MeasureT-loop
+μ-loop c lower inverse₀ first from₀ i₀ inverse from i = c - i
+
+row-room : (i n : ℕ) → i ≤ n → i * n ≤ n * n
+row-room i n h = mul-le-mul-right n h
+
+room : (c : tie.In-loop Inv-loop μ-loop) → (c .before .loop .from + c .before .before .before .before .args .c ≤ length (c .before .loop .inverse)) × (length (c .before .loop .inverse) ≡ length (c .before .before .before .before .args .inverse .now))
+room c =
+    let a = c .before .before .before .before .args in
+    let o = c .before .loop in
+    let h : o .i < a .c = omega arith in
+    (omega (arith, c .before .before .before .before .pre .1, o .inv .1, o .inv .2, place (o .i) (a .c - 1) (a .c) (a .c) h (omega arith)), o .inv .2)
+
+mul-from : tie.Need-mul-from Inv-loop μ-loop
+mul-from c = omega (arith, row-room (c .before .before .args .first) (c .before .before .args .c) (omega arith))
+
+loop-holds : tie.Need-loop-holds Inv-loop μ-loop
+loop-holds c = (omega arith, refl, refl, λ w e. e)
+
+add-to : tie.Need-add-to Inv-loop μ-loop
+add-to c = omega (arith, room c)
+
+mul-unit-solve : tie.Need-mul-unit-solve Inv-loop μ-loop
+mul-unit-solve c = omega (arith, room c)
+
+sub-unit-solve : tie.Need-sub-unit-solve Inv-loop μ-loop
+sub-unit-solve c = omega (arith, room c)
+
+part-unit-solve-start : tie.Need-part-unit-solve-start Inv-loop μ-loop
+part-unit-solve-start c = omega (arith, room c)
+
+part-unit-solve-end : tie.Need-part-unit-solve-end Inv-loop μ-loop
+part-unit-solve-end c = omega (arith, room c)
+
+unit-solve-requires : tie.Need-unit-solve-requires Inv-loop μ-loop
+unit-solve-requires c κs =
+    let a = c .before .before .before .before .before .args in
+    let p = c .before .before .before .before .before .pre in
+    let o = c .before .before .loop in
+    let n = row-length (o .inverse) (o .from) (a .c) (omega (arith, room (c .before))) in
+    (p .0 ∙ ap (λ t. packedLength t) (sym n), omega (arith, n), omega (arith, n, p .3))
+
+add-i : tie.Need-add-i Inv-loop μ-loop
+add-i c = search needs
+
+loop-less : tie.Need-loop-less Inv-loop μ-loop
+loop-less c = omega arith
+
+loop-again : tie.Need-loop-again Inv-loop μ-loop
+loop-again c =
+    let a = c .before .before .before .before .before .before .before .before .args in
+    let p = c .before .before .before .before .before .before .before .before .pre in
+    let o = c .before .before .before .before .before .loop in
+    let f = room (c .before .before .before .before) in
+    let n = row-length (o .inverse) (o .from) (a .c) (omega (arith, f)) in
+    let u = c .before .before .unit-solve in (
+      omega arith,
+      omega (arith, o .inv .1, next-row (o .i) (a .c)),
+      same-len-mid (o .from) (o .from + a .c - o .from) (o .inverse) (u .last .1 .0) (ap length (u .ensures) ∙ length-solve (length (take (o .from + a .c - o .from) (drop (o .from) (o .inverse)))) (a .lower .now) _) ∙ o .inv .2,
+      λ w e. solved-more (a .c) (a .lower .now) w (o .inverse) (u .last .1 .0) (o .i) (o .from) (o .from + a .c) (o .inv .1) refl (omega (arith, f, o .inv .1, next-row (o .i) (a .c))) (o .inv .3 w e) (u .ensures),
+    )
+
+same-length : tie.Need-same-length Inv-loop μ-loop
+same-length c = c .before .loop .inv .2
+
+returns : tie.Need-returns Inv-loop μ-loop
+returns c =
+    let e : c .before .loop .i ≡ c .before .before .before .before .args .c = omega arith in
+    (c .before .loop .inv .2, λ w q. rw e at (c .before .loop .inv .3 w q))
+
+pub solve-rest-spec : {M : Type 1} → statement M
+solve-rest-spec =
+    tie.close
+    (tie.spec
+    Inv-loop
+    μ-loop
+    mul-from
+    loop-holds
+    add-to
+    mul-unit-solve
+    sub-unit-solve
+    part-unit-solve-start
+    part-unit-solve-end
+    unit-solve-requires
+    add-i
+    loop-less
+    loop-again
+    same-length
+    returns)

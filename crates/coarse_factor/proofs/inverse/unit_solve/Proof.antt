@@ -1,0 +1,37 @@
+use lib.ListN.{length}
+use Rattle.definitions.specs.Coarse.{packedLength, packedSolve}
+use Rattle.coarse_factor.proofs.Cholesky.{triangle-small}
+use Rattle.coarse_factor.proofs.Rows.{length-unit}
+use Prim.Native.Nat.{ℕ, suc, _+_, _*_, _/_, _<_, _≤_, _-_}
+use mathlib.Core.Path.{_≡_, refl, ap, sym, _∙_}
+use native.Mathlib.Omega.{arith}
+use borrow.Author.Needs.{needs}
+use Rattle.coarse_factor.proofs.inverse.unit_solve.Statement.{statement}
+use Rattle.coarse_factor.proofs.inverse.unit_solve.Tie as tie
+use Rattle.coarse_factor.proofs.inverse.unit_solve.Reads as reads
+use Rattle.coarse_factor.proofs.inverse.unit_solve.Lts as lts
+use Rattle.coarse_factor.proofs.inverse.set_unit.Reads as set-unit-reads
+use Rattle.coarse_factor.proofs.solve.solve.Reads as solve-reads
+
+set-unit-requires : tie.Need-set-unit-requires
+set-unit-requires c κs = search needs
+
+solve-requires : tie.Need-solve-requires
+solve-requires c κs =
+    let a = c .before .before .before .before .before .before .before .args in
+    let p = c .before .before .before .before .before .before .before .pre in
+    let n : length (c .before .before .before .set-unit .last .0) ≡ length (a .y .now) = ap length (c .before .before .before .set-unit .ensures) ∙ length-unit (length (a .y .now)) (a .i) in
+    (p .0 ∙ ap (λ t. packedLength t) (sym n), omega (arith, p .0, triangle-small (length (a .y .now)) (p .2)), omega (arith, n, p .2))
+
+same-length : tie.Need-same-length
+same-length c = search needs
+
+returns : tie.Need-returns
+returns c =
+    let a = c .before .before .before .before .before .before .before .before .before .before .args in
+    let s = c .before .before .before .before .before .before .set-unit in
+    let n : length (s .last .0) ≡ length (a .y .now) = ap length (s .ensures) ∙ length-unit (length (a .y .now)) (a .i) in
+    c .before .before .solve .ensures ∙ rw (n, s .ensures)
+
+pub unit-solve-spec : {M : Type 1} → statement M
+unit-solve-spec = tie.close (tie.spec set-unit-requires solve-requires same-length returns)

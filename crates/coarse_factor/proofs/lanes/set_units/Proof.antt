@@ -1,0 +1,102 @@
+use lib.ListN.{length, length-set, length-replicate}
+use Rattle.definitions.specs.Numbers.{zeroᶠ}
+use Rattle.coarse_factor.proofs.Sides.{units4}
+use Prim.Native.Nat.{ℕ, suc, _+_, _*_, _/_, _<_, _≤_, _-_}
+use mathlib.Core.Path.{_≡_, refl, ap, sym, _∙_}
+use native.Mathlib.Omega.{arith}
+use borrow.Author.Needs.{needs}
+use Rattle.coarse_factor.proofs.lanes.set_units.Statement.{statement}
+use Rattle.coarse_factor.proofs.lanes.set_units.Tie as tie
+use Rattle.coarse_factor.proofs.lanes.set_units.Reads as reads
+use Rattle.coarse_factor.proofs.lanes.set_units.Lts as lts
+use Rattle.numbers.proofs.zero_floats.Reads as zero-floats-reads
+
+zeros : (c : tie.After-zero-floats) → length (c .zero-floats .last .0) ≡ length (c .before .before .before .args .w .now)
+zeros c = ap length (c .zero-floats .ensures) ∙ length-replicate (length (c .before .before .before .args .w .now)) zeroᶠ
+
+zero-floats-requires : tie.Need-zero-floats-requires
+zero-floats-requires c κs = search needs
+
+mul-w : tie.Need-mul-w
+mul-w c = omega (arith, zeros (c .before .before))
+
+slice-write-w : tie.Need-slice-write-w
+slice-write-w c = omega (arith, zeros (c .before .before))
+
+add-w : tie.Need-add-w
+add-w c = search needs
+
+add-w-2 : tie.Need-add-w-2
+add-w-2 c = search needs
+
+mul-w-2 : tie.Need-mul-w-2
+mul-w-2 c = omega (arith, zeros (c .before .before))
+
+slice-write-w-2 : tie.Need-slice-write-w-2
+slice-write-w-2 c = simp length-set (omega (arith, zeros (c .before .before)))
+
+add-w-3 : tie.Need-add-w-3
+add-w-3 c = search needs
+
+add-w-4 : tie.Need-add-w-4
+add-w-4 c = search needs
+
+add-w-5 : tie.Need-add-w-5
+add-w-5 c = search needs
+
+mul-w-3 : tie.Need-mul-w-3
+mul-w-3 c = omega (arith, zeros (c .before .before))
+
+slice-write-w-3 : tie.Need-slice-write-w-3
+slice-write-w-3 c = simp length-set (omega (arith, zeros (c .before .before)))
+
+add-w-6 : tie.Need-add-w-6
+add-w-6 c = search needs
+
+add-w-7 : tie.Need-add-w-7
+add-w-7 c = search needs
+
+add-w-8 : tie.Need-add-w-8
+add-w-8 c = search needs
+
+add-w-9 : tie.Need-add-w-9
+add-w-9 c = search needs
+
+mul-w-4 : tie.Need-mul-w-4
+mul-w-4 c = omega (arith, zeros (c .before .before))
+
+slice-write-w-4 : tie.Need-slice-write-w-4
+slice-write-w-4 c = simp length-set (omega (arith, zeros (c .before .before)))
+
+same-length : tie.Need-same-length
+same-length c = simp length-set (zeros (c .before .before))
+
+returns : tie.Need-returns
+returns c =
+    let a = c .before .before .before .before .before .args in
+    (simp length-set (zeros (c .before .before)), units4 (a .c) (a .i) (a .w .now) (c .before .before .zero-floats .last .0) (c .before .before .before .before .before .pre .0) (c .before .before .before .before .before .pre .1) (c .before .before .zero-floats .ensures))
+
+pub set-units-spec : {M : Type 1} → statement M
+set-units-spec =
+    tie.close
+    (tie.spec
+    zero-floats-requires
+    mul-w
+    slice-write-w
+    add-w
+    add-w-2
+    mul-w-2
+    slice-write-w-2
+    add-w-3
+    add-w-4
+    add-w-5
+    mul-w-3
+    slice-write-w-3
+    add-w-6
+    add-w-7
+    add-w-8
+    add-w-9
+    mul-w-4
+    slice-write-w-4
+    same-length
+    returns)

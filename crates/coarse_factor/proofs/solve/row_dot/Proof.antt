@@ -1,0 +1,70 @@
+use lib.ListN.{length, getD}
+use lib.Ieee.{Float, nan}
+use Rattle.definitions.specs.Numbers.{_*ᶠ_, _+ᶠ_}
+use Rattle.coarse_factor.specs.Lanes.{rowSum}
+use Rattle.coarse_factor.proofs.Packed.{summed-none, summed-more}
+use Prim.Native.Nat.{ℕ, suc, _+_, _*_, _/_, _<_, _≤_, _-_}
+use mathlib.Core.Path.{_≡_, refl, ap, sym, _∙_}
+use native.Mathlib.Omega.{arith}
+use borrow.Author.Needs.{needs}
+use Rattle.coarse_factor.proofs.solve.row_dot.Statement.{statement}
+use Rattle.coarse_factor.proofs.solve.row_dot.Tie as tie
+use Rattle.coarse_factor.proofs.solve.row_dot.Reads as reads
+use Rattle.coarse_factor.proofs.solve.row_dot.Lts as lts
+
+abbrev Inv-loop : tie.InvT-loop
+Inv-loop l y n start sum₀ k₀ sum k = (k ≤ n) × (sum ≡ rowSum l y k start)
+
+abbrev μ-loop : tie.MeasureT-loop
+μ-loop l y n start sum₀ k₀ sum k = n - k
+
+loop-holds : tie.Need-loop-holds Inv-loop μ-loop
+loop-holds c = let a = c .args in (omega arith, summed-none (λ k. getD (a .l .now) (a .start + k) nan *ᶠ getD (a .y .now) k nan))
+
+add-sum : tie.Need-add-sum Inv-loop μ-loop
+add-sum c = search needs
+
+mul-sum : tie.Need-mul-sum Inv-loop μ-loop
+mul-sum c = search needs
+
+shared-slice-read-sum : tie.Need-shared-slice-read-sum Inv-loop μ-loop
+shared-slice-read-sum c = search needs
+
+mul-sum-2 : tie.Need-mul-sum-2 Inv-loop μ-loop
+mul-sum-2 c = search needs
+
+shared-slice-read-sum-2 : tie.Need-shared-slice-read-sum-2 Inv-loop μ-loop
+shared-slice-read-sum-2 c = search needs
+
+add-k : tie.Need-add-k Inv-loop μ-loop
+add-k c = search needs
+
+loop-less : tie.Need-loop-less Inv-loop μ-loop
+loop-less c = omega arith
+
+loop-again : tie.Need-loop-again Inv-loop μ-loop
+loop-again c =
+    let a = c .before .before .before .before .args in
+    let o = c .before .before .before .loop in
+    let x = getD (a .l .now) (a .start + o .k) nan *ᶠ getD (a .y .now) (o .k) nan in
+    (omega arith, summed-more (λ k. getD (a .l .now) (a .start + k) nan *ᶠ getD (a .y .now) k nan) (o .k) (o .sum) (o .sum +ᶠ x) x (o .inv .1) refl refl)
+
+returns : tie.Need-returns Inv-loop μ-loop
+returns c = let e : c .before .loop .k ≡ c .before .before .args .n = omega arith in rw e at (c .before .loop .inv .1)
+
+pub row-dot-spec : {M : Type 1} → statement M
+row-dot-spec =
+    tie.close
+    (tie.spec
+    Inv-loop
+    μ-loop
+    loop-holds
+    add-sum
+    mul-sum
+    shared-slice-read-sum
+    mul-sum-2
+    shared-slice-read-sum-2
+    add-k
+    loop-less
+    loop-again
+    returns)

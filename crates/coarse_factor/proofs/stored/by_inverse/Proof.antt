@@ -1,0 +1,56 @@
+use lib.ListN.{length}
+use Rattle.coarse_factor.proofs.Products.{inverse-all}
+use Prim.Native.Nat.{ℕ, suc, _+_, _*_, _/_, _<_, _≤_, _-_}
+use mathlib.Core.Path.{_≡_, refl, ap, sym, _∙_}
+use native.Mathlib.Omega.{arith}
+use borrow.Author.Needs.{needs}
+use Rattle.coarse_factor.proofs.stored.by_inverse.Statement.{statement}
+use Rattle.coarse_factor.proofs.stored.by_inverse.Tie as tie
+use Rattle.coarse_factor.proofs.stored.by_inverse.Reads as reads
+use Rattle.coarse_factor.proofs.stored.by_inverse.Lts as lts
+use Rattle.coarse_factor.proofs.stored.inverse_rows.Reads as inverse-rows-reads
+use Rattle.coarse_factor.proofs.stored.move_front.Reads as move-front-reads
+use Rattle.numbers.proofs.zero_floats.Reads as zero-floats-reads
+
+inverse-rows-requires : tie.Need-inverse-rows-requires
+inverse-rows-requires c κs = search needs
+
+move-front-requires : tie.Need-move-front-requires
+move-front-requires c κs = omega (arith, c .before .before .before .inverse-rows .ensures .long)
+
+mul-zero-floats : tie.Need-mul-zero-floats
+mul-zero-floats c = omega (arith, c .before .before .move-front .ensures .long, c .before .before .before .before .before .before .inverse-rows .ensures .long)
+
+sub-zero-floats : tie.Need-sub-zero-floats
+sub-zero-floats c = search needs
+
+part-zero-floats-start : tie.Need-part-zero-floats-start
+part-zero-floats-start c = omega (arith, c .before .before .move-front .ensures .long, c .before .before .before .before .before .before .inverse-rows .ensures .long)
+
+part-zero-floats-end : tie.Need-part-zero-floats-end
+part-zero-floats-end c = search needs
+
+zero-floats-requires : tie.Need-zero-floats-requires
+zero-floats-requires c κs = search needs
+
+same-length : tie.Need-same-length
+same-length c = search needs
+
+returns : tie.Need-returns
+returns c =
+    let a = c .before .before .before .before .before .before .before .before .before .before .before .before .before .before .args in
+    inverse-all (a .c) (a .part .now) (a .work .now) (c .before .before .before .before .before .before .before .before .before .before .inverse-rows .last .1 .1 .0) (c .before .before .before .before .before .before .move-front .last .1 .0) (c .before .before .zero-floats .last .0) (c .before .before .before .before .before .before .before .before .before .before .before .before .before .before .pre .1) (c .before .before .before .before .before .before .before .before .before .before .inverse-rows .ensures) (c .before .before .before .before .before .before .move-front .ensures) (c .before .before .zero-floats .ensures)
+
+pub by-inverse-spec : {M : Type 1} → statement M
+by-inverse-spec =
+    tie.close
+    (tie.spec
+    inverse-rows-requires
+    move-front-requires
+    mul-zero-floats
+    sub-zero-floats
+    part-zero-floats-start
+    part-zero-floats-end
+    zero-floats-requires
+    same-length
+    returns)

@@ -1,0 +1,68 @@
+use lib.ListN.{length, length-set}
+use Rattle.coarse_factor.specs.Stored.{Moved}
+use Rattle.coarse_factor.proofs.Products.{moved-none, moved-more}
+use Prim.Native.Nat.{ℕ, suc, _+_, _*_, _/_, _<_, _≤_, _-_}
+use mathlib.Core.Path.{_≡_, refl, ap, sym, _∙_}
+use native.Mathlib.Omega.{arith}
+use borrow.Author.Needs.{needs}
+use Rattle.coarse_factor.proofs.stored.move_front.Statement.{statement}
+use Rattle.coarse_factor.proofs.stored.move_front.Tie as tie
+use Rattle.coarse_factor.proofs.stored.move_front.Reads as reads
+use Rattle.coarse_factor.proofs.stored.move_front.Lts as lts
+
+abbrev Inv-loop : tie.InvT-loop
+Inv-loop c work₀ i₀ work i = (i ≤ c) × Moved c work₀ work i
+
+abbrev μ-loop : tie.MeasureT-loop
+μ-loop c work₀ i₀ work i = c - i
+
+loop-holds : tie.Need-loop-holds Inv-loop μ-loop
+loop-holds c = (omega arith, moved-none (c .args .c) (c .args .work .now))
+
+add-work : tie.Need-add-work Inv-loop μ-loop
+add-work c = omega (arith, c .before .loop .inv .1 .long)
+
+mul-work : tie.Need-mul-work Inv-loop μ-loop
+mul-work c = omega (arith, c .before .loop .inv .1 .long)
+
+slice-read-work : tie.Need-slice-read-work Inv-loop μ-loop
+slice-read-work c = omega (arith, c .before .before .loop .inv .1 .long)
+
+mul-work-2 : tie.Need-mul-work-2 Inv-loop μ-loop
+mul-work-2 c = omega (arith, c .before .before .loop .inv .1 .long)
+
+slice-write-work : tie.Need-slice-write-work Inv-loop μ-loop
+slice-write-work c = omega (arith, c .before .before .loop .inv .1 .long)
+
+add-i : tie.Need-add-i Inv-loop μ-loop
+add-i c = search needs
+
+loop-less : tie.Need-loop-less Inv-loop μ-loop
+loop-less c = omega arith
+
+loop-again : tie.Need-loop-again Inv-loop μ-loop
+loop-again c = (omega arith, moved-more (c .before .before .before .args .c) (c .before .before .before .args .work .now) (c .before .before .loop .work) (c .before .before .loop .i) (omega arith) (c .before .before .before .pre) (c .before .before .loop .inv .1))
+
+same-length : tie.Need-same-length Inv-loop μ-loop
+same-length c = c .before .loop .inv .1 .long
+
+returns : tie.Need-returns Inv-loop μ-loop
+returns c = let e : c .before .loop .i ≡ c .before .before .args .c = omega arith in rw e at (c .before .loop .inv .1)
+
+pub move-front-spec : {M : Type 1} → statement M
+move-front-spec =
+    tie.close
+    (tie.spec
+    Inv-loop
+    μ-loop
+    loop-holds
+    add-work
+    mul-work
+    slice-read-work
+    mul-work-2
+    slice-write-work
+    add-i
+    loop-less
+    loop-again
+    same-length
+    returns)

@@ -1,0 +1,63 @@
+use Rattle.definitions.specs.Coarse.{coarseLength}
+use Rattle.averaging.proofs.Places.{square-small}
+use Rattle.coarse_factor.proofs.Cholesky.{triangle-small}
+use Prim.Native.Nat.{ℕ, suc, _+_, _*_, _/_, _<_, _≤_, _-_}
+use mathlib.Core.Path.{_≡_, refl, ap, sym, _∙_}
+use native.Mathlib.Omega.{arith}
+use borrow.Author.Needs.{needs}
+use Rattle.coarse_factor.proofs.stored.stored_length.Statement.{statement}
+use Rattle.coarse_factor.proofs.stored.stored_length.Tie as tie
+use Rattle.coarse_factor.proofs.stored.stored_length.Reads as reads
+use Rattle.coarse_factor.proofs.stored.stored_length.Lts as lts
+
+enum-told : tie.Need-enum-told
+enum-told c = search needs
+
+add-result : tie.Need-add-result
+add-result c = search needs
+
+mul-result : tie.Need-mul-result
+mul-result c = omega (arith, triangle-small (c .before .before .args .c) (omega arith))
+
+enum-told-2 : tie.Need-enum-told-2
+enum-told-2 c = search needs
+
+add-result-2 : tie.Need-add-result-2
+add-result-2 c = search needs
+
+mul-result-2 : tie.Need-mul-result-2
+mul-result-2 c = omega (arith, triangle-small (c .before .before .args .c) (omega arith))
+
+enum-told-3 : tie.Need-enum-told-3
+enum-told-3 c = search needs
+
+mul-result-3 : tie.Need-mul-result-3
+mul-result-3 c = omega (arith, square-small (c .before .before .args .c) (omega arith))
+
+returns : tie.Need-returns
+unfolding coarseLength
+returns c = rw (c .enum-told .given .1)
+
+returns-2 : tie.Need-returns-2
+unfolding coarseLength
+returns-2 c = rw (c .enum-told2 .given .1)
+
+returns-3 : tie.Need-returns-3
+unfolding coarseLength
+returns-3 c = rw (c .enum-told3 .given .1)
+
+pub stored-length-spec : {M : Type 1} → statement M
+stored-length-spec =
+    tie.close
+    (tie.spec
+    enum-told
+    add-result
+    mul-result
+    enum-told-2
+    add-result-2
+    mul-result-2
+    enum-told-3
+    mul-result-3
+    returns
+    returns-2
+    returns-3)

@@ -1,0 +1,51 @@
+-- The calls on the coarse factor: each with its checks in order, over the lengths of the lists lent.
+use Prim.Native.Nat.{ℕ, _+_, _*_, _/_}
+use mathlib.Core.Bool.{Bool, true, false, _&&_}
+use mathlib.Core.List.{List}
+use lib.Dec.{leb}
+use lib.ListN.{length, take}
+use lib.Ieee.{Float}
+use Rattle.definitions.specs.Numbers.{largest}
+use Rattle.definitions.specs.Refusal.{Outcome, refused, done, require, _>>=_}
+use Rattle.definitions.specs.Coarse.{coarseFactor, packedLength, inverseOf, coarseSolve, coarseLength}
+use Rattle.definitions.specs.declared.Refusal.the-variants.{CoarseTooLarge, ListTooShort}
+use Rattle.definitions.specs.declared.TwoLevelCoarseApplyPolicy.{TwoLevelCoarseApplyPolicy}
+use Rattle.definitions.specs.declared.Answer.{Answer}
+use Rattle.definitions.specs.declared.Answer.the-variants.{Accepted, Refused}
+use Rattle.coarse_factor.specs.declared.FactorAnswer.{FactorAnswer}
+use Rattle.coarse_factor.specs.declared.FactorAnswer.the-variants.{Factored, Refused as NoFactor}
+
+-- the largest coarse dimension
+abbrev pub maxCoarse : ℕ
+maxCoarse = 2_048
+
+-- an answer and the list that it stands for
+unfoldable pub outcomeOf : Answer → List Float → Outcome (List Float)
+outcomeOf Accepted l = done l
+outcomeOf (Refused r) l = refused r
+
+-- the factor of the matrix in the first c · c elements of m: 17, then 13, then 23 and 24
+unfoldable pub coarseFactorCall : ℕ → List Float → ℕ → Outcome (List Float)
+coarseFactorCall c m lent = do
+  _ ← require (leb c maxCoarse) (CoarseTooLarge c)
+  _ ← require (leb (c * c) (length m) && leb (packedLength c) lent) ListTooShort
+  coarseFactor c (take (c * c) m)
+
+-- the scale is returned with an accepted factor
+unfoldable pub factorAnswer : Float → Outcome (List Float) → FactorAnswer
+factorAnswer scale (done l) = Factored scale
+factorAnswer scale (refused r) = NoFactor r
+
+-- the inverse, from the packed factor in the first elements of lower: 17, then 13
+unfoldable pub coarseInverseCall : ℕ → List Float → ℕ → Outcome (List Float)
+coarseInverseCall c lower lent = do
+  _ ← require (leb c maxCoarse) (CoarseTooLarge c)
+  _ ← require (leb (packedLength c) (length lower) && leb (c * c) lent) ListTooShort
+  done (inverseOf c (take (packedLength c) lower))
+
+-- the solve with the stored part, of the right-hand side in the first c elements of work: 17, then 13
+unfoldable pub coarseSolveCall : TwoLevelCoarseApplyPolicy → ℕ → List Float → List Float → Outcome (List Float)
+coarseSolveCall policy c part work = do
+  _ ← require (leb c maxCoarse) (CoarseTooLarge c)
+  _ ← require (leb (coarseLength policy c) (length part) && leb (2 * c) (length work)) ListTooShort
+  done (coarseSolve policy c (take (coarseLength policy c) part) (take c work))

@@ -1,0 +1,137 @@
+// Four solves with the packed factor side by side: w holds four right-hand sides of c numbers each, one after the other. The four sums of a
+// row do not wait for one another, and each number of the factor is read once for the four.
+use crate::Four;
+use numbers::zero_floats;
+ghost use mathlib.Core.Path.{_≡_};
+ghost use Prim.Native.Nat.{ℕ, suc, _+_, _-_, _*_, _<_, _≤_, _^_};
+ghost use lib.ListN.{length, getD, drop};
+ghost use lib.Ieee.{nan};
+ghost use Rattle.definitions.specs.Coarse.{packed, packedLength, packedForward, packedBackward, packedSolve};
+ghost use Rattle.coarse_factor.specs.Lanes.{RowFour, ColFour, setLanes, lanesOf, Forward4, Backward4, Units4, fourSolved};
+
+// The n numbers of l from start on, by those of each right-hand side.
+fn row_dots(l: &[f64], w: &[f64], n: usize, start: usize, c: usize) -> Four
+    requires { ⌜ (n ≤ c) × (c + c + c + c ≤ length (now w)) × (start + n ≤ length (now l)) ⌝ }
+    ensures { λ r. ⌜ RowFour (now (l .entry)) (now (w .entry)) n start c r ⌝ }
+{
+    let third = c + c;
+    let fourth = third + c;
+    let mut s = -0.0;
+    let mut t = -0.0;
+    let mut u = -0.0;
+    let mut v = -0.0;
+    let mut k = 0;
+    while k < n {
+        let x = l[start + k];
+        s += x * w[k];
+        t += x * w[c + k];
+        u += x * w[third + k];
+        v += x * w[fourth + k];
+        k += 1;
+    }
+    Four {
+        a: s,
+        b: t,
+        c: u,
+        d: v,
+    }
+}
+
+// The column i of the factor below the diagonal, by each right-hand side; it begins at first.
+fn col_dots(l: &[f64], w: &[f64], i: usize, first: usize, c: usize) -> Four
+    requires { ⌜ (i < c) × (c ≤ 2048) × (c + c + c + c ≤ length (now w)) × (first ≡ packed (i + 1) i) × (length (now l) ≡ packedLength c) ⌝ }
+    ensures { λ r. ⌜ ColFour (now (l .entry)) (now (w .entry)) i c r ⌝ }
+{
+    let third = c + c;
+    let fourth = third + c;
+    let mut s = -0.0;
+    let mut t = -0.0;
+    let mut u = -0.0;
+    let mut v = -0.0;
+    let mut at = first;
+    let mut j = i + 1;
+    while j < c {
+        let x = l[at];
+        s += x * w[j];
+        t += x * w[c + j];
+        u += x * w[third + j];
+        v += x * w[fourth + j];
+        at += j + 1;
+        j += 1;
+    }
+    Four {
+        a: s,
+        b: t,
+        c: u,
+        d: v,
+    }
+}
+
+// The number i of each right-hand side, less its sum, over the pivot.
+fn put_lanes(w: &mut [f64], c: usize, i: usize, x: Four, pivot: f64)
+    requires { ⌜ (i < c) × (c + c + c + c ≤ length (now w)) ⌝ }
+    ensures { λ _. ⌜ now (w .exit) ≡ setLanes (now (w .entry)) c i (lanesOf (now (w .entry)) c i x pivot) ⌝ }
+{
+    let second = c + i;
+    let third = c + c + i;
+    let fourth = c + c + c + i;
+    let p = (w[i] - x.a) / pivot;
+    let q = (w[second] - x.b) / pivot;
+    let r = (w[third] - x.c) / pivot;
+    let s = (w[fourth] - x.d) / pivot;
+    w[i] = p;
+    w[second] = q;
+    w[third] = r;
+    w[fourth] = s;
+}
+
+pub fn forward_four(l: &[f64], w: &mut [f64], c: usize)
+    requires { ⌜ (c ≤ 2048) × (length (now w) ≡ c + c + c + c) × (length (now l) ≡ packedLength c) ⌝ }
+    ensures { λ _. ⌜ Forward4 (now (l .entry)) c (now (w .entry)) (now (w .exit)) c ⌝ }
+{
+    let mut start = 0;
+    let mut i = 0;
+    while i < c {
+        let x = row_dots(l, w, i, start, c);
+        put_lanes(w, c, i, x, l[start + i]);
+        start += i + 1;
+        i += 1;
+    }
+}
+
+pub fn backward_four(l: &[f64], w: &mut [f64], c: usize)
+    requires { ⌜ (c ≤ 2048) × (length (now w) ≡ c + c + c + c) × (length (now l) ≡ packedLength c) ⌝ }
+    ensures { λ _. ⌜ Backward4 (now (l .entry)) c (now (w .entry)) (now (w .exit)) c ⌝ }
+{
+    let mut end = l.len();
+    let mut k = 0;
+    while k < c {
+        let i = c - 1 - k;
+        let x = col_dots(l, w, i, end + i, c);
+        put_lanes(w, c, i, x, l[end - 1]);
+        end -= i + 1;
+        k += 1;
+    }
+}
+
+// The unit vectors i, i + 1, i + 2 and i + 3.
+fn set_units(w: &mut [f64], c: usize, i: usize)
+    requires { ⌜ (i + 3 < c) × (length (now w) ≡ c + c + c + c) ⌝ }
+    ensures { λ _. ⌜ (length (now (w .exit)) ≡ length (now (w .entry))) × Units4 c i (now (w .exit)) ⌝ }
+{
+    zero_floats(w);
+    w[i] = 1.0;
+    w[c + i + 1] = 1.0;
+    w[c + c + i + 2] = 1.0;
+    w[c + c + c + i + 3] = 1.0;
+}
+
+// The solves of the four unit vectors from i on.
+pub fn solve_four(l: &[f64], w: &mut [f64], c: usize, i: usize)
+    requires { ⌜ (i + 3 < c) × (c ≤ 2048) × (length (now w) ≡ c + c + c + c) × (length (now l) ≡ packedLength c) ⌝ }
+    ensures { λ _. ⌜ now (w .exit) ≡ fourSolved (now (l .entry)) c i ⌝ }
+{
+    set_units(w, c, i);
+    forward_four(l, w, c);
+    backward_four(l, w, c);
+}

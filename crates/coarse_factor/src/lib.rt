@@ -1,0 +1,122 @@
+// The packed Cholesky factor of the coarse matrix, the solves with it, and the inverse.
+use definitions::Answer;
+use definitions::Refusal;
+use definitions::TwoLevelCoarseApplyPolicy;
+use numbers::larger;
+use numbers::usable;
+use numbers::zero_floats;
+ghost use mathlib.Core.Path.{_≡_};
+ghost use Prim.Native.Nat.{_*_, _≤_};
+ghost use lib.ListN.{length, take};
+ghost use Rattle.definitions.specs.Numbers.{zeroᶠ, largest};
+ghost use Rattle.definitions.specs.Refusal.{resultLeft};
+ghost use Rattle.definitions.specs.Coarse.{packedLength, coarseFactor};
+ghost use Rattle.coarse_factor.specs.Calls.{coarseFactorCall, factorAnswer, coarseInverseCall, coarseSolveCall};
+ghost use Rattle.definitions.specs.Answers.{answerOf};
+
+mod factor;
+mod inverse;
+mod lanes;
+mod solve;
+mod stored;
+
+// Four numbers side by side.
+pub struct Four {
+    pub a: f64,
+    pub b: f64,
+    pub c: f64,
+    pub d: f64,
+}
+
+// The scale of the matrix, its largest magnitude, where it has a factor.
+pub enum FactorAnswer {
+    Factored(f64),
+    Refused(Refusal),
+}
+
+// The factor of a matrix of c rows, into the front of a list that is long enough.
+fn factor_fitting(c: usize, m: &[f64], lower: &mut [f64]) -> FactorAnswer
+    requires { ⌜ (length (now m) ≡ c * c) × (packedLength c ≤ length (now lower)) × (c ≤ 2048) ⌝ }
+    ensures { λ r. ⌜ (r ≡ factorAnswer (largest (now (m .entry))) (coarseFactor c (now (m .entry)))) × (now (lower .exit) ≡ resultLeft zeroᶠ (coarseFactor c (now (m .entry))) (now (lower .entry))) ⌝ }
+{
+    zero_floats(lower);
+    let top = factor::scale(m);
+    if usable(top) {
+        let from = 0;
+        let end = c * (c + 1) / 2;
+        let answer = factor::factor_rows(m, &mut lower[from..end], c, 1e-14 * larger(top, 1.0));
+        match answer {
+            Answer::Accepted => FactorAnswer::Factored(top),
+            Answer::Refused(cause) => {
+                zero_floats(lower);
+                FactorAnswer::Refused(cause)
+            }
+        }
+    } else {
+        FactorAnswer::Refused(Refusal::CoarseScale)
+    }
+}
+
+// Cholesky's factor of the coarse matrix in the first c · c elements of m, packed, with zeros after it.
+pub fn coarse_factor(c: usize, m: &[f64], lower: &mut [f64]) -> FactorAnswer
+    ensures { λ r. ⌜ (r ≡ factorAnswer (largest (take (c * c) (now (m .entry)))) (coarseFactorCall c (now (m .entry)) (length (now (lower .entry))))) × (now (lower .exit) ≡ resultLeft zeroᶠ (coarseFactorCall c (now (m .entry)) (length (now (lower .entry)))) (now (lower .entry))) ⌝ }
+{
+    if c <= 2048 {
+        let square = c * c;
+        if square <= m.len() {
+            if c * (c + 1) / 2 <= lower.len() {
+                let from = 0;
+                return factor_fitting(c, &m[from..square], lower);
+            }
+        }
+        FactorAnswer::Refused(Refusal::ListTooShort)
+    } else {
+        zero_floats(lower);
+        FactorAnswer::Refused(Refusal::CoarseTooLarge(c as u64))
+    }
+}
+
+// The inverse from the packed factor in the first elements of lower, averaged with its transpose, with zeros after it.
+pub fn coarse_inverse(c: usize, lower: &[f64], inverse: &mut [f64]) -> Answer
+    ensures { λ r. ⌜ (r ≡ answerOf (coarseInverseCall c (now (lower .entry)) (length (now (inverse .entry))))) × (now (inverse .exit) ≡ resultLeft zeroᶠ (coarseInverseCall c (now (lower .entry)) (length (now (inverse .entry)))) (now (inverse .entry))) ⌝ }
+{
+    if c <= 2048 {
+        let packed = c * (c + 1) / 2;
+        if packed <= lower.len() {
+            if c * c <= inverse.len() {
+                let from = 0;
+                inverse::invert(c, &lower[from..packed], inverse);
+                return Answer::Accepted;
+            }
+        }
+        Answer::Refused(Refusal::ListTooShort)
+    } else {
+        zero_floats(inverse);
+        Answer::Refused(Refusal::CoarseTooLarge(c as u64))
+    }
+}
+
+// The solve of the right-hand side in the first c elements of work, in place, with zeros after it.
+pub fn coarse_solve(
+    policy: TwoLevelCoarseApplyPolicy,
+    c: usize,
+    part: &[f64],
+    work: &mut [f64],
+) -> Answer
+    ensures { λ r. ⌜ (r ≡ answerOf (coarseSolveCall policy c (now (part .entry)) (now (work .entry)))) × (now (work .exit) ≡ resultLeft zeroᶠ (coarseSolveCall policy c (now (part .entry)) (now (work .entry))) (now (work .entry))) ⌝ }
+{
+    if c <= 2048 {
+        let count = stored::stored_length(policy, c);
+        if count <= part.len() {
+            if 2 * c <= work.len() {
+                let from = 0;
+                stored::solve_stored(policy, c, &part[from..count], work);
+                return Answer::Accepted;
+            }
+        }
+        Answer::Refused(Refusal::ListTooShort)
+    } else {
+        zero_floats(work);
+        Answer::Refused(Refusal::CoarseTooLarge(c as u64))
+    }
+}
