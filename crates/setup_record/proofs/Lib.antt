@@ -1,0 +1,5 @@
+pub mod Products
+pub mod Limits
+pub mod Scan
+pub mod RowsFit
+pub mod Fitting

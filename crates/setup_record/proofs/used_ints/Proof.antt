@@ -1,0 +1,35 @@
+-- By the cases of the basis; the numbers of a record whose sizes fit are small.
+use native.Mathlib.Omega.{arith}
+use Rattle.setup_record.proofs.Limits.{bounds-of}
+use Rattle.definitions.specs.Fits.{usedInts}
+use borrow.Author.Needs.{needs}
+use Rattle.setup_record.proofs.used_ints.Statement.{statement}
+use Rattle.setup_record.proofs.used_ints.Tie as tie
+
+enum-told : tie.Need-enum-told
+enum-told c = search needs
+
+enum-told-2 : tie.Need-enum-told-2
+enum-told-2 c = search needs
+
+add-result : tie.Need-add-result
+add-result c = let k = bounds-of _ (c .before .before .before .pre) in omega (arith, k .rows, k .nodes)
+
+add-result-2 : tie.Need-add-result-2
+add-result-2 c = let k = bounds-of _ (c .before .before .before .pre) in omega (arith, k .rows, k .nodes)
+
+add-result-3 : tie.Need-add-result-3
+add-result-3 c = let k = bounds-of _ (c .before .before .before .before .pre) in omega (arith, k .rows, k .nodes, k .transfers)
+
+returns : tie.Need-returns
+unfolding usedInts
+returns c = rw (c .enum-told .given .1)
+
+returns-2 : tie.Need-returns-2
+unfolding usedInts
+returns-2 c = rw (c .before .before .enum-told2 .given .1)
+
+pub used-ints-spec : {M : Type 1} → statement M
+used-ints-spec =
+    tie.close
+    (tie.spec enum-told enum-told-2 add-result add-result-2 add-result-3 returns returns-2)

@@ -1,0 +1,17 @@
+-- Cause 26 in the order in which the code asks: first the record's own numbers, then the lists.
+use Prim.Native.Nat.{ℕ, _*_}
+use mathlib.Core.Bool.{Bool, not, _&&_}
+use mathlib.Core.List.{List}
+use lib.Dec.{leb, ltb, eqb}
+use lib.ListN.{getD}
+use Rattle.definitions.specs.Lists.{all, falls}
+use Rattle.definitions.specs.Fits.{withinLimits, isResolved, transfersFit}
+use Rattle.definitions.specs.declared.Setup.{Setup}
+
+-- the record alone
+unfoldable pub sizesFit : Setup → Bool
+sizesFit s = withinLimits s && leb 1 (s .block) && isResolved (s .policy) && transfersFit (s .basis) s && eqb (s .rows) (s .nodes * s .block) && eqb (s .coarse) (s .groups * s .block)
+
+-- compressed rows: pointers from 0 to the count that do not fall, columns below c
+unfoldable pub rowsFit : List ℕ → List ℕ → ℕ → ℕ → ℕ → Bool
+rowsFit ptr idx rows count c = eqb (getD ptr 0 1) 0 && not (falls ptr) && eqb (getD ptr rows 0) count && all (λ k. ltb k c) idx

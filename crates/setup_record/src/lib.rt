@@ -1,0 +1,178 @@
+// Whether a setup's lists fit their record, cause 26: the record's own numbers, then the lists that it speaks of.
+use definitions::Setup;
+use definitions::TwoLevelBasis;
+use definitions::TwoLevelCoarseApplyPolicy;
+ghost use mathlib.Core.Path.{_≡_};
+ghost use mathlib.Core.Bool.{_&&_, true};
+ghost use Prim.Native.Nat.{_+_, _*_, _≤_};
+ghost use lib.Dec.{eqb, ltb};
+ghost use lib.ListN.{length};
+ghost use Rattle.definitions.specs.Lists.{all};
+ghost use Rattle.definitions.specs.Coarse.{coarseLength};
+ghost use Rattle.definitions.specs.Fits.{withinLimits, isResolved, transfersFit, transferFits, usedInts, usedFloats, setupFits};
+ghost use Rattle.setup_record.specs.Sizes.{sizesFit, rowsFit};
+
+fn both(a: bool, b: bool) -> bool
+    ensures { λ r. ⌜ r ≡ (a && b) ⌝ }
+{
+    if a { b } else { false }
+}
+
+fn within_limits(s: Setup) -> bool
+    ensures { λ r. ⌜ r ≡ withinLimits s ⌝ }
+{
+    let few = both(s.rows <= 1048576, s.entries <= 16777216);
+    let small = both(few, s.block <= 8);
+    let grouped = both(small, s.group <= 1048576);
+    both(grouped, s.coarse <= 2048)
+}
+
+fn is_resolved(policy: TwoLevelCoarseApplyPolicy) -> bool
+    ensures { λ r. ⌜ r ≡ isResolved policy ⌝ }
+{
+    match policy {
+        TwoLevelCoarseApplyPolicy::Auto => false,
+        TwoLevelCoarseApplyPolicy::FactorSolve => true,
+        TwoLevelCoarseApplyPolicy::ExplicitInverse => true,
+    }
+}
+
+fn transfers_fit(basis: TwoLevelBasis, s: Setup) -> bool
+    requires { ⌜ withinLimits s ≡ true ⌝ }
+    ensures { λ r. ⌜ r ≡ transfersFit basis s ⌝ }
+{
+    match basis {
+        TwoLevelBasis::PiecewiseConstant => s.transfers == 0,
+        TwoLevelBasis::JacobiSmoothed => s.transfers <= s.rows + s.entries,
+    }
+}
+
+// Whether p is n times b. A factor above every p is told before it is multiplied.
+fn is_product(p: u64, n: u64, b: u64) -> bool
+    requires { ⌜ (p ≤ 1048576) × (b ≤ 8) ⌝ }
+    ensures { λ r. ⌜ r ≡ eqb p (n * b) ⌝ }
+{
+    if b == 0 {
+        return p == 0;
+    }
+    if 1048576 < n {
+        return false;
+    }
+    p == n * b
+}
+
+fn sizes_fit(s: Setup) -> bool
+    ensures { λ r. ⌜ r ≡ sizesFit s ⌝ }
+{
+    if within_limits(s) {
+        let policy = s.policy;
+        let basis = s.basis;
+        let resolved = both(1 <= s.block, is_resolved(policy));
+        let counted = both(resolved, transfers_fit(basis, s));
+        let whole = both(counted, is_product(s.rows, s.nodes, s.block));
+        both(whole, is_product(s.coarse, s.groups, s.block))
+    } else {
+        false
+    }
+}
+
+fn wide(x: u32) -> u64
+    ensures { λ r. ⌜ r ≡ x ⌝ }
+{
+    x as u64
+}
+
+// Whether every number of a list is below a bound.
+fn all_below(xs: &[u32], bound: u64) -> bool
+    ensures { λ r. ⌜ r ≡ all (λ k. ltb k bound) (now (xs .entry)) ⌝ }
+{
+    let mut i: usize = 0;
+    while i < xs.len() {
+        if wide(xs[i]) < bound {
+            i += 1;
+        } else {
+            return false;
+        }
+    }
+    true
+}
+
+fn rows_fit(ptr: &[u32], idx: &[u32], rows: usize, count: u64, c: u64) -> bool
+    requires { ⌜ (length (now ptr) ≡ rows + 1) × (rows ≤ 1048576) ⌝ }
+    ensures { λ r. ⌜ r ≡ rowsFit (now (ptr .entry)) (now (idx .entry)) rows count c ⌝ }
+{
+    if ptr[0] == 0 {
+        if csr32::pointer_falls(ptr) {
+            return false;
+        }
+        if wide(ptr[rows]) == count {
+            return all_below(idx, c);
+        }
+    }
+    false
+}
+
+fn coarse_length(policy: TwoLevelCoarseApplyPolicy, c: usize) -> usize
+    requires { ⌜ c ≤ 2048 ⌝ }
+    ensures { λ r. ⌜ (r ≡ coarseLength policy c) × (r ≤ 4194304) ⌝ }
+{
+    match policy {
+        TwoLevelCoarseApplyPolicy::Auto => c * (c + 1) / 2,
+        TwoLevelCoarseApplyPolicy::FactorSolve => c * (c + 1) / 2,
+        TwoLevelCoarseApplyPolicy::ExplicitInverse => c * c,
+    }
+}
+
+fn used_ints(basis: TwoLevelBasis, s: Setup) -> usize
+    requires { ⌜ sizesFit s ≡ true ⌝ }
+    ensures { λ r. ⌜ r ≡ usedInts basis s ⌝ }
+{
+    match basis {
+        TwoLevelBasis::PiecewiseConstant => s.nodes as usize,
+        TwoLevelBasis::JacobiSmoothed => (s.nodes + s.rows + 1 + s.transfers) as usize,
+    }
+}
+
+fn used_floats(s: Setup) -> usize
+    requires { ⌜ sizesFit s ≡ true ⌝ }
+    ensures { λ r. ⌜ r ≡ usedFloats s ⌝ }
+{
+    let policy = s.policy;
+    let part = coarse_length(policy, s.coarse as usize);
+    (s.rows * s.block + s.transfers) as usize + part
+}
+
+fn transfer_fits(basis: TwoLevelBasis, s: Setup, ints: &[u32]) -> bool
+    requires { ⌜ sizesFit s ≡ true ⌝ }
+    requires { ⌜ usedInts basis s ≤ length (now ints) ⌝ }
+    ensures { λ r. ⌜ r ≡ transferFits basis s (now (ints .entry)) ⌝ }
+{
+    match basis {
+        TwoLevelBasis::PiecewiseConstant => true,
+        TwoLevelBasis::JacobiSmoothed => {
+            let rows = s.rows as usize;
+            let a = s.nodes as usize;
+            let b = a + rows + 1;
+            let e = b + s.transfers as usize;
+            rows_fit(&ints[a..b], &ints[b..e], rows, s.transfers, s.coarse)
+        }
+    }
+}
+
+// Everything that a setup's record and lists must meet, and nothing else.
+pub fn setup_fits(s: Setup, ints: &[u32], floats: &[f64]) -> bool
+    ensures { λ r. ⌜ r ≡ setupFits s (now (ints .entry)) (now (floats .entry)) ⌝ }
+{
+    if sizes_fit(s) {
+        let basis = s.basis;
+        if used_ints(basis, s) <= ints.len() {
+            if used_floats(s) <= floats.len() {
+                let n = s.nodes as usize;
+                if all_below(&ints[..n], s.groups) {
+                    return transfer_fits(basis, s, ints);
+                }
+            }
+        }
+    }
+    false
+}
