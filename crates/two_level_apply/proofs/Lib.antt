@@ -1,0 +1,12 @@
+pub mod Tables
+pub mod Scattering
+pub mod Restricting
+pub mod Nodes
+pub mod Prolonging
+pub mod Parts
+pub mod Bases
+pub mod Calls
+pub mod Solving
+pub mod Blocks
+pub mod BlockSolves
+pub mod UsedOnly

@@ -1,0 +1,37 @@
+-- A setup that fits has its block factors in front, and the block apply is accepted.
+use mathlib.Core.Path.{sym}
+use native.Mathlib.Omega.{arith}
+use Rattle.two_level_apply.proofs.Parts.{bounds}
+use Rattle.two_level_apply.proofs.BlockSolves.{factors-long, blocks-left}
+use borrow.Author.Needs.{needs}
+use Rattle.two_level_apply.proofs.solve_blocks.Statement.{statement}
+use Rattle.two_level_apply.proofs.solve_blocks.Tie as tie
+
+mul-n : tie.Need-mul-n
+mul-n c =
+    let s = c .before .before .before .before .before in
+    let a = s .args in
+    let k = bounds (a .s) (a .ints .now) (a .floats .now) (s .pre .0) in omega (arith, k .factors)
+
+slice-aggregate-block-apply : tie.Need-slice-aggregate-block-apply
+slice-aggregate-block-apply c =
+    let s = c .before .before .before .before .before .before in
+    let a = s .args in
+    sym (factors-long (a .s) (a .ints .now) (a .floats .now) (s .pre .0))
+
+block-apply-requires : tie.Need-block-apply-requires
+block-apply-requires c κs = search needs
+
+same-length : tie.Need-same-length
+same-length c = search needs
+
+returns : tie.Need-returns
+returns c =
+    let s = c .before .before .before .before .before .before .before .before .before .before in
+    let a = s .args in
+    let d = c .before .before .block-apply in
+    blocks-left (a .s) (a .ints .now) (a .floats .now) (s .pre .0) (a .r .now) (a .z .now) (d .last .1 .1 .1 .1 .0) (s .pre .1) (s .pre .2) (d .ensures .1)
+
+pub solve-blocks-spec : {M : Type 1} → statement M
+solve-blocks-spec =
+    tie.close (tie.spec mul-n slice-aggregate-block-apply block-apply-requires same-length returns)

@@ -1,0 +1,70 @@
+-- Loops that add into a list: what they leave, by the numbers put, in order.
+use Prim.Native.Nat.{ℕ, zero, suc, _+_, _*_, _<_, _≤_}
+use mathlib.Core.Path.{_≡_}
+use mathlib.Core.List.{List, [], _∷_, map, foldl}
+use lib.ListN.{length, getD, set}
+use lib.Ieee.{Float, nan}
+use Rattle.definitions.specs.Numbers.{_+ᶠ_, _*ᶠ_, summed}
+use Rattle.definitions.specs.Matrix.{Entry}
+use Rattle.definitions.specs.Apply.{weightedParts}
+
+abbrev pub put : ℕ → Float → Entry
+put k x = record { col = k; value = x }
+
+-- l[k] += x
+abbrev pub bump : List Float → Entry → List Float
+bump l e = set l (e .col) (getD l (e .col) nan +ᶠ e .value)
+
+unfoldable pub scatter : List Entry → List Float → List Float
+scatter es l = foldl bump l es
+
+-- n rows of puts, row after row
+unfoldable pub scattered : (ℕ → List Entry) → ℕ → List Float → List Float
+scattered puts zero l = l
+scattered puts (suc n) l = scatter (puts n) (scattered puts n l)
+
+-- one put for each row: x i at the place p i
+abbrev pub single : (ℕ → ℕ) → (ℕ → Float) → ℕ → List Entry
+single p x i = put (p i) (x i) ∷ []
+
+-- the numbers of one list from a on, added to those of another from b on
+abbrev pub partPuts : List Float → ℕ → ℕ → ℕ → List Entry
+partPuts from a b = single (λ k. b + k) (λ k. getD from (a + k) nan)
+
+-- restriction where each row has one coarse column: r(i) at that column
+abbrev pub restrictPuts : (ℕ → ℕ) → List Float → ℕ → List Entry
+restrictPuts column r = single column (λ i. getD r i nan)
+
+-- prolongation there: the solution at the coarse column of row i, added to row i
+abbrev pub prolongPuts : (ℕ → ℕ) → List Float → ℕ → List Entry
+prolongPuts column sol = single (λ i. i) (λ i. getD sol (column i) nan)
+
+-- entries, each times x
+abbrev pub scaled : Float → List Entry → List Entry
+scaled x es = map (λ e. put (e .col) (e .value *ᶠ x)) es
+
+-- restriction by weights: those of row i, each times r(i)
+abbrev pub scaledPuts : (ℕ → List Entry) → List Float → ℕ → List Entry
+scaledPuts transfer r i = scaled (getD r i nan) (transfer i)
+
+-- prolongation by weights
+abbrev pub gainPuts : (ℕ → List Entry) → List Float → ℕ → List Entry
+gainPuts transfer sol = single (λ i. i) (λ i. summed (weightedParts (transfer i) sol))
+
+-- every number of a list is below n
+abbrev pub Below : ℕ → List ℕ → Type 0
+Below n l = (k : ℕ) → k < length l → getD l k 0 < n
+
+-- compressed rows
+pub record Rows (n cols : ℕ) (ptr idx : List ℕ) (entries : ℕ) : Type 0 where
+  pub long : length ptr ≡ suc n
+  pub rises : (i : ℕ) → i < n → getD ptr i 0 ≤ getD ptr (suc i) 0
+  pub ends : (i : ℕ) → i < suc n → getD ptr i 0 ≤ entries
+  pub same : length idx ≡ entries
+  pub within : Below cols idx
+
+-- n rows, in nodes of `size` rows each; the coarse columns of every node's group are below c
+pub record Grouped (size : ℕ) (ids : List ℕ) (n c : ℕ) : Type 0 where
+  pub some : 0 < size
+  pub rows : n ≡ length ids * size
+  pub within : (k : ℕ) → k < length ids → getD ids k 0 * size + size ≤ c

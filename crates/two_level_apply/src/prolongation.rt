@@ -1,0 +1,95 @@
+// The coarse solution, added to the rows: z + P sol.
+use crate::adding::add_at;
+use crate::adding::add_part;
+use crate::adding::wide;
+use definitions::Setup;
+use definitions::TwoLevelBasis;
+ghost use mathlib.Core.Path.{_≡_};
+ghost use mathlib.Core.Bool.{true};
+ghost use Prim.Native.Nat.{_≤_};
+ghost use lib.ListN.{length, getD};
+ghost use lib.Ieee.{nan};
+ghost use Rattle.definitions.specs.Lists.{tab};
+ghost use Rattle.definitions.specs.Numbers.{summed, _+ᶠ_};
+ghost use Rattle.definitions.specs.Matrix.{rowOf, stored};
+ghost use Rattle.definitions.specs.Transfer.{coarseColumn};
+ghost use Rattle.definitions.specs.Fits.{idsIn, pointersIn, columnsIn, weightsIn, setupFits};
+ghost use Rattle.definitions.specs.Apply.{weightedParts, gained};
+ghost use Rattle.definitions.specs.declared.TwoLevelBasis.the-variants.{JacobiSmoothed};
+ghost use Rattle.two_level_apply.specs.Scatter.{Below, Rows, Grouped};
+
+// z[i] += sol[coarse column of i], node after node.
+pub fn prolong_constant(sol: &[f64], ids: &[u32], size: usize, z: &mut [f64])
+    requires { ⌜ Grouped size (now ids) (length (now z)) (length (now sol)) ⌝ }
+    ensures { λ _. ⌜ now (z .exit) ≡ tab (λ i. getD (now (z .entry)) i nan +ᶠ getD (now (sol .entry)) (coarseColumn size (now (ids .entry)) i) nan) (length (now (z .entry))) ⌝ }
+{
+    let mut first = 0;
+    let mut node = 0;
+    while node < ids.len() {
+        let base = wide(ids[node]) * size;
+        add_part(sol, base, z, first, size);
+        first += size;
+        node += 1;
+    }
+}
+
+// The weights from..to by the solution at their columns: a sum from -0.
+fn weight_sum(idx: &[u32], vals: &[f64], sol: &[f64], from: usize, to: usize) -> f64
+    requires { ⌜ (from ≤ to) × (to ≤ length (now vals)) × (length (now idx) ≡ length (now vals)) × Below (length (now sol)) (now idx) ⌝ }
+    ensures { λ r. ⌜ r ≡ summed (weightedParts (stored (now (idx .entry)) (now (vals .entry)) from to) (now (sol .entry))) ⌝ }
+{
+    let mut sum = -0.0;
+    let mut k = from;
+    while k < to {
+        let at = wide(idx[k]);
+        sum += vals[k] * sol[at];
+        k += 1;
+    }
+    sum
+}
+
+pub fn prolong_smoothed(ptr: &[u32], idx: &[u32], vals: &[f64], sol: &[f64], z: &mut [f64])
+    requires { ⌜ Rows (length (now z)) (length (now sol)) (now ptr) (now idx) (length (now vals)) ⌝ }
+    ensures { λ _. ⌜ now (z .exit) ≡ tab (λ i. getD (now (z .entry)) i nan +ᶠ summed (weightedParts (rowOf (now (ptr .entry)) (now (idx .entry)) (now (vals .entry)) i) (now (sol .entry)))) (length (now (z .entry))) ⌝ }
+{
+    let mut i = 0;
+    while i < z.len() {
+        let from = wide(ptr[i]);
+        let to = wide(ptr[i + 1]);
+        let sum = weight_sum(idx, vals, sol, from, to);
+        add_at(z, i, sum);
+        i += 1;
+    }
+}
+
+// With a record and its lists.
+fn prolong_groups(s: Setup, ints: &[u32], floats: &[f64], sol: &[f64], z: &mut [f64])
+    requires { ⌜ (setupFits s (now ints) (now floats) ≡ true) × (length (now z) ≡ s .rows) × (length (now sol) ≡ s .coarse) ⌝ }
+    ensures { λ _. ⌜ now (z .exit) ≡ tab (λ i. getD (now (z .entry)) i nan +ᶠ getD (now (sol .entry)) (coarseColumn (s .block) (idsIn s (now (ints .entry))) i) nan) (length (now (z .entry))) ⌝ }
+{
+    let n = s.nodes as usize;
+    prolong_constant(sol, &ints[..n], s.block as usize, z);
+}
+
+fn prolong_weights(s: Setup, ints: &[u32], floats: &[f64], sol: &[f64], z: &mut [f64])
+    requires { ⌜ (setupFits s (now ints) (now floats) ≡ true) × (length (now z) ≡ s .rows) × (length (now sol) ≡ s .coarse) × (s .basis ≡ JacobiSmoothed) ⌝ }
+    ensures { λ _. ⌜ now (z .exit) ≡ tab (λ i. getD (now (z .entry)) i nan +ᶠ summed (weightedParts (rowOf (pointersIn s (now (ints .entry))) (columnsIn s (now (ints .entry))) (weightsIn s (now (floats .entry))) i) (now (sol .entry)))) (length (now (z .entry))) ⌝ }
+{
+    let a = s.nodes as usize;
+    let b = a + s.rows as usize + 1;
+    let e = b + s.transfers as usize;
+    let p = (s.rows * s.block) as usize;
+    let q = p + s.transfers as usize;
+    prolong_smoothed(&ints[a..b], &ints[b..e], &floats[p..q], sol, z);
+}
+
+pub fn prolong(s: Setup, ints: &[u32], floats: &[f64], sol: &[f64], z: &mut [f64])
+    requires { ⌜ (setupFits s (now ints) (now floats) ≡ true) × (length (now z) ≡ s .rows) × (length (now sol) ≡ s .coarse) ⌝ }
+    ensures { λ _. ⌜ now (z .exit) ≡ tab (λ i. getD (now (z .entry)) i nan +ᶠ gained s (now (ints .entry)) (now (floats .entry)) (s .basis) (now (sol .entry)) i) (s .rows) ⌝ }
+{
+    let basis = s.basis;
+    match basis {
+        TwoLevelBasis::PiecewiseConstant => prolong_groups(s, ints, floats, sol, z),
+        TwoLevelBasis::JacobiSmoothed => prolong_weights(s, ints, floats, sol, z),
+    }
+}
