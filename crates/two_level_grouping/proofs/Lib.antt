@@ -1,0 +1,9 @@
+pub mod Sizes
+pub mod Fronts
+pub mod Rooms
+pub mod Kept
+pub mod Numbered
+pub mod Below
+pub mod Flat
+pub mod Graphs
+pub mod Policies

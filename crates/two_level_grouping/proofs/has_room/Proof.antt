@@ -1,0 +1,50 @@
+-- Each bound in turn.
+use Rattle.two_level_grouping.proofs.Rooms.{short-first, short-second, third}
+use borrow.Author.Needs.{needs}
+use Rattle.two_level_grouping.proofs.has_room.Statement.{statement}
+use Rattle.two_level_grouping.proofs.has_room.Tie as tie
+
+add-if1 : tie.Need-add-if1
+add-if1 c = search needs
+
+add-if1-2 : tie.Need-add-if1-2
+add-if1-2 c = search needs
+
+returns : tie.Need-returns
+returns c = search (short-first, short-second, third)
+
+mul-if2 : tie.Need-mul-if2
+mul-if2 c = search needs
+
+mul-if2-2 : tie.Need-mul-if2-2
+mul-if2-2 c = search needs
+
+add-if2 : tie.Need-add-if2
+add-if2 c = search needs
+
+add-if2-2 : tie.Need-add-if2-2
+add-if2-2 c = search needs
+
+returns-2 : tie.Need-returns-2
+returns-2 c = search (short-first, short-second, third)
+
+mul-result : tie.Need-mul-result
+mul-result c = search needs
+
+returns-3 : tie.Need-returns-3
+returns-3 c = search (short-first, short-second, third)
+
+pub has-room-spec : {M : Type 1} → statement M
+has-room-spec =
+    tie.close
+    (tie.spec
+    add-if1
+    add-if1-2
+    returns
+    mul-if2
+    mul-if2-2
+    add-if2
+    add-if2-2
+    returns-2
+    mul-result
+    returns-3)

@@ -1,0 +1,242 @@
+// The grouping of setup: causes 1 to 12, then the nodes' groups by the policy asked for.
+use definitions::Answer;
+use definitions::GroupingAnswer;
+use definitions::Options;
+use definitions::Refusal;
+use definitions::TwoLevelAggregation;
+ghost use mathlib.Core.Path.{_≡_};
+ghost use Prim.Native.Nat.{_+_, _-_, _*_, _/_, _<_, _≤_};
+ghost use mathlib.Core.Bool.{true};
+ghost use lib.ListN.{length, replicate};
+ghost use Rattle.definitions.specs.Lists.{tab, padded};
+ghost use Rattle.definitions.specs.Numbers.{zeroᶠ};
+ghost use Rattle.definitions.specs.Refusal.{resultLeft, workLeft};
+ghost use Rattle.definitions.specs.Matrix.{csr};
+ghost use Rattle.definitions.specs.Neighbours.{neighbourLists, flatNeighbours};
+ghost use Rattle.definitions.specs.Groups.{graphGrouping, noAnchor};
+ghost use Rattle.definitions.specs.Setup.{frontOf, groupingOf, graphOf};
+ghost use Rattle.definitions.specs.Answers.{answerOf, groupingAnswer};
+ghost use Rattle.two_level_grouping.specs.Front.{shapeOf, Front};
+ghost use Rattle.two_level_grouping.specs.Calls.{hasRoom, aggregateCall, idsLeft, neighboursEnd, Grouped, Settled, Ready, listsOf};
+
+// Causes 9 to 12, in this order.
+fn shape(rows: usize, cols: usize, block: u64, group: u64) -> Answer
+    ensures { λ r. ⌜ r ≡ answerOf (shapeOf rows cols block group) ⌝ }
+{
+    if cols != rows {
+        return Answer::Refused(Refusal::NotSquare);
+    }
+    if block == 0 {
+        return Answer::Refused(Refusal::BlockSize);
+    }
+    if 8 < block {
+        return Answer::Refused(Refusal::BlockSize);
+    }
+    if group == 0 {
+        return Answer::Refused(Refusal::GroupSize);
+    }
+    if 1_048_576 < group {
+        return Answer::Refused(Refusal::GroupSize);
+    }
+    if rows as u64 % block != 0 {
+        return Answer::Refused(Refusal::NotMultiple);
+    }
+    Answer::Accepted
+}
+
+// Causes 1 to 12, in this order.
+pub fn front(
+    rows: usize,
+    cols: usize,
+    row_ptr: &[u32],
+    col_idx: &[u32],
+    values: &[f64],
+    options: Options,
+) -> Answer
+    ensures { λ r. ⌜ r ≡ answerOf (frontOf (csr rows cols (now («row_ptr» .entry)) (now («col_idx» .entry)) (now (values .entry))) options) ⌝ }
+{
+    let valid = csr32::validate(rows, cols, row_ptr, col_idx, values);
+    match valid {
+        Answer::Refused(cause) => Answer::Refused(cause),
+        Answer::Accepted => shape(rows, cols, options.block, options.group),
+    }
+}
+
+// Whether the lists are long enough, for few nodes and entries.
+fn has_room(nodes: usize, entries: usize, room: usize, work_room: usize, float_room: usize) -> bool
+    requires { ⌜ (nodes ≤ 1_048_576) × (entries ≤ 16_777_216) ⌝ }
+    ensures { λ r. ⌜ r ≡ hasRoom nodes entries room «work_room» «float_room» ⌝ }
+{
+    if room < nodes + 1 + entries {
+        return false;
+    }
+    if work_room < 8 * nodes + 4 * entries + 16 {
+        return false;
+    }
+    3 * nodes <= float_room
+}
+
+// Contiguous: the group of a node is its number over the group size.
+fn contiguous(nodes: usize, size: usize, ids: &mut [u32]) -> u64
+    requires { ⌜ (0 < size) × ((nodes ≤ length (now ids)) × ((nodes ≤ 1_048_576) × (size ≤ 1_048_576))) ⌝ }
+    ensures { λ r. ⌜ (r ≡ (nodes + (size - 1)) / size) × (now (ids .exit) ≡ padded 0 (length (now (ids .entry))) (tab (λ v. v / size) nodes)) ⌝ }
+{
+    let mut v: usize = 0;
+    while v < nodes {
+        ids[v] = (v / size) as u32;
+        v += 1;
+    }
+    numbers::zero_ints(&mut ids[nodes..]);
+    ((nodes + (size - 1)) / size) as u64
+}
+
+// The groups that the neighbour lists give: the lists stand in `ids`, whose place the groups take.
+fn by_lists(nodes: usize, size: usize, ids: &mut [u32], work: &mut [u32]) -> GroupingAnswer
+    requires { ⌜ (neighboursEnd nodes (now ids) ≤ length (now ids)) × ((nodes < length (now ids)) × (nodes ≤ length (now work))) ⌝ }
+    ensures { λ r. ⌜ Grouped nodes size (now (ids .entry)) (now (work .entry)) r (now (ids .exit)) (now (work .exit)) ⌝ }
+{
+    let start = nodes + 1;
+    let end = start + ids[nodes] as usize;
+    let zero = 0;
+    let answer = aggregates::group_in(nodes, size, &ids[zero..start], &ids[start..end], work);
+    numbers::zero_ints(ids);
+    numbers::copy_ints(&work[zero..nodes], ids);
+    numbers::zero_ints(work);
+    answer
+}
+
+// Graph and StrongGraph: cause 16, then the groups by the nodes' lists.
+fn by_graph(
+    rows: usize,
+    cols: usize,
+    row_ptr: &[u32],
+    col_idx: &[u32],
+    values: &[f64],
+    options: Options,
+    aggregation: TwoLevelAggregation,
+    ids: &mut [u32],
+    work_ints: &mut [u32],
+    work_floats: &mut [f64],
+) -> GroupingAnswer
+    requires { ⌜ Ready (csr rows cols (now «row_ptr») (now «col_idx») (now values)) options (length (now ids)) (length (now «work_ints»)) (length (now «work_floats»)) ⌝ }
+    ensures { λ r. ⌜ Settled (listsOf aggregation (csr rows cols (now («row_ptr» .entry)) (now («col_idx» .entry)) (now (values .entry))) options) (now (ids .entry)) (now («work_ints» .entry)) (now («work_floats» .entry)) r (now (ids .exit)) (now («work_ints» .exit)) (now («work_floats» .exit)) ⌝ }
+{
+    let size = options.block as usize;
+    let nodes = rows / size;
+    if nodes == 0 {
+        numbers::zero_ints(ids);
+        numbers::zero_ints(work_ints);
+        numbers::zero_floats(work_floats);
+        return GroupingAnswer::Refused(Refusal::NoNode);
+    }
+    let zero = 0;
+    let need = nodes + 1 + values.len();
+    adjacency::neighbours(
+        rows,
+        cols,
+        row_ptr,
+        col_idx,
+        values,
+        size,
+        aggregation,
+        &mut ids[zero..need],
+        work_ints,
+        work_floats,
+    );
+    by_lists(nodes, options.group as usize, ids, work_ints)
+}
+
+// The groups by the policy asked for, of a matrix that has passed causes 1 to 12.
+fn by_policy(
+    rows: usize,
+    cols: usize,
+    row_ptr: &[u32],
+    col_idx: &[u32],
+    values: &[f64],
+    options: Options,
+    ids: &mut [u32],
+    work_ints: &mut [u32],
+    work_floats: &mut [f64],
+) -> GroupingAnswer
+    requires { ⌜ Ready (csr rows cols (now «row_ptr») (now «col_idx») (now values)) options (length (now ids)) (length (now «work_ints»)) (length (now «work_floats»)) ⌝ }
+    ensures { λ r. ⌜ Settled (groupingOf (options .aggregation) (csr rows cols (now («row_ptr» .entry)) (now («col_idx» .entry)) (now (values .entry))) options) (now (ids .entry)) (now («work_ints» .entry)) (now («work_floats» .entry)) r (now (ids .exit)) (now («work_ints» .exit)) (now («work_floats» .exit)) ⌝ }
+{
+    let aggregation = options.aggregation;
+    match aggregation {
+        TwoLevelAggregation::Contiguous => {
+            let size = options.block as usize;
+            let groups = contiguous(rows / size, options.group as usize, ids);
+            numbers::zero_ints(work_ints);
+            numbers::zero_floats(work_floats);
+            GroupingAnswer::Groups(groups)
+        }
+        TwoLevelAggregation::Graph => by_graph(
+            rows,
+            cols,
+            row_ptr,
+            col_idx,
+            values,
+            options,
+            TwoLevelAggregation::Graph,
+            ids,
+            work_ints,
+            work_floats,
+        ),
+        TwoLevelAggregation::StrongGraph => by_graph(
+            rows,
+            cols,
+            row_ptr,
+            col_idx,
+            values,
+            options,
+            TwoLevelAggregation::StrongGraph,
+            ids,
+            work_ints,
+            work_floats,
+        ),
+    }
+}
+
+// The grouping of setup alone: causes 1 to 12, 13 for the lists lent, 16; then the group of each node in `ids`, and work lists of zeros.
+pub fn aggregate(
+    rows: usize,
+    cols: usize,
+    row_ptr: &[u32],
+    col_idx: &[u32],
+    values: &[f64],
+    options: Options,
+    ids: &mut [u32],
+    work_ints: &mut [u32],
+    work_floats: &mut [f64],
+) -> GroupingAnswer
+    ensures { λ r. ⌜ Settled (aggregateCall (csr rows cols (now («row_ptr» .entry)) (now («col_idx» .entry)) (now (values .entry))) options (length (now (ids .entry))) (length (now («work_ints» .entry))) (length (now («work_floats» .entry)))) (now (ids .entry)) (now («work_ints» .entry)) (now («work_floats» .entry)) r (now (ids .exit)) (now («work_ints» .exit)) (now («work_floats» .exit)) ⌝ }
+{
+    let checked = front(rows, cols, row_ptr, col_idx, values, options);
+    match checked {
+        Answer::Refused(cause) => GroupingAnswer::Refused(cause),
+        Answer::Accepted => {
+            let size = options.block as usize;
+            if has_room(
+                rows / size,
+                values.len(),
+                ids.len(),
+                work_ints.len(),
+                work_floats.len(),
+            ) {
+                by_policy(
+                    rows,
+                    cols,
+                    row_ptr,
+                    col_idx,
+                    values,
+                    options,
+                    ids,
+                    work_ints,
+                    work_floats,
+                )
+            } else {
+                GroupingAnswer::Refused(Refusal::ListTooShort)
+            }
+        }
+    }
+}
