@@ -1,0 +1,151 @@
+-- Every refusal from the blocks on leaves zeros.
+use Prim.Native.Nat.{ℕ, zero, suc, _+_, _*_}
+use mathlib.Core.Path.{_≡_, refl}
+use mathlib.Core.Bool.{Bool, true, false}
+use mathlib.Core.List.{List, [], _∷_, _++_}
+use lib.ListN.{getD, take, replicate, set}
+use lib.Ieee.{Float, nan, lt}
+use Rattle.definitions.specs.Numbers.{_*ᶠ_, zeroᶠ, rootᶠ, usable, above, symmetryTol, pivotTol, total}
+use Rattle.definitions.specs.Refusal.{Outcome, refused, done, require, _>>=_, keepsAll, numberOf}
+use Rattle.definitions.specs.Matrix.{Matrix, storedAt}
+use Rattle.definitions.specs.Diagonal.{diagonalFrom, diagonalOf}
+use Rattle.definitions.specs.Factor.{factorFrom, leftOf, rest}
+use Rattle.definitions.specs.Block.{blockOf, topOf, skewed, inBlock, blockFactor, factorsFrom, factorsOf, blockCount, widthOf}
+use Rattle.definitions.specs.Estimate.{usableFrom, normalised, image, rounds, estimateOf}
+use Rattle.definitions.specs.Coarse.{coarseFactor}
+use Rattle.definitions.specs.Setup.{Lengths, groupingOf, graphOf, transferFor}
+use Rattle.definitions.specs.declared.Options.{Options}
+use Rattle.definitions.specs.declared.Refusal.{Refusal}
+use Rattle.definitions.specs.declared.Refusal.the-variants.{BlockNotSymmetric, BlockPivot, MissingDiagonal, CoarsePivot}
+use Rattle.definitions.specs.declared.TwoLevelAggregation.{TwoLevelAggregation}
+use Rattle.definitions.specs.declared.TwoLevelAggregation.the-variants.{Contiguous, Graph, StrongGraph}
+use Rattle.definitions.specs.declared.TwoLevelBasis.{TwoLevelBasis}
+use Rattle.definitions.specs.declared.TwoLevelBasis.the-variants.{PiecewiseConstant, JacobiSmoothed}
+use Rattle.two_level_setup.specs.Stages.{fromTransfer, fromRoom, fromGroups, fromFactors, fromBlocks}
+
+unfoldable pub Clears : {A : Type 0} → Outcome A → Type 0
+Clears (done x) = Unit {0}
+Clears (refused r) = keepsAll r ≡ false
+
+clears-require : (b : Bool) (r : Refusal) → keepsAll r ≡ false → Clears (require b r)
+unfolding Clears require
+clears-require true r k = tt
+clears-require false r k = k
+
+clears-then : {A B : Type 0} (o : Outcome A) (next : A → Outcome B) → Clears o → ((x : A) → Clears (next x)) → Clears (o >>= next)
+unfolding Clears _>>=_
+clears-then (done x) next h k = k x
+clears-then (refused r) next h k = h
+
+clears-done : {A : Type 0} (x : A) → Clears (done x)
+unfolding Clears
+clears-done x = tt
+
+pub clears-refused : {A : Type 0} (o : Outcome A) (r : Refusal) → Clears o → o ≡ refused r → keepsAll r ≡ false
+unfolding Clears
+clears-refused (done x) r k e = cc
+clears-refused (refused q) r k e = let g : q ≡ r = cc in rw (← g) k
+
+-- ---- Cholesky
+
+clears-factor : (place : ℕ → ℕ → ℕ) (bad : ℕ → Refusal) (a : ℕ → ℕ → Float) (tol : Float) → ((i : ℕ) → keepsAll (bad i) ≡ false) → (left i : ℕ) (l : List Float) → Clears (factorFrom place bad a tol left i l)
+unfolding factorFrom Clears
+clears-factor place bad a tol k zero i l = tt
+clears-factor place bad a tol k (suc left) i l = go (above tol (rest place a (leftOf place a i i l) i i)) (clears-factor place bad a tol k left (suc i) (set (leftOf place a i i l) (place i i) (rootᶠ (rest place a (leftOf place a i i l) i i))))
+  where
+    go : (b : Bool) → Clears (factorFrom place bad a tol left (suc i) (set (leftOf place a i i l) (place i i) (rootᶠ (rest place a (leftOf place a i i l) i i)))) → Clears {A = List Float} (elim b [ true ↦ factorFrom place bad a tol left (suc i) (set (leftOf place a i i l) (place i i) (rootᶠ (rest place a (leftOf place a i i l) i i))) | false ↦ refused (bad i) ])
+    go true h = h
+    go false h = k i
+
+clears-block : (a : Matrix) (start w : ℕ) → Clears (blockFactor a start w)
+unfolding blockFactor Clears keepsAll numberOf
+clears-block a start w = go (skewed (blockOf a start w) w (symmetryTol *ᶠ topOf (blockOf a start w)))
+  where
+    go : (b : Bool) → Clears {A = List Float} (elim b [
+      | true ↦ refused (BlockNotSymmetric start)
+      | false ↦ factorFrom (inBlock w) (λ i. BlockPivot (start + i)) (λ i j. getD (blockOf a start w) (inBlock w i j) nan) (pivotTol *ᶠ topOf (blockOf a start w)) w 0 (replicate 64 zeroᶠ) >>= (λ l. done (take (w * w) l))
+    ])
+    go true = refl
+    go false = clears-then _ _ (clears-factor (inBlock w) (λ i. BlockPivot (start + i)) _ _ (λ i. refl) w 0 (replicate 64 zeroᶠ)) (λ l. clears-done (take (w * w) l))
+
+clears-blocks : (a : Matrix) (size left k : ℕ) (factors : List Float) → Clears (factorsFrom a size left k factors)
+unfolding factorsFrom
+clears-blocks a size zero k factors = clears-done factors
+clears-blocks a size (suc left) k factors = clears-then _ _ (clears-block a (k * size) (widthOf (a .rows) size k)) (λ l. clears-blocks a size left (suc k) (factors ++ l))
+
+clears-factors : (a : Matrix) (size : ℕ) → Clears (factorsOf a size)
+unfolding factorsOf
+clears-factors a size = clears-blocks a size (blockCount (a .rows) size) 0 []
+
+-- ---- the groups
+
+clears-graph : (lists : List (List ℕ)) (nodes size : ℕ) → Clears (graphOf lists nodes size)
+unfolding graphOf keepsAll numberOf
+clears-graph lists nodes size = clears-then _ _ (clears-require _ _ refl) (λ _. clears-done _)
+
+clears-groups : (k : TwoLevelAggregation) (a : Matrix) (o : Options) → Clears (groupingOf k a o)
+unfolding groupingOf
+clears-groups Contiguous a o = clears-done _
+clears-groups Graph a o = clears-graph _ _ _
+clears-groups StrongGraph a o = clears-graph _ _ _
+
+-- ---- the transfer
+
+clears-diagonal : (a : Matrix) (left i : ℕ) (sums : List Float) → Clears (diagonalFrom a left i sums)
+unfolding diagonalFrom Clears keepsAll numberOf
+clears-diagonal a zero i sums = tt
+clears-diagonal a (suc left) i sums = go (storedAt a i i) (clears-diagonal a left (suc i) (sums ++ (total (storedAt a i i) ∷ [])))
+  where
+    go : (s : List Float) → Clears (diagonalFrom a left (suc i) (sums ++ (total (storedAt a i i) ∷ []))) → Clears {A = List Float} (elim s [ [] ↦ refused (MissingDiagonal i) | v ∷ vs ↦ diagonalFrom a left (suc i) (sums ++ (total (storedAt a i i) ∷ [])) ])
+    go [] h = refl
+    go (v ∷ vs) h = h
+
+clears-usable : (i : ℕ) (d : List Float) → Clears (usableFrom i d)
+unfolding usableFrom Clears keepsAll numberOf
+clears-usable i [] = tt
+clears-usable i (x ∷ d) = step (usable x) (lt x zeroᶠ) refl refl (clears-usable (suc i) d)
+  where
+    step : (b n : Bool) → usable x ≡ b → lt x zeroᶠ ≡ n → Clears (usableFrom (suc i) d) → Clears (usableFrom i (x ∷ d))
+    step false n p q ih = rw (p, usableFrom) refl
+    step true true p q ih = rw (p, q, usableFrom) refl
+    step true false p q ih = rw (p, q, usableFrom) ih
+
+clears-normalised : (stage : ℕ) (x : List Float) → Clears (normalised stage x)
+unfolding normalised keepsAll numberOf
+clears-normalised stage x = clears-then _ _ (clears-require _ _ refl) (λ _. clears-done _)
+
+clears-rounds : (a : Matrix) (s : List Float) (k : ℕ) (x : List Float) → Clears (rounds a s k x)
+unfolding rounds
+clears-rounds a s zero x = clears-done x
+clears-rounds a s (suc k) x = clears-then _ _ (clears-normalised 2 (image a s x)) (λ y. clears-rounds a s k y)
+
+clears-estimate : (a : Matrix) (d : List Float) → Clears (estimateOf a d)
+unfolding estimateOf keepsAll numberOf
+clears-estimate a d =
+    clears-then _ _ (clears-usable 0 d) (λ _.
+    clears-then _ _ (clears-normalised 1 _) (λ x.
+    clears-then _ _ (clears-rounds a _ 10 x) (λ y.
+    clears-then _ _ (clears-done _) (λ rho.
+    clears-then _ _ (clears-require _ _ refl) (λ _.
+    clears-then _ _ (clears-require _ _ refl) (λ _. clears-done _))))))
+
+clears-transfer : (basis : TwoLevelBasis) (a : Matrix) (size : ℕ) (ids : List ℕ) (c : ℕ) → Clears (transferFor basis a size ids c)
+unfolding transferFor diagonalOf
+clears-transfer PiecewiseConstant a size ids c = clears-done _
+clears-transfer JacobiSmoothed a size ids c = clears-then _ _ (clears-diagonal a (a .rows) 0 []) (λ d. clears-then _ _ (clears-estimate a d) (λ e. clears-done _))
+
+-- ---- the coarse part, and all
+
+clears-coarse : (c : ℕ) (m : List Float) → Clears (coarseFactor c m)
+unfolding coarseFactor keepsAll numberOf
+clears-coarse c m = clears-then _ _ (clears-require _ _ refl) (λ _. clears-factor _ (λ i. CoarsePivot i) _ _ (λ i. refl) c 0 _)
+
+pub clears-all : (a : Matrix) (o : Options) (room : Lengths) → Clears (fromBlocks a o room)
+unfolding fromBlocks fromFactors fromGroups fromRoom fromTransfer keepsAll numberOf
+clears-all a o room =
+    clears-then _ _ (clears-factors a (o .block)) (λ factors.
+    clears-then _ _ (clears-groups (o .aggregation) a o) (λ g.
+    clears-then _ _ (clears-require _ _ refl) (λ _.
+    clears-then _ _ (clears-require _ _ refl) (λ _.
+    clears-then _ _ (clears-transfer (o .basis) a (o .block) (g .ids) (g .count * o .block)) (λ t.
+    clears-then _ _ (clears-coarse (g .count * o .block) _) (λ l. clears-done _))))))

@@ -1,0 +1,9 @@
+pub mod Padding
+pub mod Policy
+pub mod Storing
+pub mod Matrices
+pub mod Building
+pub mod Clearing
+pub mod Groupings
+pub mod Smoothing
+pub mod Settling

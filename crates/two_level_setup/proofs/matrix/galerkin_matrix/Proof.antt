@@ -1,0 +1,107 @@
+-- No check of the stage fails, and the transfer's rows read back as they were.
+use Rattle.two_level_setup.proofs.Matrices.{galerkin-made}
+use Rattle.definitions.specs.Matrix.{csr}
+use Prim.Native.Nat.{_-_}
+use borrow.Author.Needs.{needs}
+use Rattle.two_level_setup.proofs.matrix.galerkin_matrix.Statement.{statement}
+use Rattle.two_level_setup.proofs.matrix.galerkin_matrix.Tie as tie
+
+div-nodes : tie.Need-div-nodes
+div-nodes c = search needs
+
+add-first : tie.Need-add-first
+add-first c = search needs
+
+add-first-2 : tie.Need-add-first-2
+add-first-2 c = search needs
+
+add-end : tie.Need-add-end
+add-end c = search needs
+
+mul-used : tie.Need-mul-used
+mul-used c = search needs
+
+add-stop : tie.Need-add-stop
+add-stop c = search needs
+
+mul-galerkin-coarse : tie.Need-mul-galerkin-coarse
+mul-galerkin-coarse c = search needs
+
+mul-galerkin-coarse-2 : tie.Need-mul-galerkin-coarse-2
+mul-galerkin-coarse-2 c = search needs
+
+sub-galerkin-coarse : tie.Need-sub-galerkin-coarse
+sub-galerkin-coarse c = search needs
+
+part-galerkin-coarse-start : tie.Need-part-galerkin-coarse-start
+part-galerkin-coarse-start c = search needs
+
+part-galerkin-coarse-end : tie.Need-part-galerkin-coarse-end
+part-galerkin-coarse-end c = search needs
+
+mul-galerkin-coarse-3 : tie.Need-mul-galerkin-coarse-3
+mul-galerkin-coarse-3 c = search needs
+
+sub-galerkin-coarse-2 : tie.Need-sub-galerkin-coarse-2
+sub-galerkin-coarse-2 c = search needs
+
+part-galerkin-coarse-start-2 : tie.Need-part-galerkin-coarse-start-2
+part-galerkin-coarse-start-2 c = search needs
+
+part-galerkin-coarse-end-2 : tie.Need-part-galerkin-coarse-end-2
+part-galerkin-coarse-end-2 c = search needs
+
+mul-galerkin-coarse-4 : tie.Need-mul-galerkin-coarse-4
+mul-galerkin-coarse-4 c = search needs
+
+sub-galerkin-coarse-3 : tie.Need-sub-galerkin-coarse-3
+sub-galerkin-coarse-3 c = search needs
+
+part-galerkin-coarse-start-3 : tie.Need-part-galerkin-coarse-start-3
+part-galerkin-coarse-start-3 c = search needs
+
+part-galerkin-coarse-end-3 : tie.Need-part-galerkin-coarse-end-3
+part-galerkin-coarse-end-3 c = search needs
+
+galerkin-coarse-requires : tie.Need-galerkin-coarse-requires
+galerkin-coarse-requires c κs = search needs
+
+same-length : tie.Need-same-length
+same-length c = search needs
+
+same-length-2 : tie.Need-same-length-2
+same-length-2 c = search needs
+
+returns : tie.Need-returns
+returns c = let a = c .before .before .before .before .before .before .before .before .before .before .before .before .before .before .before .before .before .args in
+    let p = c .before .before .before .before .before .before .before .before .before .before .before .before .before .before .before .before .before .pre in
+    let k = c .before .before .before .before .galerkin-coarse in
+    galerkin-made (csr (a .rows) (a .cols) (a .row-ptr .now) (a .col-idx .now) (a .values .now)) (a .options) (a .groups) (a .transfers) (a .ints .now) (a .floats .now) (a .work-ints .now) (a .work-floats .now) (p .0) (p .1 .0) (k .last .1 .1 .1 .1 .1 .1 .1 .1 .1 .0) (k .last .1 .1 .1 .1 .1 .1 .1 .1 .1 .1 .0) (k .ensures .2) (k .ensures .1)
+
+pub galerkin-matrix-spec : {M : Type 1} → statement M
+galerkin-matrix-spec =
+    tie.close
+    (tie.spec
+    div-nodes
+    add-first
+    add-first-2
+    add-end
+    mul-used
+    add-stop
+    mul-galerkin-coarse
+    mul-galerkin-coarse-2
+    sub-galerkin-coarse
+    part-galerkin-coarse-start
+    part-galerkin-coarse-end
+    mul-galerkin-coarse-3
+    sub-galerkin-coarse-2
+    part-galerkin-coarse-start-2
+    part-galerkin-coarse-end-2
+    mul-galerkin-coarse-4
+    sub-galerkin-coarse-3
+    part-galerkin-coarse-start-3
+    part-galerkin-coarse-end-3
+    galerkin-coarse-requires
+    same-length
+    same-length-2
+    returns)

@@ -1,0 +1,116 @@
+// Setup of the two-level preconditioner: the record, and the four lists that hold what it made.
+mod coarse; // coarse.rt: the factor or the inverse of the coarse matrix, and the record
+mod matrix; // matrix.rt: the coarse matrix by the basis asked for, and what follows it
+mod smoothed; // smoothed.rt: diagonal, estimate and transfer
+mod stages; // stages.rt: blocks, groups, and room for the coarse part
+
+use definitions::Answer;
+use definitions::Options;
+use definitions::Refusal;
+use definitions::SetupAnswer;
+ghost use mathlib.Core.Path.{_≡_};
+ghost use lib.ListN.{length, replicate};
+ghost use Rattle.definitions.specs.Numbers.{zeroᶠ};
+ghost use Rattle.definitions.specs.Matrix.{csr};
+ghost use Rattle.definitions.specs.Setup.{setupOf, setupLeft, lengthsOf};
+ghost use Rattle.definitions.specs.Answers.{setupAnswer};
+ghost use Rattle.two_level_setup.specs.Fit.{Fit, roomOf};
+ghost use Rattle.two_level_setup.specs.Stages.{fromBlocks};
+ghost use Rattle.two_level_setup.specs.Contracts.{lentOf, roomIn, Zeroed, Settled};
+
+fn zero_all(ints: &mut [u32], floats: &mut [f64], work_ints: &mut [u32], work_floats: &mut [f64])
+    ensures { λ _. ⌜ Zeroed (lentOf (now (ints .entry)) (now (floats .entry)) (now («work_ints» .entry)) (now («work_floats» .entry))) (lentOf (now (ints .exit)) (now (floats .exit)) (now («work_ints» .exit)) (now («work_floats» .exit))) ⌝ }
+{
+    numbers::zero_ints(ints);
+    numbers::zero_floats(floats);
+    numbers::zero_ints(work_ints);
+    numbers::zero_floats(work_floats);
+}
+
+// Builds, and clears all four lists where that is refused.
+fn settle(
+    rows: usize,
+    cols: usize,
+    row_ptr: &[u32],
+    col_idx: &[u32],
+    values: &[f64],
+    options: Options,
+    ints: &mut [u32],
+    floats: &mut [f64],
+    work_ints: &mut [u32],
+    work_floats: &mut [f64],
+) -> SetupAnswer
+    requires { ⌜ Fit (csr rows cols (now «row_ptr») (now «col_idx») (now values)) options (roomOf (length (now ints)) (length (now floats)) (length (now «work_ints»)) (length (now «work_floats»))) ⌝ }
+    ensures { λ r. ⌜ Settled (fromBlocks (csr rows cols (now («row_ptr» .entry)) (now («col_idx» .entry)) (now (values .entry))) options (roomIn (now (ints .entry)) (now (floats .entry)) (now («work_ints» .entry)) (now («work_floats» .entry)))) (lentOf (now (ints .entry)) (now (floats .entry)) (now («work_ints» .entry)) (now («work_floats» .entry))) r (lentOf (now (ints .exit)) (now (floats .exit)) (now («work_ints» .exit)) (now («work_floats» .exit))) ⌝ }
+{
+    let answer = stages::build(
+        rows,
+        cols,
+        row_ptr,
+        col_idx,
+        values,
+        options,
+        ints,
+        floats,
+        work_ints,
+        work_floats,
+    );
+    match answer {
+        SetupAnswer::Built(setup) => SetupAnswer::Built(setup),
+        SetupAnswer::Refused(cause) => {
+            zero_all(ints, floats, work_ints, work_floats);
+            SetupAnswer::Refused(cause)
+        }
+    }
+}
+
+// SETUP: causes 1 to 24 in their order; accepted, the record, with what it describes in `ints` and `floats` and zeros in the work lists.
+pub fn setup(
+    rows: usize,
+    cols: usize,
+    row_ptr: &[u32],
+    col_idx: &[u32],
+    values: &[f64],
+    options: Options,
+    ints: &mut [u32],
+    floats: &mut [f64],
+    work_ints: &mut [u32],
+    work_floats: &mut [f64],
+) -> SetupAnswer
+    ensures { λ r. ⌜ r ≡ setupAnswer (setupOf (csr rows cols (now («row_ptr» .entry)) (now («col_idx» .entry)) (now (values .entry))) options (lengthsOf (lentOf (now (ints .entry)) (now (floats .entry)) (now («work_ints» .entry)) (now («work_floats» .entry))))) ⌝ }
+    ensures { λ _. ⌜ lentOf (now (ints .exit)) (now (floats .exit)) (now («work_ints» .exit)) (now («work_floats» .exit)) ≡ setupLeft (setupOf (csr rows cols (now («row_ptr» .entry)) (now («col_idx» .entry)) (now (values .entry))) options (lengthsOf (lentOf (now (ints .entry)) (now (floats .entry)) (now («work_ints» .entry)) (now («work_floats» .entry))))) (lentOf (now (ints .entry)) (now (floats .entry)) (now («work_ints» .entry)) (now («work_floats» .entry))) ⌝ }
+{
+    let checked = two_level_grouping::front(rows, cols, row_ptr, col_idx, values, options);
+    match checked {
+        Answer::Refused(cause) => SetupAnswer::Refused(cause),
+        Answer::Accepted => {
+            let size = options.block as usize;
+            let entries = values.len();
+            if stages::long_enough(
+                rows / size + 2 * rows + entries + 1,
+                rows * size + rows + entries,
+                8 * rows + 4 * entries + 16,
+                8 * rows + 2 * entries,
+                ints.len(),
+                floats.len(),
+                work_ints.len(),
+                work_floats.len(),
+            ) {
+                settle(
+                    rows,
+                    cols,
+                    row_ptr,
+                    col_idx,
+                    values,
+                    options,
+                    ints,
+                    floats,
+                    work_ints,
+                    work_floats,
+                )
+            } else {
+                SetupAnswer::Refused(Refusal::ListTooShort)
+            }
+        }
+    }
+}
