@@ -1,0 +1,28 @@
+-- A number that differs from itself is the NaN.
+use mathlib.Core.Path.{_≡_, sym, subst}
+use mathlib.Core.Bool.{false, not}
+use lib.Dec.{T}
+use lib.Ieee.{Float, nan, inf, fin, ne, eq, isNan, toBits, binary64}
+use lib.Ieee.Compare.{differs-from-itself}
+use borrow.Author.Needs.{needs}
+use Rattle.yelomawin.proofs.told.bits.Statement.{statement}
+use Rattle.yelomawin.proofs.told.bits.Tie as tie
+
+real : (x : Float) → ne x x ≡ false → T (not (isNan x))
+unfolding ne eq isNan
+real nan e = subst T e tt
+real (inf s) e = tt
+real (fin s m d) e = tt
+
+float-to-bits-result : tie.Need-float-to-bits-result
+float-to-bits-result c = real (c .before .args .x) (c .if1 .left)
+
+returns : tie.Need-returns
+unfolding toBits
+returns c = rw (differs-from-itself (c .before .args .x) (subst T (sym (c .if1 .taken)) tt))
+
+returns-2 : tie.Need-returns-2
+returns-2 c = search needs
+
+pub bits-spec : {M : Type 1} → statement M
+bits-spec = tie.close (tie.spec float-to-bits-result returns returns-2)

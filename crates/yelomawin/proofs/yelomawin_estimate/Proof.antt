@@ -1,0 +1,23 @@
+-- What the call answers, as its number and values; the list as it leaves it.
+use borrow.Author.Needs.{needs}
+use Rattle.yelomawin.proofs.yelomawin_estimate.Statement.{statement}
+use Rattle.yelomawin.proofs.yelomawin_estimate.Tie as tie
+
+estimate-requires : tie.Need-estimate-requires
+estimate-requires c κs = search needs
+
+estimate-requires-2 : tie.Need-estimate-requires-2
+estimate-requires-2 c κs = search needs
+
+same-length : tie.Need-same-length
+same-length c = search needs
+
+same-length-2 : tie.Need-same-length-2
+same-length-2 c = search needs
+
+returns : tie.Need-returns
+returns c = let g = c .before .before .before .before .before .before .estimate .ensures in let t = c .before .before .estimate2 .ensures in rw (← (g .0)) (t .0, (g .1, t .1))
+
+pub yelomawin-estimate-spec : {M : Type 1} → statement M
+yelomawin-estimate-spec =
+    tie.close (tie.spec estimate-requires estimate-requires-2 same-length same-length-2 returns)

@@ -1,0 +1,27 @@
+-- What grouping alone answers, as its number and values; the lists as it leaves them.
+use borrow.Author.Needs.{needs}
+use Rattle.yelomawin.proofs.yelomawin_group.Statement.{statement}
+use Rattle.yelomawin.proofs.yelomawin_group.Tie as tie
+
+group-requires : tie.Need-group-requires
+group-requires c κs = search needs
+
+grouping-requires : tie.Need-grouping-requires
+grouping-requires c κs = search needs
+
+same-length : tie.Need-same-length
+same-length c = search needs
+
+same-length-2 : tie.Need-same-length-2
+same-length-2 c = search needs
+
+same-length-3 : tie.Need-same-length-3
+same-length-3 c = search needs
+
+returns : tie.Need-returns
+returns c = let g = c .before .before .before .before .before .before .before .before .group .ensures in let t = c .before .before .grouping .ensures in rw (← (g .0)) (t .0, (g .1 .0, (g .1 .1, t .1)))
+
+pub yelomawin-group-spec : {M : Type 1} → statement M
+yelomawin-group-spec =
+    tie.close
+    (tie.spec group-requires grouping-requires same-length same-length-2 same-length-3 returns)

@@ -1,0 +1,68 @@
+// An answer as its number; the list receives its values.
+use crate::answers;
+use definitions::Answer;
+use definitions::EstimateAnswer;
+use definitions::GroupingAnswer;
+ghost use mathlib.Core.Path.{_≡_};
+ghost use lib.Ieee.{binary64, toBits};
+ghost use Rattle.definitions.specs.Answers.{answerNumber};
+ghost use Rattle.yelomawin.specs.Boundary.{received, answerValues, groupingNumber, groupingValues, estimateNumber, estimateValues};
+
+// A float's bits; every NaN as 7FF8000000000000.
+pub fn bits(x: f64) -> u64
+    ensures { λ r. ⌜ r ≡ toBits binary64 x ⌝ }
+{
+    if x != x {
+        0x7ff8_0000_0000_0000
+    } else {
+        f64::to_bits(x)
+    }
+}
+
+pub fn number(answer: Answer) -> u64
+    ensures { λ r. ⌜ r ≡ answerNumber answer ⌝ }
+{
+    match answer {
+        Answer::Accepted => 0,
+        Answer::Refused(cause) => answers::number_of(cause),
+    }
+}
+
+pub fn plain(answer: Answer, list: &mut [u64]) -> u64
+    ensures { λ r. ⌜ r ≡ answerNumber answer ⌝ }
+    ensures { λ _. ⌜ now (list .exit) ≡ received (answerValues answer) (now (list .entry)) ⌝ }
+{
+    match answer {
+        Answer::Accepted => {
+            answers::receive(list, 0, 0);
+            0
+        }
+        Answer::Refused(cause) => answers::refuse(cause, list),
+    }
+}
+
+pub fn grouping(answer: GroupingAnswer, list: &mut [u64]) -> u64
+    ensures { λ r. ⌜ r ≡ groupingNumber answer ⌝ }
+    ensures { λ _. ⌜ now (list .exit) ≡ received (groupingValues answer) (now (list .entry)) ⌝ }
+{
+    match answer {
+        GroupingAnswer::Groups(count) => {
+            answers::receive(list, count, 0);
+            0
+        }
+        GroupingAnswer::Refused(cause) => answers::refuse(cause, list),
+    }
+}
+
+pub fn estimate(answer: EstimateAnswer, list: &mut [u64]) -> u64
+    ensures { λ r. ⌜ r ≡ estimateNumber answer ⌝ }
+    ensures { λ _. ⌜ now (list .exit) ≡ received (estimateValues answer) (now (list .entry)) ⌝ }
+{
+    match answer {
+        EstimateAnswer::Estimated { rho, damping } => {
+            answers::receive(list, bits(rho), bits(damping));
+            0
+        }
+        EstimateAnswer::Refused(cause) => answers::refuse(cause, list),
+    }
+}
