@@ -1,18 +1,14 @@
 -- The neighbours that each node lists, from the matrix: those that an entry of its rows names. The links may run one way only.
-use Prim.Native.Nat.{ℕ, _+_, _*_, _/_, _%_}
+use Prim.Native.Nat.{ℕ, _+_, _*_, _/_}
 use mathlib.Core.Bool.{Bool, true, false, not, _&&_, _||_}
 use mathlib.Core.List.{List, [], _∷_, _++_, map}
-use lib.Dec.{eqb, ltb, leb}
-use lib.ListN.{length}
+use lib.Dec.{eqb, ltb}
 use lib.Ieee.{Float, lt, eq}
 use lib.Ieee.Scale.{finite}
 use Rattle.definitions.specs.Lists.{tab, upTo, keep, any, pointersFrom, joinedLists}
 use Rattle.definitions.specs.Numbers.{_*ᶠ_, _/ᶠ_, rootᶠ, zeroᶠ, squared, total}
-use Rattle.definitions.specs.Refusal.{Outcome, refused, done, require, _>>=_}
-use Rattle.definitions.specs.Matrix.{Matrix, Entry, valuesWhere, validOf}
-use Rattle.definitions.specs.Block.{maxBlock}
+use Rattle.definitions.specs.Matrix.{Matrix, Entry, valuesWhere}
 use Rattle.definitions.specs.Links.{nodeEntries}
-use Rattle.definitions.specs.declared.Refusal.the-variants.{NotSquare, BlockSize, NotMultiple, ListTooShort}
 use Rattle.definitions.specs.declared.TwoLevelAggregation.{TwoLevelAggregation}
 use Rattle.definitions.specs.declared.TwoLevelAggregation.the-variants.{Contiguous, Graph, StrongGraph}
 
@@ -73,13 +69,3 @@ neighbourLists g a size nodes = tab (listFor g a size nodes) nodes
 -- end to end: the offsets, nodes + 1 many, then the neighbours
 unfoldable pub flatNeighbours : TwoLevelAggregation → Matrix → ℕ → ℕ → List ℕ
 flatNeighbours g a size nodes = let lists = neighbourLists g a size nodes in pointersFrom 0 lists ++ joinedLists lists
-
--- NEIGHBOUR LISTS ALONE, the stage of setup before the grouping: 1 to 10, 12, 13. Room for the result, and work lists of integers and of floats
-unfoldable pub neighboursCall : TwoLevelAggregation → Matrix → ℕ → ℕ → ℕ → ℕ → Outcome (List ℕ)
-neighboursCall g a size room workRoom floatRoom = do
-  _ ← validOf a
-  _ ← require (eqb (a .cols) (a .rows)) NotSquare
-  _ ← require (leb 1 size && leb size maxBlock) BlockSize
-  _ ← require (eqb (a .rows % size) 0) NotMultiple
-  _ ← require (leb (a .rows / size + 1 + length (a .values)) room && leb (2 * (a .rows / size)) workRoom && leb (3 * (a .rows / size)) floatRoom) ListTooShort
-  done (flatNeighbours g a size (a .rows / size))
