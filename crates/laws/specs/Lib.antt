@@ -11,7 +11,19 @@ pub mod RootExamples
 -- numbers that are the same but for a zero's sign, and what operations keep of that
 pub mod Same
 pub mod Near
--- lists, compressed rows, counts
+-- tests of two parts; lists, what grows by one, what passes a test, compressed rows, counts
+pub mod Tests
 pub mod Lists
+pub mod Growing
+pub mod Kept
 pub mod Csr
 pub mod Counting
+-- chains of stages; the factor: what its entries are, for the coarse matrix and for the blocks, that they are finite, and examples
+pub mod Outcomes
+pub mod Factor
+pub mod BlockFactors
+pub mod FiniteFactor
+pub mod FactorExamples
+-- diagonal sums behind accepted blocks, and the causes that setup never is
+pub mod Diagonals
+pub mod SetupCauses

@@ -2,14 +2,14 @@
 use mathlib.Core.Path.{_≡_, refl, sym, ap, _∙_, subst}
 use mathlib.Core.Bool.{Bool, true, false, not, _||_}
 use mathlib.Core.List.{List, [], _∷_, _++_, map, flatMap, zipWith}
-use Prim.Native.Nat.{ℕ, zero, suc, _+_, _*_, _<_}
+use Prim.Native.Nat.{ℕ, zero, suc, _+_, _-_, _*_, _<_}
 use native.Mathlib.Nat.{not-suc-le-zero, zero-lt-suc, suc-le-suc-iff, le-of-suc-le-suc, zero-mul, zero-add}
 use native.Mathlib.Omega.{arith}
 use lib.Dec.{T}
 use lib.Ieee.Fits.{and-i, and-l, and-r}
 use lib.ListN.{length, getD, take, drop, length-append, List·getD-append}
-use lib.Seq.{getD-append-add}
-use Rattle.definitions.specs.Lists.{tab, upTo, square, keep, any, all}
+use lib.Seq.{getD-append-add, take-at, drop-at}
+use Rattle.definitions.specs.Lists.{tab, upTo, square, part, keep, any, all}
 
 pub up-lt : {i n : ℕ} → i < n → suc i < suc n
 up-lt l = suc-le-suc-iff .1 l
@@ -51,6 +51,12 @@ module _ {A : Type 0} where
   unfolding tab
   each-tab f zero h = none
   each-tab f (suc n) h = more (h zero (zero-lt-suc n)) (each-tab (λ i. f (suc i)) n (λ i l. h (suc i) (up-lt l)))
+
+  pub tab-each : {P : A → Type 0} (f : ℕ → A) (n i : ℕ) → Each P (tab f n) → i < n → P (f i)
+  unfolding tab
+  tab-each f zero i h l = absurd (not-suc-le-zero l)
+  tab-each f (suc n) zero h l = each-head h
+  tab-each f (suc n) (suc i) h l = tab-each (λ k. f (suc k)) n i (each-tail h) (le-of-suc-le-suc l)
 
   pub each-keep : {P : A → Type 0} (p : A → Bool) {xs : List A} → Each (λ x. T (p x) → P x) xs → Each P (keep p xs)
   unfolding keep
@@ -147,6 +153,14 @@ module _ {A : Type 0} where
   tab-cong f g (suc n) h =
       ap (λ (x : A). x ∷ tab (λ i. f (suc i)) n) (h zero (zero-lt-suc n))
       ∙ ap (λ (xs : List A). g zero ∷ xs) (tab-cong (λ i. f (suc i)) (λ i. g (suc i)) n (λ i l. h (suc i) (up-lt l)))
+
+  -- a list is a tab by its elements
+  pub tab-is : (d : A) (l : List A) (f : ℕ → A) (n : ℕ) → length l ≡ n → ((j : ℕ) → j < n → getD l j d ≡ f j) → l ≡ tab f n
+  unfolding tab
+  tab-is d [] f zero e h = refl
+  tab-is d [] f (suc n) e h = absurd (omega arith)
+  tab-is d (x ∷ xs) f zero e h = absurd (omega arith)
+  tab-is d (x ∷ xs) f (suc n) e h = rw (tab-is d xs (λ i. f (suc i)) n (omega arith) (λ j k. h (suc j) (omega arith)), h zero (omega arith))
 
 pub each-upTo : {P : ℕ → Type 0} (n : ℕ) → ((i : ℕ) → i < n → P i) → Each P (upTo n)
 unfolding upTo
@@ -256,3 +270,15 @@ getD-square n f i j d l m = getD-rows (λ k. tab (f k) n) n (λ k. k) n i j d (�
 pub length-square : {A : Type 0} (n : ℕ) (f : ℕ → ℕ → A) → length (square n f) ≡ n * n
 unfolding square upTo
 length-square n f = length-rows (λ k. tab (f k) n) n (λ k. k) n (λ k t. length-tab (f k) n)
+
+pub square-cong : {A : Type 0} (n : ℕ) (f g : ℕ → ℕ → A) → ((i j : ℕ) → i < n → j < n → f i j ≡ g i j) → square n f ≡ square n g
+unfolding square
+square-cong n f g h = flatMap-cong (λ i. tab (f i) n) (λ i. tab (g i) n) (each-upTo n (λ i l. tab-cong (f i) (g i) n (λ j m. h i j l m)))
+
+-- a part in the middle
+pub part-mid : {A : Type 0} (p q r : List A) (s e : ℕ) → length p ≡ s → s + length q ≡ e → part s e (p ++ (q ++ r)) ≡ q
+part-mid {A} p q r s e h g =
+    ap (λ (l : List A). take (e - s) l) (drop-at p (q ++ r) s h) ∙ take-at q r (e - s) (back (length q) s e g)
+  where
+    back : (x y z : ℕ) → y + x ≡ z → x ≡ z - y
+    back x y z u = omega arith

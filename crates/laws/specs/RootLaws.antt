@@ -10,6 +10,7 @@ use lib.Dec.{T, leb, ltb, eqb, eqb→eq, eqb-refl, leb→le, nleb→lt, ltb→lt
 use lib.Pow.{pow-add, pow-pos, pow-lt}
 use lib.Ieee.{Float, nan, inf, fin, Format, prec, emax, low, up, down, size, nearest, odd, units, round, fits}
 use lib.Ieee.Fits.{odd-fits, down-pos, two, two-le-pos}
+use lib.Ieee.Positive.{positive, positive-of-value}
 use lib.Ieee.Exact.{HasValue, units-val}
 use Rattle.definitions.specs.Root.{isqrt, Located, rounded, rootAt, radicand, root, rootExact}
 use Rattle.laws.specs.RootSquares.{sq-lt, sq-up, dbl, root-unique, isqrt-root, Cmp, cmp, Near, no-middle, near-of}
@@ -283,3 +284,16 @@ root-fits f (fin true (suc m) e) t = unfold fits in tt
 root-fits f (fin false (suc m) e) t =
     let S = scale f m e t in
     subst (λ (x : Float). T (fits f x)) (sym (scaled-root f m e S)) (units-fits f false (closest (S .n)) (S .k) (near-most (prec f) (S .n) (closest (S .n)) (S .most) (scaled-near f m e S)))
+
+-- ---- 5. the root of a value that is finite and above zero is so too
+
+pub root-positive : (f : Format) (x : Float) → T (fits f x) → T (positive x) → T (positive (root f x))
+root-positive f nan t p = absurd p
+root-positive f (inf s) t p = absurd p
+root-positive f (fin true m e) t p = absurd p
+root-positive f (fin false zero e) t p = absurd p
+root-positive f (fin false (suc m) e) t p =
+    let S = scale f m e t in
+    let q = closest (S .n) in
+    positive-of-value (root f (fin false (suc m) e)) (q * 2 ^ S .k) (2 ^ low f) (scaled-value f m e S)
+    (mul-pos (lt-of-lt-of-le (pow-pos (prec f - 1)) (near-least (prec f) (S .n) q (S .least) (scaled-near f m e S))) (pow-pos (S .k)))

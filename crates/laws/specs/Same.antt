@@ -192,7 +192,7 @@ sum-zeros f false false c C = round-zero f false c C
 sum-zeros f true false c C = round-zero f false c C
 sum-zeros f false true c C = round-zero f false c C
 
-nil : (u v : ℕ) → 0 * u * v ≡ 0
+pub nil : (u v : ℕ) → 0 * u * v ≡ 0
 nil u v = ap (λ (x : ℕ). x * v) (zero-mul u) ∙ zero-mul v
 
 pub add-zeros : (f : Format) (x y : Float) → Zero x → Zero y → Zero (add f x y)

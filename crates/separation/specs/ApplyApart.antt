@@ -30,7 +30,7 @@ use Rattle.definitions.specs.declared.TwoLevelBasis.the-variants.{PiecewiseCons
 use Rattle.definitions.specs.declared.TwoLevelCoarseApplyPolicy.{TwoLevelCoarseApplyPolicy}
 use Rattle.laws.specs.Lists.{Each, none, each-imp, each-any, each-both, each-keep, each-upTo, getD-tab, getD-rows}
 use Rattle.laws.specs.Near.{Near, Nears, both-none, near-add, near-scale, near-total, near-summed, nears-map, nears-flatMap}
-use Rattle.separation.specs.Outcomes.{done-inj, bind-done}
+use Rattle.laws.specs.Outcomes.{done-inj, bind-done}
 use Rattle.separation.specs.SolveApart.{Parted, split, differ-back, coarse-near, block-near, block-length}
 use Rattle.separation.specs.FactorApart.{coarse-factor-vanish}
 use Rattle.separation.specs.Parts.{entries-apart, row-of-node, node-of-row}

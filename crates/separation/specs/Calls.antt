@@ -18,7 +18,7 @@ use Rattle.definitions.specs.Separation.{agree, HandsOutCorrected, SeparationOf
 use Rattle.definitions.specs.declared.Options.{Options}
 use Rattle.definitions.specs.declared.Setup.{Setup}
 use Rattle.definitions.specs.declared.Refusal.the-variants.{ListTooShort, WrongLength, SetupMisfit}
-use Rattle.separation.specs.Outcomes.{done-inj, test-passed, pass-test}
+use Rattle.laws.specs.Outcomes.{done-inj, test-passed, pass-test}
 use Rattle.separation.specs.Stages.{Stages, built, stages-of}
 use Rattle.separation.specs.ApplyApart.{appliedBy}
 use Rattle.separation.specs.Layout.{applied-read}

@@ -21,7 +21,7 @@ use Rattle.definitions.specs.declared.Options.{Options}
 use Rattle.definitions.specs.declared.TwoLevelAggregation.{TwoLevelAggregation}
 use Rattle.definitions.specs.declared.TwoLevelAggregation.the-variants.{Contiguous, Graph, StrongGraph}
 use Rattle.laws.specs.Lists.{Each, each-at, each-tab, any-tab, tab-any, length-tab}
-use Rattle.separation.specs.Outcomes.{done-inj}
+use Rattle.laws.specs.Outcomes.{done-inj}
 use Rattle.separation.specs.GroupsApart.{grouping-length, grouping-below, groups-apart}
 use Rattle.separation.specs.Parts.{lists-apart, graph-grouping, node-of-row}
 

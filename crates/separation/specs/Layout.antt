@@ -1,57 +1,38 @@
 -- The two lists of a setup read back as what was stored, whatever stands behind them: each part is as long as its record says.
 use mathlib.Core.Path.{_≡_, refl, sym, ap, _∙_, subst}
-use mathlib.Core.Bool.{Bool, true, false}
 use mathlib.Core.List.{List, [], _++_, map, flatMap, append-assoc}
-use Prim.Native.Nat.{ℕ, zero, suc, _+_, _-_, _*_, _/_, _≤_, _<_}
-use native.Mathlib.Nat.{mul-assoc, mul-le-mul}
+use Prim.Native.Nat.{ℕ, zero, suc, _+_, _*_, _/_, _≤_, _<_}
+use native.Mathlib.Nat.{mul-assoc}
 use native.Mathlib.Omega.{arith}
 use lib.Dec.{eqb}
-use lib.ListN.{length, getD, take, replicate, length-append, length-replicate}
-use lib.Seq.{take-at, drop-at, length-take-le}
+use lib.ListN.{length, getD, take, length-append}
+use lib.Seq.{take-at}
 use lib.Ieee.{Float, nan}
 use Rattle.definitions.specs.Lists.{tab, upTo, part, pointersFrom}
-use Rattle.definitions.specs.Numbers.{_+ᶠ_, _*ᶠ_, zeroᶠ, symmetryTol, pivotTol, total, summed}
-use Rattle.definitions.specs.Refusal.{Outcome, refused, done, _>>=_}
+use Rattle.definitions.specs.Numbers.{_+ᶠ_, _*ᶠ_, total, summed}
+use Rattle.definitions.specs.Refusal.{done}
 use Rattle.definitions.specs.Matrix.{Matrix, Entry, rowOf, valuesWhere}
-use Rattle.definitions.specs.Factor.{factorFrom}
-use Rattle.definitions.specs.Block.{blockCount, widthOf, blockOf, inBlock, topOf, skewed, blockFactor, factorsFrom, factorsOf, blockApplied}
+use Rattle.definitions.specs.Block.{blockCount, widthOf, blockFactor, factorsFrom, factorsOf, blockApplied}
 use Rattle.definitions.specs.Transfer.{coarseColumn, transferRow, transferOf}
 use Rattle.definitions.specs.Coarse.{packedLength, averagedSquare, averaged, entryIn, coarseLength, coarsePart, coarseSolve, inverseOf, packedSolve, unit}
 use Rattle.definitions.specs.Setup.{nodeCount, Transfer, transferFor, transferInts, transferFloats, builtFrom}
 use Rattle.definitions.specs.Fits.{idsIn, pointersIn, columnsIn, factorsIn, weightsIn, coarseIn}
 use Rattle.definitions.specs.Apply.{constantParts, smoothedParts, weightedParts, transferIn, restrictedParts, restricted, coarseSolution, gained, applied}
 use Rattle.definitions.specs.declared.Options.{Options}
-use Rattle.definitions.specs.declared.Refusal.the-variants.{BlockNotSymmetric, BlockPivot}
 use Rattle.definitions.specs.declared.TwoLevelBasis.{TwoLevelBasis}
 use Rattle.definitions.specs.declared.TwoLevelBasis.the-variants.{PiecewiseConstant, JacobiSmoothed}
 use Rattle.definitions.specs.declared.TwoLevelCoarseApplyPolicy.{TwoLevelCoarseApplyPolicy}
 use Rattle.definitions.specs.declared.TwoLevelCoarseApplyPolicy.the-variants.{Auto, FactorSolve, ExplicitInverse}
-use Rattle.laws.specs.Lists.{each-upTo, flatMap-cong, tab-cong, length-tab, length-square}
+use Rattle.laws.specs.Lists.{each-upTo, flatMap-cong, tab-cong, length-tab, length-square, part-mid}
 use Rattle.laws.specs.Csr.{pointers-length, row-back, columnsOf, numbersOf, columns-length, values-length}
-use Rattle.separation.specs.Outcomes.{done-inj, refused-not-done, bind-done}
-use Rattle.separation.specs.FactorApart.{factor-length, coarse-factor-length}
+use Rattle.laws.specs.Outcomes.{done-inj, bind-done}
+use Rattle.laws.specs.Factor.{coarse-factor-length}
+use Rattle.laws.specs.BlockFactors.{block-factor-length}
 use Rattle.separation.specs.Columns.{ids-length}
 use Rattle.separation.specs.Stages.{Stages, dimension, coarseAveraged, built, sound}
 use Rattle.separation.specs.ApplyApart.{blocks-are-nodes, width-is-size, smoothed-weights, policyBy, weightsBy, partsBy, restrictedBy, solutionBy, gainedBy, appliedBy}
 
 -- ---- lengths: the block factors
-
-block-factor-length : (a : Matrix) (start w : ℕ) (l : List Float) → w ≤ 8 → blockFactor a start w ≡ done l → length l ≡ w * w
-unfolding blockFactor
-block-factor-length a start w l h e = go (skewed (blockOf a start w) w (symmetryTol *ᶠ topOf (blockOf a start w))) e
-  where
-    small : w * w ≤ 64
-    small = mul-le-mul h h
-
-    go : (b : Bool) → _≡_ {A = Outcome (List Float)} (elim b [
-      | true ↦ refused (BlockNotSymmetric start)
-      | false ↦ factorFrom (inBlock w) (λ i. BlockPivot (start + i)) (λ i j. getD (blockOf a start w) (inBlock w i j) nan) (pivotTol *ᶠ topOf (blockOf a start w)) w 0 (replicate 64 zeroᶠ) >>= (λ x. done (take (w * w) x))
-    ]) (done l) → length l ≡ w * w
-    go true u = absurd (refused-not-done u)
-    go false u =
-        let r = bind-done (factorFrom (inBlock w) (λ i. BlockPivot (start + i)) (λ i j. getD (blockOf a start w) (inBlock w i j) nan) (pivotTol *ᶠ topOf (blockOf a start w)) w 0 (replicate 64 zeroᶠ)) _ l u in
-        let long : length (r .0) ≡ 64 = factor-length (inBlock w) (λ i j. getD (blockOf a start w) (inBlock w i j) nan) (λ i. BlockPivot (start + i)) (pivotTol *ᶠ topOf (blockOf a start w)) w 0 (replicate 64 zeroᶠ) (r .0) (r .1) ∙ length-replicate 64 zeroᶠ in
-        ap length (sym (done-inj (r .2))) ∙ length-take-le (w * w) (r .0) (subst (λ (x : ℕ). w * w ≤ x) (sym long) small)
 
 factors-from-length : (a : Matrix) (size : ℕ) → size ≤ 8 → (left k : ℕ) → ((j : ℕ) → j < k + left → widthOf (a .rows) size j ≡ size) → (done-so-far out : List Float)
     → factorsFrom a size left k done-so-far ≡ done out → length out ≡ length done-so-far + left * (size * size)
@@ -95,15 +76,6 @@ unfolding coarsePart coarseLength inverseOf averagedSquare
 coarse-part-length Auto c m l e = e
 coarse-part-length FactorSolve c m l e = e
 coarse-part-length ExplicitInverse c m l e = length-square c (averaged (entryIn (flatMap (λ i. packedSolve c l (unit c i)) (upTo c)) c))
-
--- ---- a part in the middle
-
-pub part-mid : {A : Type 0} (p q r : List A) (s e : ℕ) → length p ≡ s → s + length q ≡ e → part s e (p ++ (q ++ r)) ≡ q
-part-mid {A} p q r s e h g =
-    ap (λ (l : List A). take (e - s) l) (drop-at p (q ++ r) s h) ∙ take-at q r (e - s) (back (length q) s e g)
-  where
-    back : (x y z : ℕ) → y + x ≡ z → x ≡ z - y
-    back x y z u = omega arith
 
 -- ---- the transfer's rows
 

@@ -4,7 +4,6 @@
 -- solves and factors keep two sets of columns apart
 pub mod Solves
 pub mod SolveApart
-pub mod Outcomes
 pub mod FactorApart
 -- groups respect parts
 pub mod Sides
@@ -19,9 +18,10 @@ pub mod Columns
 pub mod CoarseApart
 pub mod Stages
 pub mod ApplyApart
--- from the lists of a setup to what was stored
+-- from the lists of a setup to what was stored; that stored factors are finite
 pub mod Layout
 pub mod Fitting
+pub mod FiniteSetup
 -- the theorems, and an instance
 pub mod Theorem
 pub mod Calls

@@ -21,7 +21,7 @@ use Rattle.definitions.specs.declared.Refusal.the-variants.{NoNode}
 use Rattle.definitions.specs.declared.TwoLevelAggregation.{TwoLevelAggregation}
 use Rattle.definitions.specs.declared.TwoLevelAggregation.the-variants.{Contiguous, Graph, StrongGraph}
 use Rattle.laws.specs.Lists.{Each, none, more, each-imp, each-any, each-all, each-keep, each-map, each-flatMap, each-upTo, all-upTo, any-each, tab-reads}
-use Rattle.separation.specs.Outcomes.{done-inj, test-passed}
+use Rattle.laws.specs.Outcomes.{done-inj, test-passed}
 
 beq-is : (s t : Bool) → T (Bool·beq s t) → s ≡ t
 beq-is true true h = refl

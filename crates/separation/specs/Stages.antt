@@ -18,7 +18,7 @@ use Rattle.definitions.specs.Setup.{nodeCount, Lengths, entryNeeds, coarseNeeds
 use Rattle.definitions.specs.Formed.{setupFormed, applyFormed, formed}
 use Rattle.definitions.specs.declared.Options.{Options}
 use Rattle.definitions.specs.declared.Refusal.the-variants.{TooLarge, RowListLength, ColumnListLength, FirstPointer, LastPointer, PointerFalls, ColumnOutside, NotSquare, BlockSize, GroupSize, NotMultiple, ListTooShort, CoarseTooLarge, CoarseListTooShort}
-use Rattle.separation.specs.Outcomes.{done-inj, bind-done, done-bind, skip-done, test-passed, pass-test, last-passed}
+use Rattle.laws.specs.Outcomes.{done-inj, bind-done, done-bind, skip-done, test-passed, pass-test, last-passed}
 
 -- ---- the checks
 

@@ -23,7 +23,7 @@ use Rattle.definitions.specs.declared.Options.{Options}
 use Rattle.definitions.specs.declared.Setup.{Setup}
 use Rattle.laws.specs.Lists.{Each, each-all, all-each, each-upTo, all-upTo, each-at, each-right, length-tab}
 use Rattle.laws.specs.Near.{Near, near-of-eq, near-to-eq}
-use Rattle.separation.specs.Outcomes.{done-inj, bind-done, done-bind}
+use Rattle.laws.specs.Outcomes.{done-inj, bind-done, done-bind}
 use Rattle.separation.specs.Stages.{Stages, built, formed-is, stages-of}
 use Rattle.separation.specs.ApplyApart.{appliedBy, applied-near}
 use Rattle.separation.specs.Layout.{applied-read}

@@ -39,3 +39,14 @@ pub last-passed : (b : Bool) (r : Refusal) → require b r ≡ done tt → T b
 unfolding require
 last-passed true r e = tt
 last-passed false r e = absurd (refused-not-done e)
+
+-- the same, of the test's value
+pub test-true : {B : Type 0} (b : Bool) (r : Refusal) (f : Unit {0} → Outcome B) (y : B) → (require b r >>= f) ≡ done y → (b ≡ true) × (f tt ≡ done y)
+unfolding require _>>=_
+test-true true r f y e = (refl, e)
+test-true false r f y e = absurd (refused-not-done e)
+
+pub last-true : (b : Bool) (r : Refusal) → require b r ≡ done tt → b ≡ true
+unfolding require
+last-true true r e = refl
+last-true false r e = absurd (refused-not-done e)
