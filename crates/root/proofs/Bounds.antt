@@ -1,15 +1,9 @@
 -- How large the numbers on the way to the whole root are.
-use Prim.Native.Nat.{ℕ, suc, _+_, _*_, _/_, _%_, _^_, _≤_, _<_}
+use Prim.Native.Nat.{ℕ, _+_, _*_, _/_, _%_, _^_, _≤_, _<_}
 use native.Mathlib.Nat.{le-refl, le-trans, le-of-lt, lt-of-lt-of-le, lt-of-le-of-lt, mul-le-mul, div-lt-iff-lt-mul}
 use native.Mathlib.Omega.{arith}
 use lib.Dec.{lit≤, lit<}
-use Rattle.laws.specs.RootSquares.{IsRoot, sq-lt}
-
-pub start-bounds : (k t : ℕ) → 256 ≤ k → k < 1024 → IsRoot (65536 * k) t → (4096 ≤ t) × (t < 8192)
-start-bounds k t a b r =
-    let h : 4096 < suc t = sq-lt 4096 (suc t) (lt-of-le-of-lt (omega arith) (r .1)) in
-    let g : t < 8192 = sq-lt t 8192 (lt-of-le-of-lt (r .0) (omega arith)) in
-    omega arith
+use Rattle.laws.specs.RootSquares.{sq-lt}
 
 -- a quotient by d or more is at most what d itself would give
 quotient : (a d q s : ℕ) → a < q * d → 0 < d → d ≤ s → a / s < q

@@ -3,6 +3,7 @@
 ghost use Prim.Native.Nat.{_+_, _*_, _≤_, _<_, _^_};
 ghost use mathlib.Core.Path.{_≡_};
 ghost use Rattle.laws.specs.RootSquares.{IsRoot, Rest, closer};
+use crate::StartTable;
 use crate::starts::start;
 
 // A whole root, and what the number is above its square.
@@ -37,11 +38,11 @@ fn whole_root(a: u64, near: u64) -> u64
 }
 
 // The whole root of a * 2^52: that of a, then 26 digits from what is left over, which may be one too many.
-pub fn with_rest(a: u64) -> Rooted
+pub fn with_rest(table: &StartTable, a: u64) -> Rooted
     requires { ⌜ (2 ^ 52 ≤ a) × (a < 2 ^ 54) ⌝ }
     ensures { λ r. ⌜ Rest (a * 2 ^ 52) (r .root) (r .rest) ⌝ }
 {
-    let t = start((a >> 44) as usize) as u32;
+    let t = start(table, (a >> 44) as usize) as u32;
     let s = whole_root(a, newton(a, t));
     let n = (a - s * s) << 25;
     let q = n / s;

@@ -1,7 +1,9 @@
 // Where the search for a root starts: a constant table of 768 whole numbers.
 
-ghost use Prim.Native.Nat.{_*_, _≤_, _<_};
-ghost use Rattle.laws.specs.RootSquares.{IsRoot};
+use crate::StartTable;
+ghost use mathlib.Core.Path.{_≡_};
+ghost use Prim.Native.Nat.{_≤_, _<_, _^_};
+ghost use Rattle.root.specs.Starts.{wholeRoots};
 
 // for k from 256 to 1023 the largest t with t * t <= 65,536 k
 const STARTS: [u16; 768] = [
@@ -775,9 +777,24 @@ const STARTS: [u16; 768] = [
     8187,
 ];
 
-pub fn start(k: usize) -> u16
-    requires { ⌜ (256 ≤ k) × (k < 1024) ⌝ }
-    ensures { λ r. ⌜ IsRoot (65536 * k) r ⌝ }
+// The table as a value: the toolchain builds a constant array anew wherever it is named, so that a caller of many roots builds it once.
+pub fn starts() -> StartTable
+    ensures { λ r. ⌜ r ≡ wholeRoots 768 256 ⌝ }
 {
-    STARTS[k - 256]
+    STARTS
+}
+
+// Where the search starts, by any table: what it holds makes no difference but to the time.
+pub fn start(table: &StartTable, k: usize) -> u16
+    requires { ⌜ (256 ≤ k) × (k < 1024) ⌝ }
+    ensures { λ r. ⌜ (2 ^ 11 ≤ r) × (r < 2 ^ 14) ⌝ }
+{
+    let t = table[k - 256];
+    if t < 2048 {
+        return 2048;
+    }
+    if 16383 < t {
+        return 16383;
+    }
+    t
 }

@@ -9,30 +9,10 @@ mod published;
 
 use published::ROOTS;
 
-// The float of a pattern; every NaN pattern is NaN.
-fn of_bits(b: u64) -> f64
-    ensures { λ r. ⌜ r ≡ ofBits binary64 b ⌝ }
-{
-    if 0x7ff0_0000_0000_0000 < b % 0x8000_0000_0000_0000 {
-        return 0.0 / 0.0;
-    }
-    f64::from_bits(b)
-}
-
-// The pattern of a float; NaN's is 7FF8000000000000.
-fn bits_of(x: f64) -> u64
-    ensures { λ r. ⌜ r ≡ toBits binary64 x ⌝ }
-{
-    if x != x {
-        return 0x7ff8_0000_0000_0000;
-    }
-    f64::to_bits(x)
-}
-
 fn root_of(b: u64) -> u64
     ensures { λ r. ⌜ r ≡ toBits binary64 (rootᶠ (ofBits binary64 b)) ⌝ }
 {
-    bits_of(root::root(of_bits(b)))
+    float_bits::bits_of(root::root(float_bits::of_bits(b)))
 }
 
 // 1 where the published root is ours.

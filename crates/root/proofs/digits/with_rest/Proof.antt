@@ -2,7 +2,6 @@
 use Prim.Native.Nat.{ℕ, _*_, _/_, _^_}
 use native.Mathlib.Omega.{arith}
 use borrow.Author.Needs.{needs}
-use Rattle.root.proofs.Bounds.{start-bounds}
 use Rattle.root.proofs.Division.{quo, left, cand, Parts, parts, root-fits, root-pos, square-fits, cand-fits, cand-pos, sum-fits, rest-pos, rest-at, rest-before}
 use Rattle.root.proofs.digits.with_rest.Statement.{statement}
 use Rattle.root.proofs.digits.with_rest.Tie as tie
@@ -21,11 +20,7 @@ cast-t : tie.Need-cast-t
 cast-t c = search needs
 
 newton-requires : tie.Need-newton-requires
-newton-requires c κs =
-    let a = c .before .args .a in
-    let t = c .start .result in
-    let b = start-bounds (a / 2 ^ 44) t (omega arith) (omega arith) (c .start .ensures) in
-    (c .before .pre .1, omega arith, omega arith)
+newton-requires c κs = (c .before .pre .1, c .start .ensures .0, c .start .ensures .1)
 
 whole-root-requires : tie.Need-whole-root-requires
 whole-root-requires c κs = search needs
@@ -71,29 +66,29 @@ add-c c = let h = cand-fits (a c * 2 ^ 52) (s c) (q c) (u c) (d c) (known c) in 
 mul-if1 : tie.Need-mul-if1
 mul-if1 c = record { fits = square-fits (a c * 2 ^ 52) (s c) (q c) (u c) (d c) (known c) }
 
-mul-t14 : tie.Need-mul-t14
-mul-t14 c = let b = c .before in record { fits = square-fits (a b * 2 ^ 52) (s b) (q b) (u b) (d b) (known b) }
-
-sub-t15 : tie.Need-sub-t15
-sub-t15 c = search needs
+mul-t15 : tie.Need-mul-t15
+mul-t15 c = let b = c .before in record { fits = square-fits (a b * 2 ^ 52) (s b) (q b) (u b) (d b) (known b) }
 
 sub-t16 : tie.Need-sub-t16
-sub-t16 c = let b = c .before in let h = cand-pos (a b * 2 ^ 52) (s b) (q b) (u b) (d b) (known b) in omega arith
+sub-t16 c = search needs
 
-mul-t17 : tie.Need-mul-t17
-mul-t17 c = let b = c .before in let h = cand-fits (a b * 2 ^ 52) (s b) (q b) (u b) (d b) (known b) in record { fits = omega arith }
+sub-t17 : tie.Need-sub-t17
+sub-t17 c = let b = c .before in let h = cand-pos (a b * 2 ^ 52) (s b) (q b) (u b) (d b) (known b) in omega arith
 
-sub-t18 : tie.Need-sub-t18
-sub-t18 c = let b = c .before in let h = cand-pos (a b * 2 ^ 52) (s b) (q b) (u b) (d b) (known b) in omega arith
+mul-t18 : tie.Need-mul-t18
+mul-t18 c = let b = c .before in let h = cand-fits (a b * 2 ^ 52) (s b) (q b) (u b) (d b) (known b) in record { fits = omega arith }
 
-add-t19 : tie.Need-add-t19
-add-t19 c = let b = c .before in record { fits = sum-fits (a b * 2 ^ 52) (s b) (q b) (u b) (d b) (known b) }
+sub-t19 : tie.Need-sub-t19
+sub-t19 c = let b = c .before in let h = cand-pos (a b * 2 ^ 52) (s b) (q b) (u b) (d b) (known b) in omega arith
 
-mul-t20 : tie.Need-mul-t20
-mul-t20 c = let b = c .before in record { fits = square-fits (a b * 2 ^ 52) (s b) (q b) (u b) (d b) (known b) }
+add-t20 : tie.Need-add-t20
+add-t20 c = let b = c .before in record { fits = sum-fits (a b * 2 ^ 52) (s b) (q b) (u b) (d b) (known b) }
 
-sub-t21 : tie.Need-sub-t21
-sub-t21 c = let b = c .before in rest-pos (a b * 2 ^ 52) (s b) (q b) (u b) (d b) (known b)
+mul-t21 : tie.Need-mul-t21
+mul-t21 c = let b = c .before in record { fits = square-fits (a b * 2 ^ 52) (s b) (q b) (u b) (d b) (known b) }
+
+sub-t22 : tie.Need-sub-t22
+sub-t22 c = let b = c .before in rest-pos (a b * 2 ^ 52) (s b) (q b) (u b) (d b) (known b)
 
 returns : tie.Need-returns
 returns c = let b = c .before in rest-at (a b * 2 ^ 52) (s b) (q b) (u b) (d b) (known b) (search needs)
@@ -115,13 +110,13 @@ with-rest-spec =
     rem-left
     add-c
     mul-if1
-    mul-t14
-    sub-t15
+    mul-t15
     sub-t16
-    mul-t17
-    sub-t18
-    add-t19
-    mul-t20
-    sub-t21
+    sub-t17
+    mul-t18
+    sub-t19
+    add-t20
+    mul-t21
+    sub-t22
     returns
     returns-2)

@@ -6,8 +6,8 @@ use lib.Ieee.{Float, nan, inf, fin, isNan, ofBits, div, binary64}
 use lib.Ieee.Bits.{nanBits-is, nanBits-above}
 use borrow.Author.Tests.{lt-ltb, le-ltb}
 use borrow.Author.Needs.{needs}
-use Rattle.root_vectors.proofs.of_bits.Statement.{statement}
-use Rattle.root_vectors.proofs.of_bits.Tie as tie
+use Rattle.float_bits.proofs.of_bits.Statement.{statement}
+use Rattle.float_bits.proofs.of_bits.Tie as tie
 
 is-nan : (x : Float) → isNan x ≡ true → x ≡ nan
 unfolding isNan

@@ -8,11 +8,11 @@ use lib.Ieee.Compare.{differs-from-itself}
 use lib.Ieee.Bits.{ofBits-toBits}
 use Rattle.definitions.specs.Numbers.{rootᶠ}
 use Rattle.root.proofs.Special.{root-nan, no-nan, root-kept, at-zero, at-minus-zero, at-infinity, zero-by-zero, below-zero, not-nan-bits}
-use Rattle.root.proofs.root.Statement.{statement}
-use Rattle.root.proofs.root.Tie as tie
+use Rattle.root.proofs.root_by.Statement.{statement}
+use Rattle.root.proofs.root_by.Tie as tie
 
 held : (c : tie.Start) → T (fits binary64 (c .args .x))
-held c = subst T (sym (c .good .0 .1)) tt
+held c = subst T (sym (c .good .1 .0 .1)) tt
 
 true-is : (b : Bool) → b ≡ true → T b
 true-is b e = subst T (sym e) tt
@@ -48,8 +48,8 @@ returns-6 c =
     let s = c .before .before .before .before .before .before in
     c .root-bits .ensures .1 ∙ ap rootᶠ (ofBits-toBits binary64 (s .args .x) (held s))
 
-pub root-spec : {M : Type 1} → statement M
-root-spec =
+pub root-by-spec : {M : Type 1} → statement M
+root-by-spec =
     tie.close
     (tie.spec
     returns

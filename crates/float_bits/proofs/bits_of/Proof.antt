@@ -5,8 +5,8 @@ use lib.Dec.{T}
 use lib.Ieee.{Float, nan, inf, fin, ne, eq, isNan, toBits}
 use lib.Ieee.Compare.{differs-from-itself}
 use borrow.Author.Needs.{needs}
-use Rattle.root_vectors.proofs.bits_of.Statement.{statement}
-use Rattle.root_vectors.proofs.bits_of.Tie as tie
+use Rattle.float_bits.proofs.bits_of.Statement.{statement}
+use Rattle.float_bits.proofs.bits_of.Tie as tie
 
 real : (x : Float) → ne x x ≡ false → T (not (isNan x))
 unfolding ne eq isNan
