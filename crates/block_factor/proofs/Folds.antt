@@ -1,13 +1,11 @@
 -- Sums and scales that run, one number more.
 use Prim.Native.Nat.{ℕ, zero, suc, _+_}
 use mathlib.Core.Path.{_≡_, refl, ap, sym, _∙_}
-use mathlib.Core.List.{List, [], _∷_, foldl, foldl-append}
+use mathlib.Core.List.{List, [], _∷_, foldl}
 use native.Mathlib.Numerals.{add-one}
 use lib.ListN.{getD, take}
 use lib.Ieee.{Float, nan, inf, fin, lt}
-use Rattle.definitions.specs.Lists.{tab}
-use Rattle.definitions.specs.Numbers.{_-ᶠ_, zeroᶠ, larger, magnitude, largest, reduced}
-use Rattle.block_factor.proofs.Tabs.{tab-snoc}
+use Rattle.definitions.specs.Numbers.{zeroᶠ, larger, magnitude, largest}
 
 pub largest-none : (a : List Float) → zeroᶠ ≡ largest (take 0 a)
 unfolding largest
@@ -29,11 +27,3 @@ largest-from s (x ∷ a) (suc k) = largest-from (larger s (magnitude x)) a k
 pub largest-more : (a : List Float) (k : ℕ) (s x t : Float) → s ≡ largest (take k a) → x ≡ magnitude (getD a k nan) → t ≡ larger s x → t ≡ largest (take (k + 1) a)
 unfolding largest
 largest-more a k s x t es ex et = et ∙ rw (ex, es) (sym (ap (λ n. foldl (λ s x. larger s (magnitude x)) zeroᶠ (take n a)) (add-one k) ∙ largest-from zeroᶠ a k))
-
-pub reduced-none : (x : Float) (f : ℕ → Float) → x ≡ reduced x (tab f 0)
-unfolding reduced tab
-reduced-none x f = refl
-
-pub reduced-more : (x : Float) (f : ℕ → Float) (k : ℕ) (s t y : Float) → s ≡ reduced x (tab f k) → y ≡ f k → t ≡ s -ᶠ y → t ≡ reduced x (tab f (k + 1))
-unfolding reduced
-reduced-more x f k s t y es ey et = et ∙ rw (add-one, tab-snoc f k, foldl-append (λ s y. s -ᶠ y), ey, es)

@@ -17,9 +17,10 @@ use Rattle.definitions.specs.Numbers.{_+ᶠ_, zeroᶠ, total}
 use Rattle.definitions.specs.Matrix.{Matrix, rowOf, entriesOf, storedAt}
 use Rattle.definitions.specs.Block.{blockEntry, blockOf}
 use Rattle.csr32.specs.Stored.{numbers-none, numbers-hit, numbers-miss}
+use Rattle.laws.specs.Lists.{tab-is, length-tab, getD-tab}
+use Rattle.laws.specs.Growing.{flatMap-snoc, upTo-snoc}
 use Rattle.block_factor.specs.Dense.{blank, dense}
 use Rattle.block_factor.specs.Gathered.{sumAt}
-use Rattle.block_factor.proofs.Tabs.{tab-is, length-tab, getD-tab, flatMap-snoc, upTo-snoc}
 
 -- ---- one row
 

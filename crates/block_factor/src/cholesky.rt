@@ -58,8 +58,14 @@ fn refused(w: usize, cause: Refusal) -> Factored
     }
 }
 
-// The rows one by one; first is the block's first row in the matrix.
-fn factor_rows(a: &[f64; 64], w: usize, first: usize, tol: f64) -> Factored
+// The rows one by one; first is the block's first row in the matrix, table the one that roots start from.
+fn factor_rows(
+    a: &[f64; 64],
+    w: usize,
+    first: usize,
+    tol: f64,
+    table: &root::StartTable,
+) -> Factored
     requires { ⌜ (w ≤ 8) × (first < 2 ^ 32) ⌝ }
     ensures { λ r. ⌜ r ≡ factored w (factorFrom (inBlock w) (pivotRow first) (denseEntry w (now (a .entry))) tol w 0 blank) ⌝ }
 {
@@ -69,7 +75,7 @@ fn factor_rows(a: &[f64; 64], w: usize, first: usize, tol: f64) -> Factored
         fill_row(a, &mut l, w, i);
         let pivot = rest(a, &l, w, i, i);
         if numbers::above(tol, pivot) {
-            put(&mut l, w, i, i, root::root(pivot));
+            put(&mut l, w, i, i, root::root_by(table, pivot));
             i += 1;
         } else {
             return refused(w, Refusal::BlockPivot((first + i) as u64));
@@ -82,7 +88,7 @@ fn factor_rows(a: &[f64; 64], w: usize, first: usize, tol: f64) -> Factored
 }
 
 // The factor of a block, or 14 with its first row, or 15 with the row of the pivot.
-pub fn factor(b: Block, first: usize) -> Factored
+pub fn factor(b: Block, first: usize, table: &root::StartTable) -> Factored
     requires { ⌜ (b .size ≤ 8) × (first < 2 ^ 32) ⌝ }
     ensures { λ r. ⌜ r ≡ factored (b .size) (factorOf first (b .size) (dense (b .size) (b .a))) ⌝ }
 {
@@ -92,6 +98,6 @@ pub fn factor(b: Block, first: usize) -> Factored
     if skewed(&a, w, 1e-11 * top) {
         refused(w, Refusal::BlockNotSymmetric(first as u64))
     } else {
-        factor_rows(&a, w, first, 1e-14 * top)
+        factor_rows(&a, w, first, 1e-14 * top, table)
     }
 }

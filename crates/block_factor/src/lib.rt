@@ -38,13 +38,18 @@ fn block_into(
     first: usize,
     w: usize,
     place: &mut [f64],
+    table: &root::StartTable,
 ) -> Answer
     requires { ⌜ Rows (csr rows rows (now «row_ptr») (now «col_idx») (now values)) ⌝ }
     requires { ⌜ (first + w ≤ rows) × (w ≤ 8) × (length (now place) ≡ w * w) ⌝ }
     ensures { λ r. ⌜ r ≡ answerOf (blockFactor (csr rows rows (now («row_ptr» .entry)) (now («col_idx» .entry)) (now (values .entry))) first w) ⌝ }
     ensures { λ _. ⌜ now (place .exit) ≡ held (blockFactor (csr rows rows (now («row_ptr» .entry)) (now («col_idx» .entry)) (now (values .entry))) first w) (now (place .entry)) ⌝ }
 {
-    let made = factor(gather(rows, row_ptr, col_idx, values, first, w), first);
+    let made = factor(
+        gather(rows, row_ptr, col_idx, values, first, w),
+        first,
+        table,
+    );
     let answer = made.answer;
     match answer {
         Answer::Refused(cause) => Answer::Refused(cause),
@@ -58,13 +63,14 @@ fn block_into(
 }
 
 // The factors end to end, and zeros after them. Refused, the list holds zeros alone.
-fn fill_blocks(
+fn fill_from(
     rows: usize,
     row_ptr: &[u32],
     col_idx: &[u32],
     values: &[f64],
     size: usize,
     factors: &mut [f64],
+    table: &root::StartTable,
 ) -> Answer
     requires { ⌜ Rows (csr rows rows (now «row_ptr») (now «col_idx») (now values)) ⌝ }
     requires { ⌜ (0 < size) × (size ≤ 8) × (rows * size ≤ length (now factors)) ⌝ }
@@ -86,6 +92,7 @@ fn fill_blocks(
             first,
             w,
             &mut factors[used..end],
+            table,
         );
         match answer {
             Answer::Refused(cause) => {
@@ -100,6 +107,24 @@ fn fill_blocks(
     }
     numbers::zero_floats(&mut factors[used..]);
     Answer::Accepted
+}
+
+// The same with the table built once for all roots.
+fn fill_blocks(
+    rows: usize,
+    row_ptr: &[u32],
+    col_idx: &[u32],
+    values: &[f64],
+    size: usize,
+    factors: &mut [f64],
+) -> Answer
+    requires { ⌜ Rows (csr rows rows (now «row_ptr») (now «col_idx») (now values)) ⌝ }
+    requires { ⌜ (0 < size) × (size ≤ 8) × (rows * size ≤ length (now factors)) ⌝ }
+    ensures { λ r. ⌜ r ≡ answerOf (factorsOf (csr rows rows (now («row_ptr» .entry)) (now («col_idx» .entry)) (now (values .entry))) size) ⌝ }
+    ensures { λ _. ⌜ now (factors .exit) ≡ resultLeft zeroᶠ (factorsOf (csr rows rows (now («row_ptr» .entry)) (now («col_idx» .entry)) (now (values .entry))) size) (now (factors .entry)) ⌝ }
+{
+    let table = root::table();
+    fill_from(rows, row_ptr, col_idx, values, size, factors, &table)
 }
 
 // Blocks alone: causes 1 to 10 and 13 to 15, in this order. Block k's factor stands at k times block_size squared.

@@ -1,6 +1,6 @@
 -- A scan that looks at one element a turn: what is left of the list decides.
-use mathlib.Core.Path.{_≡_, refl}
-use mathlib.Core.Bool.{Bool, true, false}
+use mathlib.Core.Path.{_≡_, refl, sym, _∙_}
+use mathlib.Core.Bool.{Bool, true, false, _||_}
 use mathlib.Core.List.{List, [], _∷_}
 use Prim.Native.Nat.{ℕ, suc, _+_, _-_, _<_, _≤_}
 use native.Mathlib.Numerals.{add-one}
@@ -22,6 +22,26 @@ module _ {A : Type 0} (f : A → Bool) (xs : List A) (i : ℕ) (d : A) (h : i < 
 pub any-end : {A : Type 0} (f : A → Bool) (xs : List A) (i : ℕ) → i ≡ length xs → any f (drop i xs) ≡ false
 unfolding any
 any-end f xs i h = rw (h, drop-length xs)
+
+-- A scan that goes on to the end: something was found, or is found in what is left.
+module _ {A : Type 0} (f : A → Bool) (xs : List A) (i : ℕ) (found : Bool) (e : any f xs ≡ (found || any f (drop i xs))) where
+  module _ (d : A) (h : i < length xs) (now : Bool) where
+    pub scan-hit : now ≡ true → f (getD xs i d) ≡ true → any f xs ≡ (now || any f (drop (i + 1) xs))
+    scan-hit n t = e ∙ rw (any-found f xs i d h t, n) (either found)
+      where
+        either : (b : Bool) → (b || true) ≡ true
+        either true = refl
+        either false = refl
+
+    pub scan-miss : now ≡ found → f (getD xs i d) ≡ false → any f xs ≡ (now || any f (drop (i + 1) xs))
+    scan-miss n t = e ∙ rw (any-passed f xs i d h t, n)
+
+  pub scan-end : i ≡ length xs → found ≡ any f xs
+  scan-end h = sym (e ∙ rw (any-end f xs i h) (alone found))
+    where
+      alone : (b : Bool) → (b || false) ≡ b
+      alone true = refl
+      alone false = refl
 
 -- a pointer and the one before it
 module _ (p : List ℕ) (i : ℕ) (k : 0 < i) (h : i < length p) where

@@ -34,13 +34,28 @@ pub fn pointer_falls(row_ptr: &[u32]) -> bool
     false
 }
 
-// Whether some column is not below cols.
-pub fn column_outside(col_idx: &[u32], cols: usize) -> bool
-    ensures { λ r. ⌜ r ≡ outside cols (now («col_idx» .entry)) ⌝ }
+// Whether some number is not below top. The loop does not leave early: so the compiler takes several numbers at once.
+fn reaches(numbers: &[u32], top: u32) -> bool
+    ensures { λ r. ⌜ r ≡ outside top (now (numbers .entry)) ⌝ }
+{
+    let mut found = false;
+    let mut i: usize = 0;
+    while i < numbers.len() {
+        if top <= numbers[i] {
+            found = true;
+        }
+        i += 1;
+    }
+    found
+}
+
+// The same for a bound of any size. None is found for one beyond 32 bits.
+fn reaches_far(numbers: &[u32], top: usize) -> bool
+    ensures { λ r. ⌜ r ≡ outside top (now (numbers .entry)) ⌝ }
 {
     let mut i: usize = 0;
-    while i < col_idx.len() {
-        if cols <= wide(col_idx[i]) {
+    while i < numbers.len() {
+        if top <= wide(numbers[i]) {
             return true;
         }
         i += 1;
@@ -48,19 +63,32 @@ pub fn column_outside(col_idx: &[u32], cols: usize) -> bool
     false
 }
 
-// Whether some value is a NaN or an infinity.
+// Whether some column is not below cols.
+pub fn column_outside(col_idx: &[u32], cols: usize) -> bool
+    ensures { λ r. ⌜ r ≡ outside cols (now («col_idx» .entry)) ⌝ }
+{
+    if cols <= 0xffff_ffff {
+        reaches(col_idx, cols as u32)
+    } else {
+        reaches_far(col_idx, cols)
+    }
+}
+
+// Whether some value is a NaN or an infinity. Again no early leave.
 fn value_not_finite(values: &[f64]) -> bool
     ensures { λ r. ⌜ r ≡ unreal (now (values .entry)) ⌝ }
 {
+    let mut found = false;
     let mut i: usize = 0;
     while i < values.len() {
         if numbers::finite(values[i]) {
             i += 1;
         } else {
-            return true;
+            found = true;
+            i += 1;
         }
     }
-    false
+    found
 }
 
 // The causes 1 to 8, in this order.

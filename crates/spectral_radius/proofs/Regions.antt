@@ -11,8 +11,10 @@ use lib.Ieee.{Float, nan}
 use Rattle.definitions.specs.Lists.{tab, part}
 use Rattle.definitions.specs.Numbers.{_/ᶠ_}
 use Rattle.definitions.specs.Matrix.{Matrix}
+use Rattle.laws.specs.Lists.{tab-cong}
+use Rattle.laws.specs.Growing.{tab-snoc}
 use Rattle.spectral_radius.specs.Power.{vectorIn, imageIn, imageAt}
-use Rattle.spectral_radius.proofs.Sums.{tab-snoc, map-tab}
+use Rattle.spectral_radius.proofs.Sums.{map-tab}
 
 -- ---- parts
 
@@ -42,13 +44,6 @@ first-piece n m w p q h l e = sym (take-take n m w h) ∙ ap (λ t. take n t) e 
 
 pub second-piece : {A : Type 0} (n m : ℕ) (w p q : List A) → length p ≡ n → take m w ≡ p ++ q → part n m w ≡ q
 second-piece n m w p q l e = part-slice n m w ∙ ap (λ t. drop n t) e ∙ drop-at p q n l
-
--- ---- tab
-
-pub tab-ext : {A : Type 0} (f g : ℕ → A) (n : ℕ) → ((i : ℕ) → i < n → f i ≡ g i) → tab f n ≡ tab g n
-unfolding tab
-tab-ext f g zero h = refl
-tab-ext f g (suc n) h = rw (h zero (omega arith), tab-ext (λ i. f (suc i)) (λ i. g (suc i)) n (λ i k. h (suc i) (omega arith)))
 
 -- ---- a region from m on that is filled up to i
 
@@ -85,18 +80,20 @@ module _ (rows : ℕ) (norm : Float) (w₀ : List Float) where
   pub scaled-all : rows + rows + rows ≤ length w₀ → tab (scaledAt rows norm w₀) rows ≡ map (λ v. v /ᶠ norm) (imageIn rows w₀)
   scaled-all room =
       let l : length (imageIn rows w₀) ≡ rows = length-part (rows + rows) (rows + rows + rows) w₀ room ∙ omega arith in
-      tab-ext (scaledAt rows norm w₀) (λ i. getD (imageIn rows w₀) i nan /ᶠ norm) rows (λ i h. ap (λ v. v /ᶠ norm) (sym (getD-take (rows + rows + rows - (rows + rows)) (drop (rows + rows) w₀) i nan (omega arith) ∙ getD-drop (rows + rows) w₀ i nan)))
+      tab-cong (scaledAt rows norm w₀) (λ i. getD (imageIn rows w₀) i nan /ᶠ norm) rows (λ i h. ap (λ v. v /ᶠ norm) (sym (getD-take (rows + rows + rows - (rows + rows)) (drop (rows + rows) w₀) i nan (omega arith) ∙ getD-drop (rows + rows) w₀ i nan)))
       ∙ (rw l at (map-tab nan (λ v. v /ᶠ norm) (imageIn rows w₀)))
 
 -- ---- the image, behind the vector that it is made from
 
-pub image-more : (rows : ℕ) (a : Matrix) (w₀ w : List Float) (i : ℕ) (v : Float) → rows + rows ≤ length w₀ → rows + rows + i < length w
-    → take (rows + rows + i) w ≡ take (rows + rows) w₀ ++ tab (imageAt a (take rows w₀) (vectorIn rows w₀)) i → v ≡ imageAt a (take rows w) (vectorIn rows w) i
-    → take (rows + rows + (i + 1)) (set w (rows + rows + i) v) ≡ take (rows + rows) w₀ ++ tab (imageAt a (take rows w₀) (vectorIn rows w₀)) (i + 1)
-image-more rows a w₀ w i v h k e q =
-    let f : take (rows + rows) w ≡ take (rows + rows) w₀ = filled-front (imageAt a (take rows w₀) (vectorIn rows w₀)) (rows + rows) w₀ i w h e in
-    filled-more (imageAt a (take rows w₀) (vectorIn rows w₀)) (rows + rows) w₀ i w v k e
-    (q ∙ rw (same-front rows (rows + rows) w w₀ (omega arith) f, same-part rows (rows + rows) (rows + rows) w w₀ (omega arith) f))
+module _ (rows : ℕ) (a : Matrix) (w₀ w : List Float) (i : ℕ) (v : Float) (h : rows + rows ≤ length w₀)
+    (e : take (rows + rows + i) w ≡ take (rows + rows) w₀ ++ tab (imageAt a (take rows w₀) (vectorIn rows w₀)) i) (q : v ≡ imageAt a (take rows w) (vectorIn rows w) i) where
+  pub image-here : v ≡ imageAt a (take rows w₀) (vectorIn rows w₀) i
+  image-here =
+      let f : take (rows + rows) w ≡ take (rows + rows) w₀ = filled-front (imageAt a (take rows w₀) (vectorIn rows w₀)) (rows + rows) w₀ i w h e in
+      q ∙ rw (same-front rows (rows + rows) w w₀ (omega arith) f, same-part rows (rows + rows) (rows + rows) w w₀ (omega arith) f)
+
+  pub image-more : rows + rows + i < length w → take (rows + rows + (i + 1)) (set w (rows + rows + i) v) ≡ take (rows + rows) w₀ ++ tab (imageAt a (take rows w₀) (vectorIn rows w₀)) (i + 1)
+  image-more k = filled-more (imageAt a (take rows w₀) (vectorIn rows w₀)) (rows + rows) w₀ i w v k e image-here
 
 -- vector and image are of one length
 pub halves : (rows : ℕ) (w : List Float) → rows + rows + rows ≤ length w → length (vectorIn rows w) ≡ length (imageIn rows w)

@@ -48,6 +48,11 @@ module _ (rows : ℕ) (a : Matrix) (w₀ w₁ : List Float) (room : rows + rows 
   pub image-made : imageIn rows w₁ ≡ image a (take rows w₀) (vectorIn rows w₀)
   image-made = second-piece (rows + rows) (rows + rows + rows) w₁ (take (rows + rows) w₀) (image a (take rows w₀) (vectorIn rows w₀)) (length-take-le (rows + rows) w₀ (omega arith)) e
 
+  -- the norm from the sum that was taken on the way
+  pub norm-on-way : (squares n : Float) → squares ≡ summed (map (λ v. v *ᶠ v) (image a (take rows w₀) (vectorIn rows w₀))) → n ≡ rootᶠ squares → n ≡ norm (imageIn rows w₁)
+  unfolding norm
+  norm-on-way squares n es en = en ∙ rw (es, image-made)
+
   module _ (n : Float) (en : n ≡ norm (imageIn rows w₁)) where
     pub round-passes : (w₂ : List Float) → usable n ≡ true → take (rows + rows) w₂ ≡ take rows w₁ ++ map (λ v. v /ᶠ n) (imageIn rows w₁)
         → (take rows w₂ ≡ take rows w₀) × (outcomeOf 2 true (vectorIn rows w₂) ≡ normalised 2 (image a (take rows w₀) (vectorIn rows w₀)))

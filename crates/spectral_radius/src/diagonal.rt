@@ -30,7 +30,8 @@ pub fn inverse_roots(d: &[f64], s: &mut [f64])
     requires { ⌜ length (now d) ≡ length (now s) ⌝ }
     ensures { λ _. ⌜ now (s .exit) ≡ inverseRoots (now (d .entry)) ⌝ }
 {
+    let table = root::table();
     for i in 0..s.len() {
-        s[i] = 1.0 / root::root(d[i]);
+        s[i] = 1.0 / root::root_by(&table, d[i]);
     }
 }

@@ -1,6 +1,5 @@
 // One round of the power method over the work list.
 use crate::vectors::dot;
-use crate::vectors::norm;
 use definitions::EstimateAnswer;
 use definitions::Refusal;
 ghost use mathlib.Core.Path.{_≡_};
@@ -47,17 +46,20 @@ fn row_image(rows: usize, ptr: &[u32], idx: &[u32], vals: &[f64], w: &[f64], i: 
     w[i] * sum
 }
 
-// The image of the vector, behind it.
-fn map_vector(rows: usize, ptr: &[u32], idx: &[u32], vals: &[f64], w: &mut [f64])
+// The image of the vector, behind it; returns the sum of its squares, from -0, which grows while the rows are summed.
+fn map_vector(rows: usize, ptr: &[u32], idx: &[u32], vals: &[f64], w: &mut [f64]) -> f64
     requires { ⌜ Rows (csr rows rows (now ptr) (now idx) (now vals)) ⌝ }
     requires { ⌜ rows + rows + rows ≤ length (now w) ⌝ }
-    ensures { λ _. ⌜ take (rows + rows + rows) (now (w .exit)) ≡ take (rows + rows) (now (w .entry)) ++ image (csr rows rows (now (ptr .entry)) (now (idx .entry)) (now (vals .entry))) (take rows (now (w .entry))) (vectorIn rows (now (w .entry))) ⌝ }
+    ensures { λ r. ⌜ (take (rows + rows + rows) (now (w .exit)) ≡ take (rows + rows) (now (w .entry)) ++ image (csr rows rows (now (ptr .entry)) (now (idx .entry)) (now (vals .entry))) (take rows (now (w .entry))) (vectorIn rows (now (w .entry)))) × (r ≡ summed (map (λ v. v *ᶠ v) (image (csr rows rows (now (ptr .entry)) (now (idx .entry)) (now (vals .entry))) (take rows (now (w .entry))) (vectorIn rows (now (w .entry)))))) ⌝ }
 {
     let start = rows + rows;
+    let mut sum = -0.0;
     for i in 0..rows {
         let v = row_image(rows, ptr, idx, vals, w, i);
         w[start + i] = v;
+        sum += v * v;
     }
+    sum
 }
 
 // The image over its norm becomes the vector.
@@ -78,10 +80,8 @@ fn round(rows: usize, ptr: &[u32], idx: &[u32], vals: &[f64], w: &mut [f64]) -> 
     requires { ⌜ rows + rows + rows ≤ length (now w) ⌝ }
     ensures { λ r. ⌜ (take rows (now (w .exit)) ≡ take rows (now (w .entry))) × (outcomeOf 2 r (vectorIn rows (now (w .exit))) ≡ normalised 2 (image (csr rows rows (now (ptr .entry)) (now (idx .entry)) (now (vals .entry))) (take rows (now (w .entry))) (vectorIn rows (now (w .entry))))) ⌝ }
 {
-    map_vector(rows, ptr, idx, vals, w);
-    let start = rows + rows;
-    let end = start + rows;
-    let n = norm(&w[start..end]);
+    let squares = map_vector(rows, ptr, idx, vals, w);
+    let n = root::root(squares);
     if numbers::usable(n) {
         scale(rows, n, w);
         return true;

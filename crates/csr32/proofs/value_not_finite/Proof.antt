@@ -1,20 +1,22 @@
--- What is left of the list decides: a value that is not finite is found, or none is left.
+-- A value that is not finite was found, or is found in what is left.
 use mathlib.Core.Path.{_≡_, refl, sym, ap, _∙_}
-use mathlib.Core.Bool.{not}
+use mathlib.Core.Bool.{not, _||_}
 use Prim.Native.Nat.{_-_, _≤_}
 use native.Mathlib.Omega.{arith}
 use lib.ListN.{length, drop}
+use lib.Ieee.{nan}
+use lib.Ieee.Scale.{finite}
 use Rattle.csr32.specs.Rows.{unreal}
-use Rattle.csr32.proofs.Scan.{any-found, any-passed, any-end}
+use Rattle.csr32.proofs.Scan.{scan-hit, scan-miss, scan-end}
 use borrow.Author.Needs.{needs}
 use Rattle.csr32.proofs.value_not_finite.Statement.{statement}
 use Rattle.csr32.proofs.value_not_finite.Tie as tie
 
 abbrev Inv-loop : tie.InvT-loop
-Inv-loop values i₀ i = (i ≤ length values) × (unreal values ≡ unreal (drop i values))
+Inv-loop values found₀ i₀ found i = (i ≤ length values) × (unreal values ≡ (found || unreal (drop i values)))
 
 abbrev μ-loop : tie.MeasureT-loop
-μ-loop values i₀ i = length values - i
+μ-loop values found₀ i₀ found i = length values - i
 
 loop-holds : tie.Need-loop-holds Inv-loop μ-loop
 loop-holds c = (omega arith, refl)
@@ -36,16 +38,27 @@ loop-less c = omega arith
 
 loop-again : tie.Need-loop-again Inv-loop μ-loop
 loop-again c =
-    let a = c .before .before .before .before .before .before .args in let l = c .before .before .before .before .loop in
-    (omega arith, l .inv .1 ∙ any-passed _ (a .values .now) (l .i) _ (omega arith) (ap not (sym (c .before .finite .ensures) ∙ c .if1 .taken)))
+    let a = c .before .before .before .before .before .before .args in
+    let l = c .before .before .before .before .loop in
+    (omega arith, scan-miss (λ v. not (finite v)) (a .values .now) (l .i) (l .found) (l .inv .1) nan (omega arith) _ refl (ap not (sym (c .before .finite .ensures) ∙ c .if1 .taken)))
+
+add-i-2 : tie.Need-add-i-2 Inv-loop μ-loop
+add-i-2 c = search needs
+
+loop-less-2 : tie.Need-loop-less-2 Inv-loop μ-loop
+loop-less-2 c = omega arith
+
+loop-again-2 : tie.Need-loop-again-2 Inv-loop μ-loop
+loop-again-2 c =
+    let a = c .before .before .before .before .before .before .args in
+    let l = c .before .before .before .before .loop in
+    (omega arith, scan-hit (λ v. not (finite v)) (a .values .now) (l .i) (l .found) (l .inv .1) nan (omega arith) _ refl (ap not (sym (c .before .finite .ensures) ∙ c .if1 .left)))
 
 returns : tie.Need-returns Inv-loop μ-loop
 returns c =
-    let a = c .before .before .before .before .before .before .args in let l = c .before .before .before .before .loop in
-    sym (l .inv .1 ∙ any-found _ (a .values .now) (l .i) _ (omega arith) (ap not (sym (c .before .finite .ensures) ∙ c .if1 .left)))
-
-returns-2 : tie.Need-returns-2 Inv-loop μ-loop
-returns-2 c = let h : c .before .loop .i ≡ length (c .before .before .before .args .values .now) = omega arith in sym (c .before .loop .inv .1 ∙ any-end _ _ _ h)
+    let a = c .before .before .before .args in
+    let l = c .before .loop in
+    scan-end (λ v. not (finite v)) (a .values .now) (l .i) (l .found) (l .inv .1) (omega arith)
 
 pub value-not-finite-spec : {M : Type 1} → statement M
 value-not-finite-spec =
@@ -60,5 +73,7 @@ value-not-finite-spec =
     add-i
     loop-less
     loop-again
-    returns
-    returns-2)
+    add-i-2
+    loop-less-2
+    loop-again-2
+    returns)

@@ -13,10 +13,10 @@ use Rattle.block_factor.proofs.cholesky.factor_rows.Statement.{statemen
 use Rattle.block_factor.proofs.cholesky.factor_rows.Tie as tie
 
 abbrev Inv-loop : tie.InvT-loop
-Inv-loop a w first tol l₀ i₀ l i = (i ≤ w) × (factorFrom (inBlock w) (pivotRow first) (denseEntry w a) tol (w - i) i l ≡ factorFrom (inBlock w) (pivotRow first) (denseEntry w a) tol w 0 blank)
+Inv-loop a w first tol table l₀ i₀ l i = (i ≤ w) × (factorFrom (inBlock w) (pivotRow first) (denseEntry w a) tol (w - i) i l ≡ factorFrom (inBlock w) (pivotRow first) (denseEntry w a) tol w 0 blank)
 
 abbrev μ-loop : tie.MeasureT-loop
-μ-loop a w first tol l₀ i₀ l i = w - i
+μ-loop a w first tol table l₀ i₀ l i = w - i
 
 blanks-requires : tie.Need-blanks-requires Inv-loop μ-loop
 blanks-requires c κs = search needs
@@ -33,8 +33,8 @@ rest-requires c κs = search needs
 above-requires : tie.Need-above-requires Inv-loop μ-loop
 above-requires c κs = search needs
 
-root-requires : tie.Need-root-requires Inv-loop μ-loop
-root-requires c κs = search needs
+root-by-requires : tie.Need-root-by-requires Inv-loop μ-loop
+root-by-requires c κs = search needs
 
 put-requires : tie.Need-put-requires Inv-loop μ-loop
 put-requires c κs = search needs
@@ -54,11 +54,11 @@ loop-again c =
     let t = c .before .before .before .before .above in (
       omega arith,
       sym (row-more (inBlock (x .w)) (denseEntry (x .w) (x .a .now)) (pivotRow (x .first)) (x .tol) (x .w) (h .loop .i) (h .loop .l) (f .last .1 .0) (d .result) (t .result) (omega arith)
-          (f .ensures) (d .ensures) (t .ensures) (c .before .root .result) (c .put .last .0) (c .before .before .before .if1 .taken) (c .before .root .ensures) (c .put .ensures)) ∙ h .loop .inv .1,
+          (f .ensures) (d .ensures) (t .ensures) (c .before .root-by .result) (c .put .last .0) (c .before .before .before .if1 .taken) (c .before .root-by .ensures) (c .put .ensures)) ∙ h .loop .inv .1,
     )
 
-add-t17 : tie.Need-add-t17 Inv-loop μ-loop
-add-t17 c = search needs
+add-t18 : tie.Need-add-t18 Inv-loop μ-loop
+add-t18 c = search needs
 
 refused-requires : tie.Need-refused-requires Inv-loop μ-loop
 refused-requires c κs = search needs
@@ -93,12 +93,12 @@ factor-rows-spec =
     fill-row-requires
     rest-requires
     above-requires
-    root-requires
+    root-by-requires
     put-requires
     add-i
     loop-less
     loop-again
-    add-t17
+    add-t18
     refused-requires
     returns
     returns-2)

@@ -8,30 +8,34 @@ use lib.Ieee.{nan}
 use Rattle.definitions.specs.Lists.{tab}
 use Rattle.definitions.specs.Numbers.{oneᶠ, rootᶠ, _/ᶠ_}
 use Rattle.definitions.specs.Estimate.{inverseRoots}
-use Rattle.spectral_radius.proofs.Sums.{tab-none, tab-more, tab-all, map-tab}
+use Rattle.laws.specs.Growing.{tab-none, tab-more, tab-all}
+use Rattle.spectral_radius.proofs.Sums.{map-tab}
 use borrow.Author.Needs.{needs}
 use Rattle.spectral_radius.proofs.diagonal.inverse_roots.Statement.{statement}
 use Rattle.spectral_radius.proofs.diagonal.inverse_roots.Tie as tie
 
 abbrev Inv-loop : tie.InvT-loop
-Inv-loop d s₀ i₀ i-end s i = (i ≤ i-end) × (i-end ≡ length s₀) × (length s ≡ length s₀) × (s ≡ tab (λ k. oneᶠ /ᶠ rootᶠ (getD d k nan)) i ++ drop i s₀)
+Inv-loop d s₀ table i₀ i-end s i = (i ≤ i-end) × (i-end ≡ length s₀) × (length s ≡ length s₀) × (s ≡ tab (λ k. oneᶠ /ᶠ rootᶠ (getD d k nan)) i ++ drop i s₀)
 
 abbrev μ-loop : tie.MeasureT-loop
-μ-loop d s₀ i₀ i-end s i = i-end - i
+μ-loop d s₀ table i₀ i-end s i = i-end - i
+
+table-requires : tie.Need-table-requires Inv-loop μ-loop
+table-requires c κs = search needs
 
 loop-holds : tie.Need-loop-holds Inv-loop μ-loop
 loop-holds c =
-    let a = c .before .before .args in
+    let a = c .before .before .before .args in
     (omega arith, refl, refl, tab-none (λ k. oneᶠ /ᶠ rootᶠ (getD (a .d .now) k nan)) (a .s .now))
 
-mul-root : tie.Need-mul-root Inv-loop μ-loop
-mul-root c = search needs
+mul-root-by : tie.Need-mul-root-by Inv-loop μ-loop
+mul-root-by c = search needs
 
-shared-slice-read-root : tie.Need-shared-slice-read-root Inv-loop μ-loop
-shared-slice-read-root c = search needs
+shared-slice-read-root-by : tie.Need-shared-slice-read-root-by Inv-loop μ-loop
+shared-slice-read-root-by c = search needs
 
-root-requires : tie.Need-root-requires Inv-loop μ-loop
-root-requires c κs = search needs
+root-by-requires : tie.Need-root-by-requires Inv-loop μ-loop
+root-by-requires c κs = search needs
 
 mul-s : tie.Need-mul-s Inv-loop μ-loop
 mul-s c = search needs
@@ -47,12 +51,12 @@ loop-less c = omega arith
 
 loop-again : tie.Need-loop-again Inv-loop μ-loop
 loop-again c =
-    let a = c .before .before .before .before .before .before .args in
-    let l = c .before .before .before .loop in (
+    let a = c .before .before .before .before .before .before .before .before .args in
+    let l = c .before .before .before .before .loop in (
       omega arith,
       refl,
       simp length-set (l .inv .2),
-      tab-more (λ k. oneᶠ /ᶠ rootᶠ (getD (a .d .now) k nan)) (l .i) (l .s) (a .s .now) (oneᶠ /ᶠ c .root .result) (omega arith) (l .inv .3) (ap (λ v. oneᶠ /ᶠ v) (c .root .ensures)),
+      tab-more (λ k. oneᶠ /ᶠ rootᶠ (getD (a .d .now) k nan)) (l .i) (l .s) (a .s .now) (oneᶠ /ᶠ c .root-by .result) (omega arith) (l .inv .3) (ap (λ v. oneᶠ /ᶠ v) (c .root-by .ensures)),
     )
 
 same-length : tie.Need-same-length Inv-loop μ-loop
@@ -61,7 +65,7 @@ same-length c = search needs
 returns : tie.Need-returns Inv-loop μ-loop
 unfolding inverseRoots
 returns c =
-    let s = c .before .before .before .before in
+    let s = c .before .before .before .before .before in
     let a = s .args in
     let l = c .before .loop in
     let e : length (a .s .now) ≡ length (a .d .now) = omega arith in
@@ -73,10 +77,11 @@ inverse-roots-spec =
     (tie.spec
     Inv-loop
     μ-loop
+    table-requires
     loop-holds
-    mul-root
-    shared-slice-read-root
-    root-requires
+    mul-root-by
+    shared-slice-read-root-by
+    root-by-requires
     mul-s
     slice-write-s
     add-i

@@ -18,7 +18,7 @@ rho-ok c =
     let d = c .before .before .before .before .map-vector in
     let w = d .last .1 .1 .1 .1 .0 in
     rho-is m (take (a .rows) (a .w .now)) (vectorIn (a .rows) (a .w .now)) (vectorIn (a .rows) w) (imageIn (a .rows) w) (c .quotient .result) (c .quotient .ensures)
-    (kept-vector (a .rows) m (a .w .now) w (s .pre .1) (d .ensures)) (image-made (a .rows) m (a .w .now) w (s .pre .1) (d .ensures))
+    (kept-vector (a .rows) m (a .w .now) w (s .pre .1) (d .ensures .0)) (image-made (a .rows) m (a .w .now) w (s .pre .1) (d .ensures .0))
 
 map-vector-requires : tie.Need-map-vector-requires
 map-vector-requires c κs = search needs

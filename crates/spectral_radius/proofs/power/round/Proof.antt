@@ -1,7 +1,7 @@
 -- A round's image, its norm, and the image over it: the definition's `normalised 2`.
 use mathlib.Core.Path.{sym, _∙_}
 use Rattle.definitions.specs.Matrix.{csr}
-use Rattle.spectral_radius.proofs.Stages.{round-passes, round-fails}
+use Rattle.spectral_radius.proofs.Stages.{norm-on-way, round-passes, round-fails}
 use borrow.Author.Needs.{needs}
 use Rattle.spectral_radius.proofs.power.round.Statement.{statement}
 use Rattle.spectral_radius.proofs.power.round.Tie as tie
@@ -9,26 +9,8 @@ use Rattle.spectral_radius.proofs.power.round.Tie as tie
 map-vector-requires : tie.Need-map-vector-requires
 map-vector-requires c κs = search needs
 
-add-start : tie.Need-add-start
-add-start c = search needs
-
-add-end : tie.Need-add-end
-add-end c = search needs
-
-mul-norm : tie.Need-mul-norm
-mul-norm c = search needs
-
-sub-norm : tie.Need-sub-norm
-sub-norm c = search needs
-
-part-norm-start : tie.Need-part-norm-start
-part-norm-start c = search needs
-
-part-norm-end : tie.Need-part-norm-end
-part-norm-end c = search needs
-
-norm-requires : tie.Need-norm-requires
-norm-requires c κs = search needs
+root-requires : tie.Need-root-requires
+root-requires c κs = search needs
 
 usable-requires : tie.Need-usable-requires
 usable-requires c κs = search needs
@@ -41,33 +23,33 @@ same-length c = search needs
 
 returns : tie.Need-returns
 returns c =
-    let s = c .before .before .before .before .before .before .before .before .before .before .before .before .before .before .before .before .before in
+    let s = c .before .before .before .before .before .before .before .before .before .before .before .before .before .before .before in
     let a = s .args in
-    round-passes (a .rows) (csr (a .rows) (a .rows) (a .ptr .now) (a .idx .now) (a .vals .now)) (a .w .now) (c .before .before .before .before .before .before .before .before .before .before .before .map-vector .last .1 .1 .1 .1 .0) (s .pre .1) (c .before .before .before .before .before .before .before .before .before .before .before .map-vector .ensures)
-    (c .before .before .before .before .before .before .norm .result) (c .before .before .before .before .before .before .norm .ensures) (c .before .before .scale .last .1 .1 .0) (sym (c .before .before .before .before .before .usable .ensures) ∙ c .before .before .before .before .if1 .taken) (c .before .before .scale .ensures)
+    let m = csr (a .rows) (a .rows) (a .ptr .now) (a .idx .now) (a .vals .now) in
+    let k = c .before .before .before .before .before .before .before .before .before .map-vector in
+    let n = c .before .before .before .before .before .before .root in
+    let e = norm-on-way (a .rows) m (a .w .now) (k .last .1 .1 .1 .1 .0) (s .pre .1) (k .ensures .0) (k .result) (n .result) (k .ensures .1) (n .ensures) in
+    round-passes (a .rows) m (a .w .now) (k .last .1 .1 .1 .1 .0) (s .pre .1) (k .ensures .0) (n .result) e (c .before .before .scale .last .1 .1 .0) (sym (c .before .before .before .before .before .usable .ensures) ∙ c .before .before .before .before .if1 .taken) (c .before .before .scale .ensures)
 
 same-length-2 : tie.Need-same-length-2
 same-length-2 c = search needs
 
 returns-2 : tie.Need-returns-2
 returns-2 c =
-    let s = c .before .before .before .before .before .before .before .before .before .before .before .before .before in
+    let s = c .before .before .before .before .before .before .before .before .before .before .before in
     let a = s .args in
-    round-fails (a .rows) (csr (a .rows) (a .rows) (a .ptr .now) (a .idx .now) (a .vals .now)) (a .w .now) (c .before .before .before .before .before .before .before .map-vector .last .1 .1 .1 .1 .0) (s .pre .1) (c .before .before .before .before .before .before .before .map-vector .ensures)
-    (c .before .before .norm .result) (c .before .before .norm .ensures) (sym (c .before .usable .ensures) ∙ c .if1 .left)
+    let m = csr (a .rows) (a .rows) (a .ptr .now) (a .idx .now) (a .vals .now) in
+    let k = c .before .before .before .before .before .map-vector in
+    let n = c .before .before .root in
+    let e = norm-on-way (a .rows) m (a .w .now) (k .last .1 .1 .1 .1 .0) (s .pre .1) (k .ensures .0) (k .result) (n .result) (k .ensures .1) (n .ensures) in
+    round-fails (a .rows) m (a .w .now) (k .last .1 .1 .1 .1 .0) (s .pre .1) (k .ensures .0) (n .result) e (sym (c .before .usable .ensures) ∙ c .if1 .left)
 
 pub round-spec : {M : Type 1} → statement M
 round-spec =
     tie.close
     (tie.spec
     map-vector-requires
-    add-start
-    add-end
-    mul-norm
-    sub-norm
-    part-norm-start
-    part-norm-end
-    norm-requires
+    root-requires
     usable-requires
     scale-requires
     same-length

@@ -1,12 +1,12 @@
 -- The sum grows by one product at a time, from -0.
 use Prim.Native.Nat.{_≤_, _-_}
-use mathlib.Core.Path.{_≡_}
+use mathlib.Core.Path.{_≡_, refl}
 use native.Mathlib.Omega.{arith}
 use lib.ListN.{length, getD}
 use lib.Ieee.{nan}
 use Rattle.definitions.specs.Lists.{tab}
 use Rattle.definitions.specs.Numbers.{summed, _*ᶠ_}
-use Rattle.spectral_radius.proofs.Sums.{summed-none, summed-more}
+use Rattle.laws.specs.Growing.{summed-none, summed-more}
 use borrow.Author.Needs.{needs}
 use Rattle.spectral_radius.proofs.vectors.dot.Statement.{statement}
 use Rattle.spectral_radius.proofs.vectors.dot.Tie as tie
@@ -42,7 +42,7 @@ loop-again : tie.Need-loop-again Inv-loop μ-loop
 loop-again c =
     let a = c .before .before .before .before .args in
     let l = c .before .before .before .loop in
-    (omega arith, omega arith, summed-more (λ k. getD (a .x .now) k nan *ᶠ getD (a .y .now) k nan) (l .k) (l .sum) (l .inv .2))
+    (omega arith, omega arith, summed-more (λ k. getD (a .x .now) k nan *ᶠ getD (a .y .now) k nan) (l .k) (l .sum) _ _ (l .inv .2) refl refl)
 
 returns : tie.Need-returns Inv-loop μ-loop
 returns c =

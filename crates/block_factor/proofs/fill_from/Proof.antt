@@ -13,16 +13,16 @@ use Rattle.csr32.specs.Results.{left-done, left-length, left-cleared}
 use Rattle.block_factor.proofs.Turns.{Turn, turn}
 use Rattle.block_factor.proofs.Filling.{blocks-none, put-length, blocks-more, blocks-stop, blocks-all}
 use borrow.Author.Needs.{needs}
-use Rattle.block_factor.proofs.fill_blocks.Statement.{statement}
-use Rattle.block_factor.proofs.fill_blocks.Tie as tie
+use Rattle.block_factor.proofs.fill_from.Statement.{statement}
+use Rattle.block_factor.proofs.fill_from.Tie as tie
 
 abbrev Inv-loop : tie.InvT-loop
-Inv-loop rows row-ptr col-idx values size factors₀ count k₀ used₀ factors k used =
+Inv-loop rows row-ptr col-idx values size factors₀ table count k₀ used₀ factors k used =
     (k ≤ count) × (count ≡ blockCount rows size) × (length factors ≡ length factors₀) × (used ≤ k * size * size) × (used ≤ rows * size)
     × (factorsFrom (csr rows rows row-ptr col-idx values) size (blockCount rows size - k) k (take used factors) ≡ factorsOf (csr rows rows row-ptr col-idx values) size)
 
 abbrev μ-loop : tie.MeasureT-loop
-μ-loop rows row-ptr col-idx values size factors₀ count k₀ used₀ factors k used = count - k
+μ-loop rows row-ptr col-idx values size factors₀ table count k₀ used₀ factors k used = count - k
 
 -- the numbers of a turn, once its width is known
 here : (c : tie.In-loop Inv-loop μ-loop) (w : ℕ) → w ≡ min (c .before .before .before .before .before .before .args .size) (c .before .before .before .before .before .before .args .rows - c .before .loop .k * c .before .before .before .before .before .before .args .size)
@@ -168,8 +168,8 @@ returns-2 c =
     let e = blocks-all (csr (x .rows) (x .rows) (x .row-ptr .now) (x .col-idx .now) (x .values .now)) (x .size) (l .k) (l .used) (l .factors) (omega (arith, l .inv .0, l .inv .1, c .before .before .before .before .loop-test .left)) (l .inv .5) in
     (rw (e, answerOf), left-done (l .used) (l .factors) (x .factors .now) _ (omega (arith, l .inv .4, s .pre .1 .2)) (l .inv .2) (c .before .before .zero-floats2 .ensures) (factorsOf (csr (x .rows) (x .rows) (x .row-ptr .now) (x .col-idx .now) (x .values .now)) (x .size)) e)
 
-pub fill-blocks-spec : {M : Type 1} → statement M
-fill-blocks-spec =
+pub fill-from-spec : {M : Type 1} → statement M
+fill-from-spec =
     tie.close
     (tie.spec
     Inv-loop

@@ -1,0 +1,64 @@
+-- What was found, or is found in what is left.
+use mathlib.Core.Path.{_≡_, refl}
+use mathlib.Core.Bool.{_||_}
+use Prim.Native.Nat.{_-_, _≤_}
+use native.Mathlib.Omega.{arith}
+use lib.Dec.{leb}
+use lib.ListN.{length, drop}
+use borrow.Author.Tests.{le-leb, lt-leb}
+use mathlib.Core.Logic.{⊎-elim}
+use Rattle.csr32.specs.Rows.{outside}
+use Rattle.csr32.proofs.Scan.{scan-hit, scan-miss, scan-end}
+use borrow.Author.Needs.{needs}
+use Rattle.csr32.proofs.reaches.Statement.{statement}
+use Rattle.csr32.proofs.reaches.Tie as tie
+
+abbrev Inv-loop : tie.InvT-loop
+Inv-loop numbers top found₀ i₀ found i = (i ≤ length numbers) × (outside top numbers ≡ (found || outside top (drop i numbers)))
+
+abbrev μ-loop : tie.MeasureT-loop
+μ-loop numbers top found₀ i₀ found i = length numbers - i
+
+loop-holds : tie.Need-loop-holds Inv-loop μ-loop
+loop-holds c = (omega arith, refl)
+
+mul-if1 : tie.Need-mul-if1 Inv-loop μ-loop
+mul-if1 c = search needs
+
+shared-slice-read-if1 : tie.Need-shared-slice-read-if1 Inv-loop μ-loop
+shared-slice-read-if1 c = search needs
+
+add-i : tie.Need-add-i Inv-loop μ-loop
+add-i c = search needs
+
+loop-less : tie.Need-loop-less Inv-loop μ-loop
+loop-less c = omega arith
+
+loop-again : tie.Need-loop-again Inv-loop μ-loop
+loop-again c =
+    let a = c .before .before .before .before .args in
+    let l = c .before .before .before .loop in
+    ⊎-elim
+    (λ w. (omega arith, scan-hit (leb (a .top)) (a .numbers .now) (l .i) (l .found) (l .inv .1) 0 (omega arith) (c .if1 .found) (w .1) (le-leb _ _ (w .0 .taken))))
+    (λ w. (omega arith, scan-miss (leb (a .top)) (a .numbers .now) (l .i) (l .found) (l .inv .1) 0 (omega arith) (c .if1 .found) (w .1) (lt-leb _ _ (w .0 .left))))
+    (c .if1 .came)
+
+returns : tie.Need-returns Inv-loop μ-loop
+returns c =
+    let a = c .before .before .args in
+    let l = c .before .loop in
+    scan-end (leb (a .top)) (a .numbers .now) (l .i) (l .found) (l .inv .1) (omega arith)
+
+pub reaches-spec : {M : Type 1} → statement M
+reaches-spec =
+    tie.close
+    (tie.spec
+    Inv-loop
+    μ-loop
+    loop-holds
+    mul-if1
+    shared-slice-read-if1
+    add-i
+    loop-less
+    loop-again
+    returns)
