@@ -15,8 +15,9 @@ use borrow.Author.Tests.{eq-eqb, ne-eqb, lt-ltb, le-ltb, le-leb, lt-leb}
 use Rattle.definitions.specs.Lists.{square}
 use Rattle.definitions.specs.Numbers.{_+ᶠ_, _*ᶠ_, half}
 use Rattle.definitions.specs.Coarse.{averaged, averagedSquare, entryIn}
+use Rattle.laws.specs.Lists.{length-square}
 use Rattle.averaging.specs.Averaging.{pairHalf, pairAveraged, rowAveraged, rowsAveraged, averagedIn, maxCoarse}
-use Rattle.averaging.proofs.Lists.{square-is, split-is, length-square}
+use Rattle.averaging.proofs.Lists.{square-is, split-is}
 use Rattle.averaging.proofs.Places.{same-row, same-col, place}
 
 pub length-row : (c i j : ℕ) (m : List Float) → length (rowAveraged c i j m) ≡ length m

@@ -1,41 +1,13 @@
--- Lists by index: tab and square by their elements.
+-- Squares, and the rest of a list, by their elements; zeros.
 use Prim.Native.Nat.{ℕ, zero, suc, _+_, _-_, _*_, _<_, _≤_}
 use mathlib.Core.Path.{_≡_, refl, ap, sym, _∙_}
 use mathlib.Core.List.{List, [], _∷_, _++_, flatMap, append-nil}
 use native.Mathlib.Omega.{arith}
-use lib.ListN.{length, getD, take, drop, replicate, length-append, length-drop, length-replicate, replicate-append-replicate, drop-of-length-le, take-append-drop}
+use lib.ListN.{length, getD, take, drop, replicate, length-drop, length-replicate, replicate-append-replicate, drop-of-length-le, take-append-drop}
 use lib.Seq.{getD-take, getD-drop, length-take-le, take-at, drop-at, take-all, ext-getD}
 use lib.ListN.{List·getD-append}
 use Rattle.definitions.specs.Lists.{tab, upTo, square}
-
-pub tab-snoc : {A : Type 0} (f : ℕ → A) (n : ℕ) → tab f (suc n) ≡ tab f n ++ (f n ∷ [])
-unfolding tab
-tab-snoc f zero = refl
-tab-snoc f (suc n) = ap (λ l. f zero ∷ l) (tab-snoc (λ i. f (suc i)) n)
-
-pub length-tab : {A : Type 0} (f : ℕ → A) (n : ℕ) → length (tab f n) ≡ n
-unfolding tab
-length-tab f zero = refl
-length-tab f (suc n) = ap suc (length-tab (λ i. f (suc i)) n)
-
-pub getD-tab : {A : Type 0} (f : ℕ → A) (n j : ℕ) (d : A) → j < n → getD (tab f n) j d ≡ f j
-unfolding tab
-getD-tab f zero j d h = absurd (omega arith)
-getD-tab f (suc n) zero d h = refl
-getD-tab f (suc n) (suc j) d h = getD-tab (λ i. f (suc i)) n j d (omega arith)
-
-pub tab-ext : {A : Type 0} (f g : ℕ → A) (n : ℕ) → ((k : ℕ) → k < n → f k ≡ g k) → tab f n ≡ tab g n
-unfolding tab
-tab-ext f g zero h = refl
-tab-ext f g (suc n) h = rw (h zero (omega arith), tab-ext (λ i. f (suc i)) (λ i. g (suc i)) n (λ k l. h (suc k) (omega arith)))
-
--- a list is a tab by its elements
-pub tab-is : {A : Type 0} (d : A) (l : List A) (f : ℕ → A) (n : ℕ) → length l ≡ n → ((j : ℕ) → j < n → getD l j d ≡ f j) → l ≡ tab f n
-unfolding tab
-tab-is d [] f zero e h = refl
-tab-is d [] f (suc n) e h = absurd (omega arith)
-tab-is d (x ∷ xs) f zero e h = absurd (omega arith)
-tab-is d (x ∷ xs) f (suc n) e h = rw (tab-is d xs (λ i. f (suc i)) n (omega arith) (λ j k. h (suc j) (omega arith)), h zero (omega arith))
+use Rattle.laws.specs.Lists.{tab-is}
 
 blocks-is : {A : Type 0} (d : A) (c : ℕ) (f : ℕ → ℕ → A) (n : ℕ) (g : ℕ → ℕ) (l : List A) → length l ≡ n * c
     → ((i j : ℕ) → i < n → j < c → getD l (i * c + j) d ≡ f (g i) j) → l ≡ flatMap (λ i. tab (f i) c) (tab g n)
@@ -65,15 +37,6 @@ pub split-is : {A : Type 0} (d : A) (n : ℕ) (l xs m : List A) → length l ≡
 split-is d n l xs m e h q rest =
     sym (take-append-drop n l) ∙ rw q (ap (λ t. xs ++ t)
     (ext-getD d (drop n l) (drop n m) (length-drop n l ∙ rw e (sym (length-drop n m))) (λ i k. getD-drop n l i d ∙ rest (n + i) (omega arith) ∙ sym (getD-drop n m i d))))
-
-length-blocks : {A : Type 0} (c : ℕ) (f : ℕ → ℕ → A) (n : ℕ) (g : ℕ → ℕ) → length (flatMap (λ i. tab (f i) c) (tab g n)) ≡ n * c
-unfolding tab flatMap
-length-blocks c f zero g = omega arith
-length-blocks c f (suc n) g = length-append (tab (f (g zero)) c) (flatMap (λ i. tab (f i) c) (tab (λ i. g (suc i)) n)) ∙ rw (length-tab (f (g zero)) c, length-blocks c f n (λ i. g (suc i))) (omega arith)
-
-pub length-square : {A : Type 0} (c : ℕ) (f : ℕ → ℕ → A) → length (square c f) ≡ c * c
-unfolding square upTo
-length-square c f = length-blocks c f c (λ i. i)
 
 -- ---- zeros
 

@@ -15,8 +15,8 @@ use Rattle.definitions.specs.Factor.{leftOf, rest, products, entry, factorFrom}
 use Rattle.definitions.specs.Refusal.{Outcome, refused, done}
 use Rattle.definitions.specs.declared.Refusal.the-variants.{CoarsePivot}
 use Rattle.definitions.specs.Coarse.{packed, packedLength, packedEntry, entryIn}
-use Rattle.averaging.proofs.Lists.{tab-snoc, tab-ext}
 use Rattle.averaging.proofs.Places.{place}
+use Rattle.laws.specs.Growing.{tab-snoc}
 use Rattle.coarse_factor.proofs.Packed.{tri-row, tri-next}
 
 -- ---- the largest magnitude
@@ -37,10 +37,6 @@ largest-all m k e es = rw (e, take-length m) at es
 
 abbrev pub less : Float → Float → Float
 less s x = s -ᶠ x
-
-pub reduced-none : (x : Float) (f : ℕ → Float) → x ≡ reduced x (tab f 0)
-unfolding reduced tab
-reduced-none x f = refl
 
 pub reduced-suc : (x : Float) (f : ℕ → Float) (n : ℕ) → reduced x (tab f (suc n)) ≡ reduced x (tab f n) -ᶠ f n
 unfolding reduced

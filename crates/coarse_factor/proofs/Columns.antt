@@ -11,8 +11,8 @@ use Rattle.definitions.specs.Lists.{tab}
 use Rattle.definitions.specs.Numbers.{_-ᶠ_, _*ᶠ_, _/ᶠ_, reduced}
 use Rattle.definitions.specs.Factor.{leftOf, rest, products, entry}
 use Rattle.definitions.specs.Coarse.{packed, packedLength, entryIn}
-use Rattle.averaging.proofs.Lists.{tab-ext}
 use Rattle.averaging.proofs.Places.{place}
+use Rattle.laws.specs.Lists.{tab-cong}
 use Rattle.coarse_factor.specs.declared.Four.{Four}
 use Rattle.coarse_factor.specs.Lanes.{RestFour, fourAt, setFour, solvedFour}
 use Rattle.coarse_factor.proofs.Packed.{tri-row, tri-step}
@@ -36,7 +36,7 @@ module _ (a : ℕ → ℕ → Float) (i j : ℕ) (m l : List Float) (same : Alik
 
   alike-left : (n : ℕ) → n < i → j ≤ n → leftAfter a m i j n ≡ leftAfter a l i j n
   alike-left n h q = ap (λ t. reduced (a i n) t)
-      (tab-ext (λ k. getD m (packedLength i + k) nan *ᶠ getD m (packedLength n + k) nan) (λ k. getD l (packedLength i + k) nan *ᶠ getD l (packedLength n + k) nan) j
+      (tab-cong (λ k. getD m (packedLength i + k) nan *ᶠ getD m (packedLength n + k) nan) (λ k. getD l (packedLength i + k) nan *ᶠ getD l (packedLength n + k) nan) j
       (λ k b. rw (same (packedLength i + k) (omega arith), above n k h (omega arith))))
 
   -- one product more

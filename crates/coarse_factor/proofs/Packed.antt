@@ -1,7 +1,7 @@
 -- Sums over a tab, and the solves with a packed factor in place.
 use Prim.Native.Nat.{ℕ, zero, suc, _+_, _-_, _*_, _/_, _<_, _≤_}
 use mathlib.Core.Path.{_≡_, refl, ap, sym, _∙_}
-use mathlib.Core.List.{List, [], _∷_, _++_, foldl, foldl-append, append-nil, append-assoc}
+use mathlib.Core.List.{List, [], _∷_, _++_, foldl, append-nil, append-assoc}
 use native.Mathlib.Omega.{arith}
 use native.Mathlib.Nat.{mul-le-mul, mul-add-div}
 use native.Mathlib.Numerals.{add-one}
@@ -12,23 +12,8 @@ use lib.Ieee.{Float, nan}
 use Rattle.definitions.specs.Lists.{tab}
 use Rattle.definitions.specs.Numbers.{_+ᶠ_, _-ᶠ_, _*ᶠ_, _/ᶠ_, minusZero, summed}
 use Rattle.definitions.specs.Coarse.{packed, packedEntry, packedLength, packedForward, packedBackward, packedSolve}
-use Rattle.averaging.proofs.Lists.{tab-snoc, length-tab, tab-ext}
-
-abbrev plus : Float → Float → Float
-plus s x = s +ᶠ x
-
--- a sum that runs
-pub summed-none : (f : ℕ → Float) → minusZero ≡ summed (tab f 0)
-unfolding summed tab
-summed-none f = refl
-
-pub summed-more : (f : ℕ → Float) (n : ℕ) (s t x : Float) → s ≡ summed (tab f n) → x ≡ f n → t ≡ s +ᶠ x → t ≡ summed (tab f (n + 1))
-unfolding summed
-summed-more f n s t x e ex et = et ∙ rw (add-one, tab-snoc f n, foldl-append plus, ex, e)
-
--- an element that the filling has not reached
-pub tab-unread : {A : Type 0} (d : A) (f : ℕ → A) (i : ℕ) (s l : List A) → i < length l → s ≡ tab f i ++ drop i l → getD s i d ≡ getD l i d
-tab-unread d f i s l h e = rw (e, drop-cons l i d h) (getD-at (tab f i) (getD l i d) (drop (suc i) l) d i (length-tab f i))
+use Rattle.laws.specs.Lists.{tab-cong}
+use Rattle.laws.specs.Growing.{summed-none, summed-more}
 
 -- ---- triangular numbers
 
@@ -65,7 +50,7 @@ module _ (l b y : List Float) (i : ℕ) (h : i < length b) (e : y ≡ packedForw
   forward-below k q = rw e (List·getD-append (packedForward l b i) (drop i b) nan k (rw (length-forward l b i) q))
 
   forward-sum : summed (tab (λ k. packedEntry l i k *ᶠ getD y k nan) i) ≡ summed (tab (λ k. packedEntry l i k *ᶠ getD (packedForward l b i) k nan) i)
-  forward-sum = ap summed (tab-ext (λ k. packedEntry l i k *ᶠ getD y k nan) (λ k. packedEntry l i k *ᶠ getD (packedForward l b i) k nan) i (λ k q. rw (forward-below k q)))
+  forward-sum = ap summed (tab-cong (λ k. packedEntry l i k *ᶠ getD y k nan) (λ k. packedEntry l i k *ᶠ getD (packedForward l b i) k nan) i (λ k q. rw (forward-below k q)))
 
   pub forward-step : (sum v : Float) → sum ≡ summed (tab (λ k. packedEntry l i k *ᶠ getD y k nan) i) → v ≡ (getD y i nan -ᶠ sum) /ᶠ packedEntry l i i
       → set y i v ≡ packedForward l b (i + 1) ++ drop (i + 1) b
@@ -106,7 +91,7 @@ module _ (l y₀ y : List Float) (k i : ℕ) (h : k < length y₀) (ei : i ≡ l
       ≡ summed (tab (λ m. packedEntry l (suc i + m) i *ᶠ getD (packedBackward l (length y₀) y₀ k) m nan) k)
   back-sum n = let q : length y - suc i ≡ k = omega arith in
       ap (λ a. summed (tab (λ m. packedEntry l (suc i + m) i *ᶠ getD y (suc i + m) nan) a)) q
-      ∙ ap summed (tab-ext (λ m. packedEntry l (suc i + m) i *ᶠ getD y (suc i + m) nan) (λ m. packedEntry l (suc i + m) i *ᶠ getD (packedBackward l (length y₀) y₀ k) m nan) k (λ m p. rw (back-above m)))
+      ∙ ap summed (tab-cong (λ m. packedEntry l (suc i + m) i *ᶠ getD y (suc i + m) nan) (λ m. packedEntry l (suc i + m) i *ᶠ getD (packedBackward l (length y₀) y₀ k) m nan) k (λ m p. rw (back-above m)))
 
   pub backward-step : (sum v : Float) → length y ≡ length y₀ → sum ≡ summed (tab (λ m. packedEntry l (suc i + m) i *ᶠ getD y (suc i + m) nan) (length y - suc i))
       → v ≡ (getD y i nan -ᶠ sum) /ᶠ packedEntry l i i → set y i v ≡ take (length y₀ - (k + 1)) y₀ ++ packedBackward l (length y₀) y₀ (k + 1)

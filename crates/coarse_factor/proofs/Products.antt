@@ -13,7 +13,8 @@ use Rattle.definitions.specs.Numbers.{_*ᶠ_, zeroᶠ, summed}
 use Rattle.definitions.specs.Coarse.{coarseSolve, entryIn, packedForward, packedBackward, packedSolve, packedLength, coarseLength}
 use Rattle.definitions.specs.declared.TwoLevelCoarseApplyPolicy.{TwoLevelCoarseApplyPolicy}
 use Rattle.definitions.specs.declared.TwoLevelCoarseApplyPolicy.the-variants.{Auto, FactorSolve, ExplicitInverse}
-use Rattle.averaging.proofs.Lists.{tab-is, tab-ext, length-tab, tail-zeros}
+use Rattle.averaging.proofs.Lists.{tail-zeros}
+use Rattle.laws.specs.Lists.{tab-is, tab-cong, length-tab}
 use Rattle.coarse_factor.specs.Lanes.{rowSum}
 use Rattle.coarse_factor.specs.Stored.{Products, Moved, inverseSolve}
 
@@ -27,7 +28,7 @@ upto P i h p j q = step (ℕ-discrete j i)
 
 -- a sum over a row reads the first n numbers only
 pub rowSum-ext : (l y z : List Float) (n start : ℕ) → ((k : ℕ) → k < n → getD y k nan ≡ getD z k nan) → rowSum l y n start ≡ rowSum l z n start
-rowSum-ext l y z n start h = ap summed (tab-ext (λ k. getD l (start + k) nan *ᶠ getD y k nan) (λ k. getD l (start + k) nan *ᶠ getD z k nan) n (λ k q. rw (h k q)))
+rowSum-ext l y z n start h = ap summed (tab-cong (λ k. getD l (start + k) nan *ᶠ getD y k nan) (λ k. getD l (start + k) nan *ᶠ getD z k nan) n (λ k q. rw (h k q)))
 
 module _ (c : ℕ) (part w₀ : List Float) where
   pub products-none : Products c part w₀ w₀ 0

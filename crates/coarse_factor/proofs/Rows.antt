@@ -2,7 +2,7 @@
 use Prim.Native.Nat.{ℕ, zero, suc, _+_, _-_, _*_, _<_, _≤_}
 use mathlib.Core.Path.{_≡_, refl, ap, sym, _∙_}
 use mathlib.Core.Bool.{true, false, cond}
-use mathlib.Core.List.{List, [], _∷_, _++_, flatMap, append-nil, append-assoc}
+use mathlib.Core.List.{List, _++_, flatMap, append-assoc}
 use native.Mathlib.Omega.{arith}
 use native.Mathlib.Numerals.{add-one}
 use native.Mathlib.Decide.{ℕ-discrete}
@@ -14,9 +14,11 @@ use borrow.Author.Tests.{eq-eqb, ne-eqb}
 use Rattle.definitions.specs.Lists.{tab, upTo, padded}
 use Rattle.definitions.specs.Numbers.{zeroᶠ, oneᶠ}
 use Rattle.definitions.specs.Coarse.{packedSolve, unit, inverseOf, averagedSquare}
-use Rattle.averaging.proofs.Lists.{tab-is, tab-snoc, length-tab, tail-zeros}
+use Rattle.averaging.proofs.Lists.{tail-zeros}
 use Rattle.averaging.specs.Averaging.{averagedIn}
 use Rattle.averaging.proofs.Laws.{average-fits, length-averaged}
+use Rattle.laws.specs.Lists.{tab-is, length-tab}
+use Rattle.laws.specs.Growing.{tab-snoc, flatMap-snoc}
 use Rattle.coarse_factor.specs.Stored.{solvedRows}
 use Rattle.coarse_factor.specs.Lanes.{fourSolved}
 use Rattle.coarse_factor.proofs.Products.{length-solve}
@@ -35,11 +37,6 @@ unit-law y z i h ez = rw ez (tab-is nan (set (replicate n zeroᶠ) i oneᶠ) (λ
 pub length-unit : (c i : ℕ) → length (unit c i) ≡ c
 unfolding unit
 length-unit c i = length-tab (λ j. cond (eqb j i) oneᶠ zeroᶠ) c
-
-flatMap-snoc : {A B : Type 0} (f : A → List B) (xs : List A) (x : A) → flatMap f (xs ++ (x ∷ [])) ≡ flatMap f xs ++ f x
-unfolding flatMap
-flatMap-snoc f [] x = append-nil (f x)
-flatMap-snoc f (y ∷ ys) x = rw (flatMap-snoc f ys x) (sym (append-assoc (f y) (flatMap f ys) (f x)))
 
 module _ (c : ℕ) (l : List Float) where
   pub solved-none : (w : List Float) → w ≡ solvedRows c l 0 ++ drop (0 * c) w

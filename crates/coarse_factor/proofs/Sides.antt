@@ -10,10 +10,12 @@ use lib.Ieee.{Float, nan}
 use Rattle.definitions.specs.Lists.{tab}
 use Rattle.definitions.specs.Numbers.{_+ᶠ_, _-ᶠ_, _*ᶠ_, _/ᶠ_, minusZero, summed, zeroᶠ, oneᶠ}
 use Rattle.definitions.specs.Coarse.{packed, packedEntry, packedLength, packedForward, packedBackward, packedSolve, unit}
-use Rattle.averaging.proofs.Lists.{tab-ext, take-zeros, drop-zeros}
+use Rattle.averaging.proofs.Lists.{take-zeros, drop-zeros}
+use Rattle.laws.specs.Lists.{tab-cong}
+use Rattle.laws.specs.Growing.{summed-more}
 use Rattle.coarse_factor.specs.declared.Four.{Four}
 use Rattle.coarse_factor.specs.Lanes.{rowSum, colSum, RowFour, ColFour, setLanes, lanesOf, lane, Ahead, Back, Forward4, Backward4, Units4, fourSolved}
-use Rattle.coarse_factor.proofs.Packed.{summed-none, summed-more, forward-none, forward-step, backward-none, backward-step, col-none, col-step}
+use Rattle.coarse_factor.proofs.Packed.{forward-none, forward-step, backward-none, backward-step, col-none, col-step}
 use Rattle.coarse_factor.proofs.Products.{rowSum-ext}
 use Rattle.coarse_factor.proofs.Rows.{unit-law, length-unit}
 
@@ -115,7 +117,7 @@ col-more l w a i j at s h ea e = ap (λ t. s +ᶠ getD l at nan *ᶠ t) (sym (ge
 
 sum-column : (l w : List Float) (c a i : ℕ) → i < c → colSum l (drop a w) i (c - suc i) ≡ colSum l (lane c a w) i (c - suc i)
 sum-column l w c a i h =
-    ap summed (tab-ext (λ m. packedEntry l (suc i + m) i *ᶠ getD (drop a w) (suc i + m) nan) (λ m. packedEntry l (suc i + m) i *ᶠ getD (lane c a w) (suc i + m) nan) (c - suc i)
+    ap summed (tab-cong (λ m. packedEntry l (suc i + m) i *ᶠ getD (drop a w) (suc i + m) nan) (λ m. packedEntry l (suc i + m) i *ᶠ getD (lane c a w) (suc i + m) nan) (c - suc i)
     (λ m q. rw (getD-take c (drop a w) (suc i + m) nan (omega arith))))
 
 back-more : (l w₀ w : List Float) (c a k i : ℕ) (s v p : Float) → k < c → i ≡ c - suc k → a + c ≤ length w₀ → length w ≡ length w₀ → Back l c a w₀ w k → s ≡ colSum l (drop a w) i (c - suc i) → p ≡ packedEntry l i i

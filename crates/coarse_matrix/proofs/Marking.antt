@@ -2,31 +2,25 @@
 use Prim.Native.Nat.{ℕ, zero, suc, _+_, _-_, _*_, _<_, _≤_}
 use mathlib.Core.Path.{_≡_, refl, ap, sym, _∙_}
 use mathlib.Core.Bool.{Bool, true, false}
-use mathlib.Core.List.{List, [], _∷_, _++_, map, flatMap, foldl, foldl-append, append-nil, append-assoc, zipWith}
+use mathlib.Core.List.{List, [], _∷_, _++_, flatMap, foldl, foldl-append, append-nil, append-assoc, map-append}
 use native.Mathlib.Omega.{arith}
 use native.Mathlib.Numerals.{add-one}
 use native.Mathlib.Decide.{ℕ-discrete}
 use lib.Dec.{eqb}
 use lib.ListN.{length, getD, set, take, drop, length-set, length-drop}
-use lib.Seq.{getD-set-same, getD-set-other, take-set-le, take-set-lt, drop-set-lt, drop-set-add, take-suc-set, length-take-le, getD-take, take-suc, drop-append-le, slice, slice-empty, length-slice}
+use lib.Seq.{getD-set-same, getD-set-other, take-set-le, take-set-lt, drop-set-lt, drop-set-add, take-suc-set, length-take-le, getD-take}
 use lib.Ieee.{Float, nan}
 use borrow.Author.Tests.{eqb-true, eqb-false, eq-eqb, ne-eqb}
 use Rattle.definitions.specs.Lists.{tab, upTo, keep}
 use Rattle.definitions.specs.Numbers.{_+ᶠ_, _*ᶠ_, zeroᶠ, total}
-use Rattle.definitions.specs.Matrix.{Entry, valuesWhere, stored, rowOf}
+use Rattle.definitions.specs.Matrix.{Entry, stored, rowOf}
+use Rattle.csr32.specs.Stored.{stored-none, stored-more, where-hit, where-miss, where-none, where-append}
+use Rattle.laws.specs.Growing.{flatMap-snoc}
+use Rattle.laws.specs.Kept.{keep-append}
 use Rattle.coarse_matrix.specs.Scatter.{put, bump}
 use Rattle.coarse_matrix.specs.Galerkin.{Marks, marked, others, Room, Told, Seen, Put, mark, putAt, scaled, productPuts}
-use Rattle.coarse_matrix.proofs.Scattered.{where-hit, where-miss, where-none, flatMap-snoc}
 
 -- ---- the numbers put at a column, one entry more
-
-pub where-append : (p : ℕ → Bool) (xs ys : List Entry) → valuesWhere p (xs ++ ys) ≡ valuesWhere p xs ++ valuesWhere p ys
-where-append p [] ys = rw (where-none p)
-where-append p (e ∷ xs) ys = step (p (e .col)) refl (where-append p xs ys)
-  where
-    step : (b : Bool) → p (e .col) ≡ b → valuesWhere p (xs ++ ys) ≡ valuesWhere p xs ++ valuesWhere p ys → valuesWhere p (e ∷ (xs ++ ys)) ≡ valuesWhere p (e ∷ xs) ++ valuesWhere p ys
-    step true k ih = where-hit p e (xs ++ ys) k ∙ rw (ih, where-hit p e xs k)
-    step false k ih = where-miss p e (xs ++ ys) k ∙ rw (ih, where-miss p e xs k)
 
 module _ (es : List Entry) (k : ℕ) (x : Float) where
   put-hit : putAt k (es ++ (put k x ∷ [])) ≡ putAt k es ++ (x ∷ [])
@@ -36,16 +30,6 @@ module _ (es : List Entry) (k : ℕ) (x : Float) where
   put-miss j h = where-append (λ n. eqb n j) es (put k x ∷ []) ∙ rw (where-miss (λ n. eqb n j) (put k x) [] (ne-eqb k j h), where-none (λ n. eqb n j), append-nil)
 
 -- ---- lists of columns
-
-keep-append : (j : ℕ) (xs : List ℕ) (k : ℕ) → keep (λ n. eqb n j) (xs ++ (k ∷ [])) ≡ keep (λ n. eqb n j) xs ++ keep (λ n. eqb n j) (k ∷ [])
-unfolding keep
-keep-append j [] k = refl
-keep-append j (y ∷ ys) k = step (eqb y j) refl (keep-append j ys k)
-  where
-    step : (b : Bool) → eqb y j ≡ b → keep (λ n. eqb n j) (ys ++ (k ∷ [])) ≡ keep (λ n. eqb n j) ys ++ keep (λ n. eqb n j) (k ∷ [])
-        → keep (λ n. eqb n j) (y ∷ (ys ++ (k ∷ []))) ≡ keep (λ n. eqb n j) (y ∷ ys) ++ keep (λ n. eqb n j) (k ∷ [])
-    step true e ih = rw (e, keep) (rw ih)
-    step false e ih = rw (e, keep) ih
 
 keep-one : (j : ℕ) → keep (λ n. eqb n j) (j ∷ []) ≡ j ∷ []
 unfolding keep
@@ -180,7 +164,7 @@ module _ (c base token : ℕ) (ints : List ℕ) (floats : List Float) (count k :
   seen-new =
       record {
         told = λ j h. told j h (ℕ-discrete j k);
-        once = λ j. rw listed (keep-append j (take count (drop c ints)) k ∙ once j (ℕ-discrete j k));
+        once = λ j. rw listed (keep-append (λ n. eqb n j) (take count (drop c ints)) (k ∷ []) ∙ once j (ℕ-discrete j k));
         below = λ t h. below t h (ℕ-discrete t count);
       }
     where
@@ -266,37 +250,13 @@ put-then es fs p q =
 
 -- ---- stored entries, one more at the end
 
-zip-snoc : (xs : List ℕ) (ys : List Float) (x : ℕ) (y : Float) → length xs ≡ length ys → zipWith (λ c v. put c v) (xs ++ (x ∷ [])) (ys ++ (y ∷ [])) ≡ zipWith (λ c v. put c v) xs ys ++ (put x y ∷ [])
-unfolding zipWith
-zip-snoc [] [] x y e = refl
-zip-snoc [] (b ∷ ys) x y e = absurd (omega arith)
-zip-snoc (a ∷ xs) [] x y e = absurd (omega arith)
-zip-snoc (a ∷ xs) (b ∷ ys) x y e = ap (λ t. put a b ∷ t) (zip-snoc xs ys x y (omega arith))
-
-slice-snoc : {A : Type 0} (l : List A) (a e : ℕ) (d : A) → a ≤ e → e < length l → slice a (suc e) l ≡ slice a e l ++ (getD l e d ∷ [])
-slice-snoc l a e d h k = rw (take-suc l e d k) (drop-append-le a (take e l) (getD l e d ∷ []) (rw (length-take-le e l (omega arith)) h))
-
-pub stored-snoc : (idx : List ℕ) (vals : List Float) (a e : ℕ) → a ≤ e → e < length vals → length idx ≡ length vals
-    → stored idx vals a (e + 1) ≡ stored idx vals a e ++ (put (getD idx e 0) (getD vals e nan) ∷ [])
-stored-snoc idx vals a e h k s =
-    rw (add-one, slice-snoc idx a e 0 h (omega arith), slice-snoc vals a e nan h k)
-    (zip-snoc (slice a e idx) (slice a e vals) (getD idx e 0) (getD vals e nan) (length-slice a e idx (omega arith) ∙ sym (length-slice a e vals (omega arith))))
-
-pub stored-none : (idx : List ℕ) (vals : List Float) (a : ℕ) → stored idx vals a a ≡ []
-unfolding zipWith
-stored-none idx vals a = rw (slice-empty a idx)
-
-map-snoc : {A B : Type 0} (f : A → B) (xs : List A) (x : A) → map f (xs ++ (x ∷ [])) ≡ map f xs ++ (f x ∷ [])
-map-snoc f [] x = refl
-map-snoc f (y ∷ ys) x = ap (λ t. f y ∷ t) (map-snoc f ys x)
-
 -- the loop over weights
 pub scaled-none : (idx : List ℕ) (w : List Float) (v : Float) (a : ℕ) → scaled v (stored idx w a a) ≡ []
 scaled-none idx w v a = rw (stored-none idx w a)
 
 pub scaled-more : (idx : List ℕ) (w : List Float) (v : Float) (a e : ℕ) → a ≤ e → e < length w → length idx ≡ length w
     → scaled v (stored idx w a e) ++ (put (getD idx e 0) (v *ᶠ getD w e nan) ∷ []) ≡ scaled v (stored idx w a (e + 1))
-scaled-more idx w v a e h k s = rw (stored-snoc idx w a e h k s) (sym (map-snoc (λ u. put (u .col) (v *ᶠ u .value)) (stored idx w a e) (put (getD idx e 0) (getD w e nan))))
+scaled-more idx w v a e h k s = rw (stored-more idx w a e h (omega arith) s) (sym (map-append (λ u. put (u .col) (v *ᶠ u .value)) (stored idx w a e) (put (getD idx e 0) (getD w e nan) ∷ [])))
 
 -- ---- the steps of the loops that put
 
@@ -324,7 +284,7 @@ module _ {c base token : ℕ} {i₀ i₁ i₂ : List ℕ} {f₀ f₁ f₂ : List
       let row : stored tidx tw first last ≡ stored tidx tw (getD tptr (getD idx p 0) 0) (getD tptr (suc (getD idx p 0)) 0) = rw (ef, el, ec, add-one) in
       let b′ = rw row at b in
       rw (
-        stored-snoc idx vals from p h l s,
+        stored-more idx vals from p h (omega arith) s,
         flatMap-snoc (λ e. scaled (e .value) (stored tidx tw (getD tptr (e .col) 0) (getD tptr (suc (e .col)) 0))) (stored idx vals from p) (put (getD idx p 0) (getD vals p nan)),
       )
       (put-then (flatMap (λ e. scaled (e .value) (stored tidx tw (getD tptr (e .col) 0) (getD tptr (suc (e .col)) 0))) (stored idx vals from p)) (scaled (getD vals p nan) (stored tidx tw (getD tptr (getD idx p 0) 0) (getD tptr (suc (getD idx p 0)) 0))) a b′)

@@ -18,11 +18,13 @@ use Rattle.averaging.specs.Averaging.{averagedIn}
 use Rattle.averaging.proofs.Lists.{square-is, tail-zeros}
 use Rattle.averaging.proofs.Laws.{average-fits, length-averaged}
 use Rattle.averaging.proofs.Places.{place}
+use Rattle.csr32.specs.Stored.{where-append, where-hit, where-miss, where-none}
+use Rattle.laws.specs.Growing.{flatMap-snoc, upTo-snoc, rows-none}
 use Rattle.coarse_matrix.specs.Scatter.{put, bump, scatter}
 use Rattle.coarse_matrix.specs.Galerkin.{scaled, productPuts, putAt, mark, others, Room, Told, Seen, Put, weightPuts, weighedPuts, rowTerms, RowAdded, RowsAdded}
-use Rattle.coarse_matrix.proofs.Scattered.{plus, where-hit, where-miss, where-none, scatter-at, length-scatter, flatMap-snoc, upTo-snoc, rows-none}
+use Rattle.coarse_matrix.proofs.Scattered.{plus, scatter-at, length-scatter}
 use Rattle.coarse_matrix.proofs.Squares.{All, all-of, at-row, off-row}
-use Rattle.coarse_matrix.proofs.Marking.{where-append, others-all}
+use Rattle.coarse_matrix.proofs.Marking.{others-all}
 use Rattle.coarse_matrix.proofs.Weighing.{listed-below}
 
 -- ---- the accumulator's terms are the definition's

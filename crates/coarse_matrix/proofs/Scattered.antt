@@ -1,8 +1,8 @@
--- The laws of lists by index, and the scatter law.
+-- The scatter law: what stands at j after scattering is what stood there and the numbers put there, in order.
 use Prim.Native.Nat.{ℕ, zero, suc, _+_, _-_, _*_, _/_, _%_, _<_, _≤_}
-use mathlib.Core.Path.{_≡_, refl, ap, sym, _∙_}
+use mathlib.Core.Path.{_≡_, refl, sym, _∙_}
 use mathlib.Core.Bool.{Bool, true, false}
-use mathlib.Core.List.{List, [], _∷_, _++_, map, flatMap, foldl, foldl-append, append-nil, append-assoc}
+use mathlib.Core.List.{List, [], _∷_, flatMap, foldl, foldl-append}
 use native.Mathlib.Omega.{arith}
 use native.Mathlib.Numerals.{add-one}
 use lib.Dec.{eqb}
@@ -10,55 +10,12 @@ use lib.ListN.{length, getD, set, take, drop, length-set, length-take}
 use lib.Seq.{getD-set-same, getD-set-other, drop-cons, drop-length, set-at}
 use lib.Ieee.{Float, nan}
 use borrow.Author.Tests.{eqb-true, eqb-false}
-use Rattle.definitions.specs.Lists.{tab, upTo, keep}
-use Rattle.averaging.proofs.Lists.{tab-snoc}
+use Rattle.definitions.specs.Lists.{upTo}
 use Rattle.definitions.specs.Numbers.{_+ᶠ_, zeroᶠ, total}
 use Rattle.definitions.specs.Matrix.{Entry, valuesWhere}
+use Rattle.laws.specs.Growing.{flatMap-snoc, upTo-snoc, rows-none}
+use Rattle.csr32.specs.Stored.{where-hit, where-miss, where-none}
 use Rattle.coarse_matrix.specs.Scatter.{put, bump, scatter, scattered}
-
--- ---- sums by rows
-
-pub flatMap-snoc : {A B : Type 0} (f : A → List B) (xs : List A) (x : A) → flatMap f (xs ++ (x ∷ [])) ≡ flatMap f xs ++ f x
-unfolding flatMap
-flatMap-snoc f [] x = append-nil (f x)
-flatMap-snoc f (y ∷ ys) x = rw (flatMap-snoc f ys x) (sym (append-assoc (f y) (flatMap f ys) (f x)))
-
-pub upTo-snoc : (n : ℕ) → upTo (suc n) ≡ upTo n ++ (n ∷ [])
-unfolding upTo
-upTo-snoc n = tab-snoc (λ i. i) n
-
-module _ (p : ℕ → Bool) (e : Entry) (es : List Entry) where
-  pub where-hit : p (e .col) ≡ true → valuesWhere p (e ∷ es) ≡ e .value ∷ valuesWhere p es
-  unfolding valuesWhere keep
-  where-hit h = rw (h, keep)
-
-  pub where-miss : p (e .col) ≡ false → valuesWhere p (e ∷ es) ≡ valuesWhere p es
-  unfolding valuesWhere keep
-  where-miss h = rw (h, keep)
-
-pub where-none : (p : ℕ → Bool) → valuesWhere p [] ≡ []
-unfolding valuesWhere keep
-where-none p = refl
-
-pub rows-none : {B : Type 0} (f : ℕ → List B) → flatMap f (upTo zero) ≡ []
-unfolding flatMap upTo tab
-rows-none f = refl
-
--- the rows that pass give what they gave, the others nothing
-module _ {A B : Type 0} (p : A → Bool) (f g : A → List B) (hit : (x : A) → p x ≡ true → f x ≡ g x) (miss : (x : A) → p x ≡ false → f x ≡ []) where
-  pub flatMap-keep : (xs : List A) → flatMap f xs ≡ flatMap g (keep p xs)
-  unfolding flatMap keep
-  flatMap-keep [] = refl
-  flatMap-keep (x ∷ xs) = step (p x) refl (flatMap-keep xs)
-    where
-      step : (b : Bool) → p x ≡ b → flatMap f xs ≡ flatMap g (keep p xs) → f x ++ flatMap f xs ≡ flatMap g (keep p (x ∷ xs))
-      step true e ih = rw (e, keep) (rw (hit x e, ih))
-      step false e ih = rw (e, keep) (rw (miss x e, ih))
-
-pub flatMap-one : {A B : Type 0} (f : A → B) (xs : List A) → flatMap (λ x. f x ∷ []) xs ≡ map f xs
-unfolding flatMap
-flatMap-one f [] = refl
-flatMap-one f (x ∷ xs) = ap (λ l. f x ∷ l) (flatMap-one f xs)
 
 -- ---- THE SCATTER LAW
 

@@ -13,11 +13,12 @@ use borrow.Author.Tests.{ne-eqb}
 use Rattle.definitions.specs.Numbers.{_+ᶠ_, _*ᶠ_}
 use Rattle.definitions.specs.Matrix.{Entry, valuesWhere, stored}
 use Rattle.averaging.proofs.Places.{place}
+use Rattle.csr32.specs.Stored.{stored-none, stored-more, where-miss, where-none}
+use Rattle.laws.specs.Growing.{flatMap-snoc}
 use Rattle.coarse_matrix.specs.Scatter.{put, bump, scatter, Below}
 use Rattle.coarse_matrix.specs.Galerkin.{weightPuts, weighedPuts, putAt}
-use Rattle.coarse_matrix.proofs.Scattered.{where-hit, where-miss, where-none, scatter-at, length-scatter, flatMap-snoc}
+use Rattle.coarse_matrix.proofs.Scattered.{scatter-at, length-scatter}
 use Rattle.coarse_matrix.proofs.Squares.{All, all-of, all-stored}
-use Rattle.coarse_matrix.proofs.Marking.{stored-snoc, stored-none}
 
 pub scatter-append : (xs ys : List Entry) (l : List Float) → scatter (xs ++ ys) l ≡ scatter ys (scatter xs l)
 unfolding scatter
@@ -100,4 +101,4 @@ weighed-more tidx w from q c base js f₀ f g row dst h l s eb big b a ef er ed 
     let same : weightPuts base f dst (getD w q nan) js ≡ weightPuts base f₀ (getD tidx q 0 * c) (getD w q nan) js =
     puts-same base c dst f f₀ (getD w q nan) js a (λ k hk. rw ef (scatter-off (weighedPuts c base f₀ js ws) f₀ base (base + k) (omega arith) (omega arith) (all-weighed c base f₀ js eb a ws (all-stored (λ k. k < c) tidx w from q b))))
     ∙ rw (ed, er) in
-    eg ∙ rw (same, ef) (sym (scatter-append (weighedPuts c base f₀ js ws) (weightPuts base f₀ (getD tidx q 0 * c) (getD w q nan) js) f₀) ∙ rw (stored-snoc tidx w from q h l s) (ap (λ t. scatter t f₀) (sym (weighed-snoc c base f₀ js ws (put (getD tidx q 0) (getD w q nan))))))
+    eg ∙ rw (same, ef) (sym (scatter-append (weighedPuts c base f₀ js ws) (weightPuts base f₀ (getD tidx q 0 * c) (getD w q nan) js) f₀) ∙ rw (stored-more tidx w from q h (omega arith) s) (ap (λ t. scatter t f₀) (sym (weighed-snoc c base f₀ js ws (put (getD tidx q 0) (getD w q nan))))))

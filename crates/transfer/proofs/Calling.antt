@@ -18,12 +18,14 @@ use Rattle.transfer.specs.Call.{transferChecked, roomChecked, smoothedTr
 use Rattle.transfer.specs.declared.TransferAnswer.{TransferAnswer}
 use Rattle.transfer.specs.declared.TransferAnswer.the-variants.{Count, Refused as NoTransfer}
 use Rattle.definitions.specs.Transfer.{transferOf}
-use Rattle.transfer.proofs.Checking.{once, pair, shape-facts, groups-facts}
+use Rattle.transfer.proofs.Checking.{shape-facts, groups-facts}
 use Rattle.definitions.specs.Answers.{answerOf}
 use Rattle.definitions.specs.declared.Refusal.{Refusal}
 use Rattle.definitions.specs.declared.Answer.{Answer}
 use Rattle.definitions.specs.declared.Answer.the-variants.{Accepted, Refused}
 use Rattle.csr32.specs.Calls.{accepted-done, refused-is, goes-on, stops}
+use Rattle.laws.specs.Tests.{both-true}
+use Rattle.laws.specs.Outcomes.{last-true}
 use Rattle.transfer.specs.Weights.{Built, Left}
 
 module _ (o : Checked) (next : Unit {0} → Checked) (q : Answer) (e : q ≡ answerOf o) where
@@ -74,7 +76,7 @@ taken-apart a size ids groups diagonal ints floats h =
     let p3 = split _ _ (p2 .1) in
     let s = shape-facts (a .rows) (a .cols) size diagonal (is-accepted _ (p2 .0)) in
     let g = groups-facts (a .rows) size ids groups (s .1) (s .3) (is-accepted _ (p3 .0)) in
-    let r = pair (leb (2 * a .rows + length (a .values) + 1 + 2 * (groups * size)) ints) (leb (a .rows + length (a .values) + groups * size) floats) (once _ _ (p3 .1)) in
+    let r = both-true (leb (2 * a .rows + length (a .values) + 1 + 2 * (groups * size)) ints) (leb (a .rows + length (a .values) + groups * size) floats) (last-true _ _ (p3 .1)) in
     (rows-of a (p1 .0), s, g, (leb-true _ _ (r .0), leb-true _ _ (r .1)))
 
 -- ---- the whole call

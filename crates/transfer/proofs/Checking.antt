@@ -1,7 +1,7 @@
 -- The checks that follow those of the matrix: the answer at each return, and what an accepted call knows.
 use Prim.Native.Nat.{ℕ, zero, suc, _+_, _-_, _*_, _/_, _%_, _<_, _≤_}
 use mathlib.Core.Path.{_≡_, refl}
-use mathlib.Core.Bool.{Bool, true, false, not, _&&_, _||_}
+use mathlib.Core.Bool.{Bool, true, false, not, _||_}
 use mathlib.Core.List.{List, [], _∷_}
 use native.Mathlib.Omega.{arith}
 use native.Mathlib.Numerals.{add-one}
@@ -11,14 +11,15 @@ use lib.ListN.{length, getD, drop}
 use lib.Seq.{drop-cons, drop-length}
 use borrow.Author.Tests.{eq-eqb, ne-eqb, le-leb, lt-leb, eqb-true, leb-true, leb-false, not-true}
 use Rattle.definitions.specs.Lists.{any}
-use Rattle.definitions.specs.Refusal.{done, Checked, require, _>>=_}
+use Rattle.definitions.specs.Refusal.{require, _>>=_}
 use Rattle.definitions.specs.Answers.{answerOf}
 use Rattle.definitions.specs.Block.{maxBlock}
 use Rattle.definitions.specs.Transfer.{coarseColumn}
-use Rattle.definitions.specs.declared.Refusal.{Refusal}
 use Rattle.definitions.specs.declared.Refusal.the-variants.{NotSquare, BlockSize, NotMultiple, ListTooShort, CoarseTooLarge, WrongLength, SetupMisfit}
 use Rattle.definitions.specs.declared.Answer.the-variants.{Accepted, Refused}
 use Rattle.csr32.specs.Calls.{accepted-done}
+use Rattle.laws.specs.Tests.{both-true}
+use Rattle.laws.specs.Outcomes.{test-true, last-true}
 use Rattle.transfer.specs.Touched.{Grouped, Below}
 use Rattle.transfer.specs.Call.{shapeChecked, groupsChecked, roomChecked}
 
@@ -109,28 +110,14 @@ module _ (rows entries c ints floats : ℕ) where
 
 -- ---- what passed checks say
 
-both : (b : Bool) (k : Unit {0} → Checked) (r : Refusal) → (require b r >>= k) ≡ done tt → (b ≡ true) × (k tt ≡ done tt)
-unfolding require _>>=_
-both true k r e = (refl, e)
-both false k r e = (cc, cc)
-
-pub once : (b : Bool) (r : Refusal) → require b r ≡ done tt → b ≡ true
-unfolding require
-once true r e = refl
-once false r e = cc
-
-pub pair : (b c : Bool) → (b && c) ≡ true → (b ≡ true) × (c ≡ true)
-pair true c e = (refl, e)
-pair false c e = (e, cc)
-
 pub shape-facts : (rows cols size diagonal : ℕ) → answerOf (shapeChecked rows cols size diagonal) ≡ Accepted → (cols ≡ rows) × (1 ≤ size) × (size ≤ 8) × (rows % size ≡ 0) × (diagonal ≡ rows)
 unfolding shapeChecked
 shape-facts rows cols size diagonal h =
-    let p1 = both _ _ _ (accepted-done _ h) in
-    let p2 = both _ _ _ (p1 .1) in
-    let s = pair (leb 1 size) (leb size maxBlock) (p2 .0) in
-    let p3 = both _ _ _ (p2 .1) in
-    (eqb-true _ _ (p1 .0), leb-true _ _ (s .0), leb-true _ _ (s .1), eqb-true _ _ (p3 .0), eqb-true _ _ (once _ _ (p3 .1)))
+    let p1 = test-true _ _ _ _ (accepted-done _ h) in
+    let p2 = test-true _ _ _ _ (p1 .1) in
+    let s = both-true (leb 1 size) (leb size maxBlock) (p2 .0) in
+    let p3 = test-true _ _ _ _ (p2 .1) in
+    (eqb-true _ _ (p1 .0), leb-true _ _ (s .0), leb-true _ _ (s .1), eqb-true _ _ (p3 .0), eqb-true _ _ (last-true _ _ (p3 .1)))
 
 none-any : (groups : ℕ) (xs : List ℕ) → any (λ g. leb groups g) xs ≡ false → Below groups xs
 unfolding any
@@ -153,9 +140,9 @@ within-law id size groups r h l = omega (arith, mul-le-mul-right size h)
 pub groups-facts : (rows size : ℕ) (ids : List ℕ) (groups : ℕ) → 1 ≤ size → rows % size ≡ 0 → answerOf (groupsChecked rows size ids groups) ≡ Accepted → (groups * size ≤ 2_048) × Grouped size ids rows (groups * size)
 unfolding groupsChecked coarseColumn
 groups-facts rows size ids groups some whole h =
-    let p1 = both _ _ _ (accepted-done _ h) in
-    let p2 = both _ _ _ (p1 .1) in
-    let s = pair (eqb (length ids) (rows / size)) (not (any (λ g. leb groups g) ids)) (once _ _ (p2 .1)) in
+    let p1 = test-true _ _ _ _ (accepted-done _ h) in
+    let p2 = test-true _ _ _ _ (p1 .1) in
+    let s = both-true (eqb (length ids) (rows / size)) (not (any (λ g. leb groups g) ids)) (last-true _ _ (p2 .1)) in
     let small : groups * size ≤ 2_048 = leb-true _ _ (p2 .0) in
     let long : length ids ≡ rows / size = eqb-true _ _ (s .0) in
     let below = none-any groups ids (not-true _ (s .1)) in

@@ -1,13 +1,13 @@
 -- Elements copied to the place behind a front that stays, and a list filled by index.
-use Prim.Native.Nat.{ℕ, zero, suc, _+_, _-_, _<_}
-use mathlib.Core.Path.{_≡_, refl, ap, sym, _∙_}
+use Prim.Native.Nat.{ℕ, suc, _+_, _-_, _<_}
+use mathlib.Core.Path.{_≡_, ap, sym, _∙_}
 use mathlib.Core.List.{List, [], _∷_, _++_, map, map-append, append-assoc, append-nil}
 use native.Mathlib.Omega.{arith}
 use native.Mathlib.Numerals.{add-one}
 use native.Mathlib.Nat.{add-zero}
 use lib.ListN.{length, getD, set, take, drop, length-drop}
-use lib.Seq.{take-suc, take-suc-set, getD-drop, drop-cons, drop-length, set-at}
-use Rattle.definitions.specs.Lists.{tab, part}
+use lib.Seq.{take-suc, take-suc-set, getD-drop}
+use Rattle.definitions.specs.Lists.{part}
 
 module _ {A : Type 0} (to : ℕ) (l₀ : List A) where
   pub front-none : take (to + 0) l₀ ≡ take to l₀ ++ []
@@ -35,26 +35,3 @@ place-read d base j l l₀ e = sym (getD-drop base l j d) ∙ ap (λ s. getD s j
 
 pub map-more : {A B : Type 0} (d : A) (f : A → B) (t : List A) (k : ℕ) → k < length t → map f (take (k + 1) t) ≡ map f (take k t) ++ (f (getD t k d) ∷ [])
 map-more d f t k h = rw (add-one k, take-suc t k d h) (map-append f (take k t) (getD t k d ∷ []))
-
--- ---- a list filled by index
-
-pub tab-snoc : {A : Type 0} (f : ℕ → A) (n : ℕ) → tab f (suc n) ≡ tab f n ++ (f n ∷ [])
-unfolding tab
-tab-snoc f zero = refl
-tab-snoc f (suc n) = ap (λ l. f zero ∷ l) (tab-snoc (λ i. f (suc i)) n)
-
-pub length-tab : {A : Type 0} (f : ℕ → A) (n : ℕ) → length (tab f n) ≡ n
-unfolding tab
-length-tab f zero = refl
-length-tab f (suc n) = ap suc (length-tab (λ i. f (suc i)) n)
-
-pub tab-none : {A : Type 0} (f : ℕ → A) (d : List A) → d ≡ tab f 0 ++ drop 0 d
-unfolding tab
-tab-none f d = refl
-
-pub tab-more : {A : Type 0} (f : ℕ → A) (i : ℕ) (s d : List A) (v : A) → i < length d → s ≡ tab f i ++ drop i d → v ≡ f i → set s i v ≡ tab f (i + 1) ++ drop (i + 1) d
-tab-more f i s d v l e g =
-    rw (e, g, add-one, drop-cons d i v l, set-at (tab f i) (getD d i v) (drop (suc i) d) (f i) i (length-tab f i), tab-snoc f i, append-assoc (tab f i) (f i ∷ []) (drop (suc i) d))
-
-pub tab-all : {A : Type 0} (f : ℕ → A) (i : ℕ) (s d : List A) → i ≡ length d → s ≡ tab f i ++ drop i d → s ≡ tab f (length d)
-tab-all f i s d l e = rw (e, l, drop-length d, append-nil)

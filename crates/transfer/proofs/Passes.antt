@@ -1,6 +1,6 @@
 -- One pass over the touched columns or over a row's entries, told by what is left of it.
 use Prim.Native.Nat.{ℕ, _+_, _<_, _≤_}
-use mathlib.Core.Path.{_≡_, refl, ap, _∙_}
+use mathlib.Core.Path.{_≡_, refl, _∙_}
 use mathlib.Core.Bool.{Bool, true, false, cond}
 use mathlib.Core.List.{List, [], _∷_, _++_, zipWith, append-nil}
 use native.Mathlib.Omega.{arith}
@@ -11,6 +11,7 @@ use lib.Ieee.{Float, nan}
 use Rattle.definitions.specs.Lists.{keep}
 use Rattle.definitions.specs.Numbers.{zeroᶠ, _-ᶠ_, _*ᶠ_}
 use Rattle.definitions.specs.Matrix.{stored}
+use Rattle.laws.specs.Kept.{keep-append}
 use Rattle.transfer.specs.Weights.{zeroAt, lowered, smoothing}
 use Rattle.transfer.specs.Touched.{insertOnce, insertAll, named}
 use Rattle.transfer.proofs.Inserting.{drop-more}
@@ -49,15 +50,6 @@ keep-hit f x e = rw (e, keep)
 pub keep-miss : {A : Type 0} (f : A → Bool) (x : A) → f x ≡ false → keep f (x ∷ []) ≡ []
 unfolding keep
 keep-miss f x e = rw (e, keep)
-
-pub keep-append : {A : Type 0} (f : A → Bool) (xs ys : List A) → keep f (xs ++ ys) ≡ keep f xs ++ keep f ys
-unfolding keep
-keep-append f [] ys = refl
-keep-append f (x ∷ xs) ys = step (f x) refl (keep-append f xs ys)
-  where
-    step : (b : Bool) → f x ≡ b → keep f (xs ++ ys) ≡ keep f xs ++ keep f ys → keep f (x ∷ (xs ++ ys)) ≡ keep f (x ∷ xs) ++ keep f ys
-    step true e ih = rw (e, keep) (ap (λ l. x ∷ l) ih)
-    step false e ih = rw (e, keep) ih
 
 module _ (f : ℕ → Bool) (t₀ t : List ℕ) (k r j : ℕ) (l : k < length t₀) (same : length t ≡ length t₀) (low : r ≤ k) (e : take r t ≡ keep f (take k t₀)) (c : r ≡ length (keep f (take k t₀))) (d : drop k t ≡ drop k t₀) (ej : j ≡ getD t₀ k 0) where
   abbrev Next : ℕ → Type 0

@@ -1,7 +1,7 @@
 -- The rows one behind the other: columns behind the pointers, weights from the start of their list.
 use Prim.Native.Nat.{ℕ, zero, suc, _+_, _-_, _<_, _≤_}
 use mathlib.Core.Path.{_≡_, refl, ap, sym, _∙_}
-use mathlib.Core.List.{List, [], _∷_, _++_, map, flatMap, map-append, append-nil, append-assoc}
+use mathlib.Core.List.{List, [], _∷_, _++_, map, flatMap, map-append}
 use native.Mathlib.Omega.{arith}
 use native.Mathlib.Numerals.{add-one}
 use lib.ListN.{length, getD, set, take, drop, length-append, length-take, length-drop, List·getD-append, length-map}
@@ -9,9 +9,10 @@ use lib.Seq.{length-take-le, take-take, drop-at, take-append-le, drop-append-le,
 use lib.Ieee.{Float, nan}
 use Rattle.definitions.specs.Lists.{tab, part, pointersFrom, joinedLists}
 use Rattle.definitions.specs.Matrix.{Entry}
+use Rattle.laws.specs.Lists.{tab-cong}
+use Rattle.laws.specs.Growing.{tab-snoc, flatMap-snoc}
 use Rattle.transfer.specs.Touched.{Below}
 use Rattle.transfer.specs.Weights.{Parted, Put, Built}
-use Rattle.transfer.proofs.Copying.{tab-snoc}
 
 -- ---- parts
 
@@ -70,11 +71,6 @@ module _ (f : ℕ → List Entry) where
   abbrev pub before : ℕ → List Entry
   before i = joinedLists (tab f i)
 
-  flatMap-snoc : {A B : Type 0} (g : A → List B) (xs : List A) (x : A) → flatMap g (xs ++ (x ∷ [])) ≡ flatMap g xs ++ g x
-  unfolding flatMap
-  flatMap-snoc g [] x = append-nil (g x)
-  flatMap-snoc g (y ∷ ys) x = rw (flatMap-snoc g ys x) (sym (append-assoc (g y) (flatMap g ys) (g x)))
-
   pub before-none : before 0 ≡ []
   unfolding tab flatMap
   before-none = refl
@@ -85,11 +81,6 @@ module _ (f : ℕ → List Entry) where
   pub before-first : (n : ℕ) → before (suc n) ≡ f zero ++ joinedLists (tab (λ i. f (suc i)) n)
   unfolding tab flatMap
   before-first n = refl
-
-tab-ext : {A : Type 0} (f g : ℕ → A) (n : ℕ) → ((i : ℕ) → f i ≡ g i) → tab f n ≡ tab g n
-unfolding tab
-tab-ext f g zero h = refl
-tab-ext f g (suc n) h = rw (h zero, tab-ext (λ i. f (suc i)) (λ i. g (suc i)) n (λ i. h (suc i)))
 
 tab-first : {A : Type 0} (f : ℕ → A) (n : ℕ) → tab f (suc n) ≡ f zero ∷ tab (λ i. f (suc i)) n
 unfolding tab
@@ -105,13 +96,13 @@ pointers-tab f zero b = pointers-last f b
 pointers-tab f (suc n) b =
     tab-first (λ k. b + length (before f k)) (suc n)
     ∙ (let z : b + length (before f 0) ≡ b = ap (λ l. b + length l) (before-none f) ∙ omega arith in
-    rw (z, tab-first f n) (ap (λ l. b ∷ l) (tab-ext (λ k. b + length (before f (suc k))) (λ k. b + length (f zero) + length (before (λ i. f (suc i)) k)) (suc n) shift ∙ pointers-tab (λ i. f (suc i)) n (b + length (f zero)))))
+    rw (z, tab-first f n) (ap (λ l. b ∷ l) (tab-cong (λ k. b + length (before f (suc k))) (λ k. b + length (f zero) + length (before (λ i. f (suc i)) k)) (suc n) (λ k _. shift k) ∙ pointers-tab (λ i. f (suc i)) n (b + length (f zero)))))
   where
     shift : (k : ℕ) → b + length (before f (suc k)) ≡ b + length (f zero) + length (before (λ i. f (suc i)) k)
     shift k = ap (λ l. b + length l) (before-first f k) ∙ ap (λ m. b + m) (length-append (f zero) (before (λ i. f (suc i)) k)) ∙ omega arith
 
 pub pointers-law : (f : ℕ → List Entry) (n : ℕ) → tab (λ k. length (before f k)) (n + 1) ≡ pointersFrom 0 (tab f n)
-pointers-law f n = rw (add-one n) (tab-ext (λ k. length (before f k)) (λ k. 0 + length (before f k)) (suc n) (λ k. omega arith) ∙ pointers-tab f n 0)
+pointers-law f n = rw (add-one n) (tab-cong (λ k. length (before f k)) (λ k. 0 + length (before f k)) (suc n) (λ k _. omega arith) ∙ pointers-tab f n 0)
 
 -- what stands in the lists when i rows are put
 pub record Rowed (f : ℕ → List Entry) (cols i at : ℕ) (ints : List ℕ) (floats : List Float) : Type 0 where

@@ -1,7 +1,7 @@
 -- The columns that are visited are all that a row names, or all there are.
 use Prim.Native.Nat.{ℕ, zero, suc, _+_, _-_, _<_, _≤_}
 use mathlib.Core.Path.{_≡_, refl, ap, sym, _∙_}
-use mathlib.Core.Bool.{Bool, true, false, _||_}
+use mathlib.Core.Bool.{Bool, true, false}
 use mathlib.Core.List.{List, [], _∷_}
 use native.Mathlib.Omega.{arith}
 use lib.Dec.{ltb, eqb}
@@ -9,8 +9,10 @@ use lib.ListN.{length, getD, set, take, length-set}
 use lib.Seq.{slice, take-length, getD-take, getD-drop, length-slice}
 use borrow.Author.Tests.{eqb-false, ne-eqb}
 use Rattle.definitions.specs.Lists.{upTo, keep, any}
+use Rattle.laws.specs.Kept.{keep-yes, keep-no, keep-nil}
+use Rattle.laws.specs.Tests.{both-false}
 use Rattle.transfer.specs.Touched.{insertOnce, insertAll, named, Spread, Gathered, Visited, Below}
-use Rattle.transfer.proofs.Spreading.{also, asc, insert-law, keep-yes, keep-no, keep-nil, upTo-asc, spread-length}
+use Rattle.transfer.proofs.Spreading.{also, asc, insert-law, upTo-asc, spread-length}
 
 -- tests with the columns of a list added
 abbrev pub alsoAll : List ℕ → (ℕ → Bool) → ℕ → Bool
@@ -37,10 +39,6 @@ single own c h = let e = insert-law (λ _. false) own c h in rw (keep-none (upTo
 pub single-spread : (own c : ℕ) → own < c → Spread (own ∷ []) c
 single-spread own c h = record { test = also own (λ _. false); is = single own c h }
 
-or-false : (a b : Bool) → (a || b) ≡ false → (a ≡ false) × (b ≡ false)
-or-false false b e = (refl, e)
-or-false true b e = (e, cc)
-
 eqb-swap : (a b : ℕ) → eqb a b ≡ false → eqb b a ≡ false
 eqb-swap a b e = ne-eqb b a (λ q. eqb-false a b e (sym q))
 
@@ -49,14 +47,14 @@ unfolding any
 all-miss [] p j e = (e, refl)
 all-miss (x ∷ xs) p j e =
     let r = all-miss xs (also x p) j e in
-    let q = or-false (eqb j x) (p j) (r .0) in
+    let q = both-false (eqb j x) (p j) (r .0) in
     (q .1, rw (eqb-swap j x (q .0)) (r .1))
 
 pub named-misses : (own : ℕ) (names : List ℕ) (j : ℕ) → alsoAll names (also own (λ _. false)) j ≡ false → any (λ x. eqb x j) (own ∷ names) ≡ false
 unfolding any
 named-misses own names j e =
     let s = all-miss names (also own (λ _. false)) j e in
-    let q = or-false (eqb j own) false (s .0) in
+    let q = both-false (eqb j own) false (s .0) in
     rw (eqb-swap j own (q .0)) (s .1)
 
 -- those alone that the row names

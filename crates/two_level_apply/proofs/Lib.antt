@@ -1,4 +1,3 @@
-pub mod Tables
 pub mod Scattering
 pub mod Restricting
 pub mod Nodes

@@ -1,6 +1,6 @@
 -- What a setup that fits its record says of the parts of its lists: ids below the group count, compressed rows, room for every part.
 use Prim.Native.Nat.{ℕ, zero, suc, _+_, _-_, _*_, _<_, _≤_}
-use mathlib.Core.Path.{_≡_, refl, sym, _∙_}
+use mathlib.Core.Path.{_≡_, refl, _∙_}
 use mathlib.Core.Bool.{Bool, true, false, not, _&&_, _||_}
 use mathlib.Core.List.{List, [], _∷_, _++_}
 use native.Mathlib.Omega.{arith}
@@ -9,7 +9,7 @@ use lib.Dec.{leb, ltb, eqb}
 use lib.ListN.{length, getD, take, drop, length-take, length-drop}
 use lib.Seq.{length-take-le}
 use lib.Ieee.{Float}
-use borrow.Author.Tests.{leb-true, ltb-true, ltb-false, eqb-true}
+use borrow.Author.Tests.{leb-true, ltb-true, ltb-false, eqb-true, not-true}
 use Rattle.definitions.specs.Lists.{all, falls, tab}
 use Rattle.definitions.specs.Coarse.{coarseLength}
 use Rattle.definitions.specs.Fits.{idsIn, pointersIn, columnsIn, weightsIn, usedInts, usedFloats, transferFits, setupFits}
@@ -49,10 +49,6 @@ up-to ptr e i (suc k) h =
 
 ends-at : (ptr : List ℕ) (rows t : ℕ) → falls ptr ≡ false → length ptr ≡ suc rows → getD ptr rows 0 ≡ t → (i : ℕ) → i < suc rows → getD ptr i 0 ≤ t
 ends-at ptr rows t f l e i h = let z : i + (rows - i) ≡ rows = omega arith in rw (← e) (rw z at (up-to ptr f i (rows - i) (rw (z, l) (omega arith))))
-
-not-true : (b : Bool) → not b ≡ true → b ≡ false
-not-true true e = sym e
-not-true false e = refl
 
 pub record Room (s : Setup) (i f : ℕ) : Type 0 where
   pub rows : s .rows ≤ 1048576

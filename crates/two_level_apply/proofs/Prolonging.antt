@@ -11,8 +11,8 @@ use Rattle.definitions.specs.Lists.{tab}
 use Rattle.definitions.specs.Numbers.{_+ᶠ_, _*ᶠ_, summed}
 use Rattle.definitions.specs.Matrix.{rowOf, stored}
 use Rattle.definitions.specs.Apply.{weightedParts}
+use Rattle.laws.specs.Growing.{tab-none, tab-more, tab-all, tab-unread}
 use Rattle.two_level_apply.specs.Scatter.{put, bump, scatter, scattered, single, gainPuts}
-use Rattle.two_level_apply.proofs.Tables.{tab-none, tab-more, tab-all, tab-rest}
 use Rattle.two_level_apply.proofs.Scattering.{single-step}
 
 module _ (x : ℕ → Float) (z : List Float) where
@@ -25,7 +25,7 @@ module _ (x : ℕ → Float) (z : List Float) where
   gained-by (suc n) h =
       let s = scattered (single (λ i. i) x) n z in
       let e = gained-by n (omega arith) in
-      tab-more gains n s z (getD s n nan +ᶠ x n) (omega arith) e (ap (λ v. v +ᶠ x n) (ap (λ l. getD l n nan) e ∙ tab-rest gains n z nan (omega arith)))
+      rw add-one at (tab-more gains n s z (getD s n nan +ᶠ x n) (omega arith) e (ap (λ v. v +ᶠ x n) (tab-unread nan gains n s z (omega arith) e)))
 
   pub gained-all : (n : ℕ) (l : List Float) → n ≡ length z → l ≡ scattered (single (λ i. i) x) n z → l ≡ tab (λ i. getD z i nan +ᶠ x i) (length z)
   gained-all n l h e = tab-all gains n l z h (e ∙ gained-by n (omega arith))

@@ -2,7 +2,7 @@
 use Prim.Native.Nat.{ℕ, zero, suc, _+_, _*_, _<_, _≤_}
 use mathlib.Core.Path.{_≡_, refl, ap, _∙_}
 use mathlib.Core.Bool.{Bool, true, false}
-use mathlib.Core.List.{List, [], _∷_, _++_, map, flatMap, zipWith}
+use mathlib.Core.List.{List, [], _∷_, map, flatMap, zipWith}
 use native.Mathlib.Omega.{arith}
 use native.Mathlib.Numerals.{add-one}
 use lib.Dec.{eqb}
@@ -15,8 +15,11 @@ use Rattle.definitions.specs.Numbers.{_*ᶠ_, zeroᶠ, total}
 use Rattle.definitions.specs.Matrix.{Entry, valuesWhere, rowOf, stored}
 use Rattle.definitions.specs.Transfer.{coarseColumn}
 use Rattle.definitions.specs.Apply.{constantParts, smoothedParts}
+use Rattle.laws.specs.Lists.{each-any, flatMap-cong}
+use Rattle.laws.specs.Kept.{flatMap-keep, flatMap-one}
+use Rattle.csr32.specs.Stored.{where-hit, where-miss, where-none}
 use Rattle.two_level_apply.specs.Scatter.{put, bump, scatter, scattered, restrictPuts, scaled, scaledPuts, Rows}
-use Rattle.two_level_apply.proofs.Scattering.{putsAt, where-hit, where-miss, where-none, scatter-law, rows-step}
+use Rattle.two_level_apply.proofs.Scattering.{putsAt, scatter-law, rows-step}
 
 -- the coarse column of a node's row
 pub column-at : (size : ℕ) (ids : List ℕ) (node k : ℕ) → k < size → coarseColumn size ids (node * size + k) ≡ getD ids node 0 * size + k
@@ -29,22 +32,6 @@ zeros-tab zero = refl
 zeros-tab (suc n) = ap (λ l. zeroᶠ ∷ l) (zeros-tab n)
 
 -- ---- PiecewiseConstant
-
--- the rows that pass give what they gave, the others nothing
-module _ {A B : Type 0} (p : A → Bool) (f g : A → List B) (hit : (x : A) → p x ≡ true → f x ≡ g x) (miss : (x : A) → p x ≡ false → f x ≡ []) where
-  flatMap-keep : (xs : List A) → flatMap f xs ≡ flatMap g (keep p xs)
-  unfolding flatMap keep
-  flatMap-keep [] = refl
-  flatMap-keep (x ∷ xs) = step (p x) refl (flatMap-keep xs)
-    where
-      step : (b : Bool) → p x ≡ b → flatMap f xs ≡ flatMap g (keep p xs) → f x ++ flatMap f xs ≡ flatMap g (keep p (x ∷ xs))
-      step true e ih = rw (e, keep) (rw (hit x e, ih))
-      step false e ih = rw (e, keep) (rw (miss x e, ih))
-
-flatMap-one : {A B : Type 0} (f : A → B) (xs : List A) → flatMap (λ x. f x ∷ []) xs ≡ map f xs
-unfolding flatMap
-flatMap-one f [] = refl
-flatMap-one f (x ∷ xs) = ap (λ l. f x ∷ l) (flatMap-one f xs)
 
 constant-parts : (column : ℕ → ℕ) (r : List Float) (j : ℕ) → flatMap (λ i. putsAt j (restrictPuts column r i)) (upTo (length r)) ≡ constantParts column r j
 unfolding constantParts
@@ -72,16 +59,11 @@ where-scaled p x (e ∷ es) = step (p (e .col)) refl (where-scaled p x es)
     step true k ih = where-hit p m (scaled x es) k ∙ rw (ih, where-hit p e es k)
     step false k ih = where-miss p m (scaled x es) k ∙ rw (ih, where-miss p e es k)
 
-flatMap-ext : {A B : Type 0} (f g : A → List B) (same : (x : A) → f x ≡ g x) (xs : List A) → flatMap f xs ≡ flatMap g xs
-unfolding flatMap
-flatMap-ext f g same [] = refl
-flatMap-ext f g same (x ∷ xs) = rw (same x, flatMap-ext f g same xs)
-
 smoothed-parts : (transfer : ℕ → List Entry) (r : List Float) (j : ℕ) → flatMap (λ i. putsAt j (scaledPuts transfer r i)) (upTo (length r)) ≡ smoothedParts transfer r j
 unfolding smoothedParts
 smoothed-parts transfer r j =
-    flatMap-ext (λ i. putsAt j (scaledPuts transfer r i)) (λ i. map (λ w. w *ᶠ getD r i nan) (valuesWhere (λ k. eqb k j) (transfer i)))
-    (λ i. where-scaled (λ k. eqb k j) (getD r i nan) (transfer i)) (upTo (length r))
+    flatMap-cong (λ i. putsAt j (scaledPuts transfer r i)) (λ i. map (λ w. w *ᶠ getD r i nan) (valuesWhere (λ k. eqb k j) (transfer i)))
+    (each-any (upTo (length r)) (λ i. where-scaled (λ k. eqb k j) (getD r i nan) (transfer i)))
 
 pub smoothed-law : (transfer : ℕ → List Entry) (r z l : List Float) (c : ℕ) → z ≡ replicate c zeroᶠ → l ≡ scattered (scaledPuts transfer r) (length r) z
     → l ≡ tab (λ j. total (smoothedParts transfer r j)) c

@@ -2,7 +2,7 @@
 use Prim.Native.Nat.{ℕ, zero, suc, _+_, _<_}
 use mathlib.Core.Path.{_≡_, refl, sym, _∙_}
 use mathlib.Core.Bool.{Bool, true, false}
-use mathlib.Core.List.{List, [], _∷_, _++_, flatMap, foldl, foldl-append, append-nil, append-assoc}
+use mathlib.Core.List.{List, [], _∷_, flatMap, foldl, foldl-append}
 use native.Mathlib.Omega.{arith}
 use native.Mathlib.Nat.{add-zero, add-suc}
 use native.Mathlib.Numerals.{add-one}
@@ -11,36 +11,13 @@ use lib.ListN.{length, getD, length-set}
 use lib.Seq.{getD-set-same, getD-set-other}
 use lib.Ieee.{Float, nan}
 use borrow.Author.Tests.{eqb-true, eqb-false}
-use Rattle.definitions.specs.Lists.{tab, upTo, keep}
+use Rattle.definitions.specs.Lists.{tab, upTo}
 use Rattle.definitions.specs.Numbers.{_+ᶠ_, zeroᶠ, total}
 use Rattle.definitions.specs.Matrix.{Entry, valuesWhere}
-use Rattle.laws.specs.Lists.{length-tab, getD-tab}
+use Rattle.laws.specs.Lists.{length-tab, getD-tab, tab-is}
+use Rattle.laws.specs.Growing.{upTo-snoc, flatMap-snoc, rows-none}
+use Rattle.csr32.specs.Stored.{where-hit, where-miss, where-none}
 use Rattle.two_level_apply.specs.Scatter.{put, bump, scatter, scattered, single}
-use Rattle.two_level_apply.proofs.Tables.{tab-is, upTo-snoc}
-
--- ---- sums by rows
-
-pub flatMap-snoc : {A B : Type 0} (f : A → List B) (xs : List A) (x : A) → flatMap f (xs ++ (x ∷ [])) ≡ flatMap f xs ++ f x
-unfolding flatMap
-flatMap-snoc f [] x = append-nil (f x)
-flatMap-snoc f (y ∷ ys) x = rw (flatMap-snoc f ys x) (sym (append-assoc (f y) (flatMap f ys) (f x)))
-
-module _ (p : ℕ → Bool) (e : Entry) (es : List Entry) where
-  pub where-hit : p (e .col) ≡ true → valuesWhere p (e ∷ es) ≡ e .value ∷ valuesWhere p es
-  unfolding valuesWhere keep
-  where-hit h = rw (h, keep)
-
-  pub where-miss : p (e .col) ≡ false → valuesWhere p (e ∷ es) ≡ valuesWhere p es
-  unfolding valuesWhere keep
-  where-miss h = rw (h, keep)
-
-pub where-none : (p : ℕ → Bool) → valuesWhere p [] ≡ []
-unfolding valuesWhere keep
-where-none p = refl
-
-rows-none : {B : Type 0} (f : ℕ → List B) → flatMap f (upTo zero) ≡ []
-unfolding flatMap upTo tab
-rows-none f = refl
 
 -- ---- the law of scattering
 

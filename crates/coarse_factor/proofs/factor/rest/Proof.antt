@@ -4,7 +4,8 @@ use lib.ListN.{length, getD}
 use lib.Ieee.{Float, nan}
 use Rattle.definitions.specs.Lists.{tab}
 use Rattle.definitions.specs.Numbers.{reduced, _*ᶠ_}
-use Rattle.coarse_factor.proofs.Cholesky.{reduced-none, reduced-more}
+use Rattle.laws.specs.Growing.{reduced-none}
+use Rattle.coarse_factor.proofs.Cholesky.{reduced-more}
 use native.Mathlib.Omega.{arith}
 use borrow.Author.Needs.{needs}
 use Rattle.coarse_factor.proofs.factor.rest.Statement.{statement}

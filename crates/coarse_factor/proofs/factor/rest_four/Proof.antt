@@ -1,8 +1,9 @@
 use lib.ListN.{length, getD}
 use lib.Ieee.{Float, nan}
 use Rattle.definitions.specs.Numbers.{_*ᶠ_}
+use Rattle.laws.specs.Growing.{reduced-none}
 use Rattle.coarse_factor.specs.Lanes.{restOf, RestFour}
-use Rattle.coarse_factor.proofs.Cholesky.{reduced-none, reduced-more}
+use Rattle.coarse_factor.proofs.Cholesky.{reduced-more}
 use Prim.Native.Nat.{ℕ, suc, _+_, _*_, _/_, _<_, _≤_, _-_}
 use mathlib.Core.Path.{_≡_, refl, ap, sym, _∙_}
 use native.Mathlib.Omega.{arith}

@@ -1,8 +1,8 @@
 use lib.ListN.{length, getD, drop}
 use lib.Ieee.{Float, nan}
 use Rattle.definitions.specs.Numbers.{_*ᶠ_}
+use Rattle.laws.specs.Growing.{summed-none}
 use Rattle.coarse_factor.specs.Lanes.{rowSum, RowFour}
-use Rattle.coarse_factor.proofs.Packed.{summed-none}
 use Rattle.coarse_factor.proofs.Sides.{row-more}
 use Prim.Native.Nat.{ℕ, suc, _+_, _*_, _/_, _<_, _≤_, _-_}
 use mathlib.Core.Path.{_≡_, refl, ap, sym, _∙_}

@@ -1,8 +1,8 @@
 use lib.ListN.{length, getD}
 use lib.Ieee.{Float, nan}
 use Rattle.definitions.specs.Numbers.{_*ᶠ_, _+ᶠ_}
+use Rattle.laws.specs.Growing.{summed-none, summed-more}
 use Rattle.coarse_factor.specs.Lanes.{rowSum}
-use Rattle.coarse_factor.proofs.Packed.{summed-none, summed-more}
 use Prim.Native.Nat.{ℕ, suc, _+_, _*_, _/_, _<_, _≤_, _-_}
 use mathlib.Core.Path.{_≡_, refl, ap, sym, _∙_}
 use native.Mathlib.Omega.{arith}
