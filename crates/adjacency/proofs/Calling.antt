@@ -1,7 +1,7 @@
 -- The call as a whole: its answer and the lists left, by the first check that fails or by the lists built.
 use mathlib.Core.Path.{_≡_, refl, sym, _∙_}
 use mathlib.Core.Bool.{Bool, true, false, _&&_}
-use mathlib.Core.List.{List}
+use mathlib.Core.List.{List, _++_}
 use Prim.Native.Nat.{ℕ, _+_, _*_, _/_, _%_, _≤_}
 use native.Mathlib.Omega.{arith}
 use native.Mathlib.Nat.{div-add-mod', div-le-self, div-lt-iff-lt-mul}
@@ -12,7 +12,7 @@ use lib.Ieee.{Float}
 use Rattle.definitions.specs.Lists.{padded}
 use Rattle.definitions.specs.Numbers.{zeroᶠ}
 use Rattle.definitions.specs.Matrix.{Matrix, csr, validOf}
-use Rattle.definitions.specs.Neighbours.{neighboursCall, flatNeighbours}
+use Rattle.definitions.specs.Neighbours.{flatNeighbours}
 use Rattle.definitions.specs.Block.{maxBlock}
 use Rattle.definitions.specs.Refusal.{Outcome, refused, done, Checked, require, _>>=_, keepsAll, numberOf, resultLeft, workLeft}
 use Rattle.definitions.specs.Answers.{answerOf}
@@ -24,8 +24,10 @@ use Rattle.definitions.specs.declared.TwoLevelAggregation.{TwoLevelAggregation}
 use Rattle.csr32.specs.Calls.{accepted-done, refused-is, Keeps, keeps-require, keeps-then, keeps-refused, goes-on, stops, result-kept, work-kept}
 use Rattle.csr32.specs.Rows.{Rows}
 use Rattle.csr32.specs.Valid.{accepted-rows, square-rows, valid-goes, valid-stops, valid-kept}
+use Rattle.laws.specs.Tests.{both-true}
 use Rattle.adjacency.specs.Fits.{four, enough, fitsOf}
 use Rattle.adjacency.specs.Formed.{Formed}
+use Rattle.adjacency.specs.Within.{neighboursWithin}
 use Rattle.adjacency.proofs.Fitting.{enough-are}
 
 -- ---- the checks over sizes, as one step of the call
@@ -50,10 +52,6 @@ fits-keeps : (p q r s : Bool) → Keeps (four p q r s)
 unfolding four keepsAll numberOf
 fits-keeps p q r s = keeps-then _ _ (keeps-require p _ refl) (λ _. keeps-then _ _ (keeps-require q _ refl) (λ _. keeps-then _ _ (keeps-require r _ refl) (λ _. keeps-require s _ refl)))
 
-both : (p q : Bool) → (p && q) ≡ true → (p ≡ true) × (q ≡ true)
-both true q e = (refl, e)
-both false q e = (cc, cc)
-
 -- the facts that the loops need
 formed-of : (rows size : ℕ) (ptr cols : List ℕ) (vals : List Float) → Rows (csr rows rows ptr cols vals) → 1 ≤ size → rows % size ≡ 0 → Formed (rows / size) size ptr cols vals
 formed-of rows size ptr cols vals w h m =
@@ -71,51 +69,51 @@ formed-of rows size ptr cols vals w h m =
       real = w .real;
     }
 
-module _ (g : TwoLevelAggregation) (rows cols : ℕ) (ptr idx : List ℕ) (vals : List Float) (size : ℕ) (lists ints : List ℕ) (floats : List Float) where
+module _ (g : TwoLevelAggregation) (rows cols : ℕ) (ptr idx : List ℕ) (vals : List Float) (size base : ℕ) (ints : List ℕ) (floats : List Float) where
   abbrev a : Matrix
   a = csr rows cols ptr idx vals
 
   abbrev call : Outcome (List ℕ)
-  call = neighboursCall g a size (length lists) (length ints) (length floats)
+  call = neighboursWithin g a size base (length ints) (length floats)
 
   abbrev fit : Checked
-  fit = fitsOf rows cols (length vals) size (length lists) (length ints) (length floats)
+  fit = fitsOf rows cols (length vals) size base (length ints) (length floats)
 
   -- what the call answers and leaves
-  abbrev pub Left : Answer → List ℕ → List ℕ → List Float → Type 0
-  Left r lists' ints' floats' = (r ≡ answerOf call) × ((lists' ≡ resultLeft 0 call lists) × ((ints' ≡ workLeft 0 call ints) × (floats' ≡ workLeft zeroᶠ call floats)))
+  abbrev pub Left : Answer → List ℕ → List Float → Type 0
+  Left r ints' floats' = (r ≡ answerOf call) × ((ints' ≡ resultLeft 0 call ints) × (floats' ≡ workLeft zeroᶠ call floats))
 
-  kept : (r : Refusal) → keepsAll r ≡ true → call ≡ refused r → Left (Refused r) lists ints floats
+  kept : (r : Refusal) → keepsAll r ≡ true → call ≡ refused r → Left (Refused r) ints floats
   unfolding answerOf
-  kept r k e = (rw e, (sym (result-kept 0 lists r k call e), (sym (work-kept 0 ints r k call e), sym (work-kept zeroᶠ floats r k call e))))
+  kept r k e = (rw e, (sym (result-kept 0 ints r k call e), sym (work-kept zeroᶠ floats r k call e)))
 
   module _ (x : Answer) (ex : x ≡ answerOf (validOf a)) where
-    pub not-valid : (r : Refusal) → x ≡ Refused r → Left (Refused r) lists ints floats
-    unfolding neighboursCall
+    pub not-valid : (r : Refusal) → x ≡ Refused r → Left (Refused r) ints floats
+    unfolding neighboursWithin
     not-valid r e = kept r (valid-kept a r (sym ex ∙ e)) (valid-stops a _ r (sym ex ∙ e))
 
     module _ (e : x ≡ Accepted) where
-      call-is : call ≡ (fit >>= λ _. done (flatNeighbours g a size (rows / size)))
-      unfolding neighboursCall fitsOf enough
-      call-is = valid-goes a _ (sym ex ∙ e) ∙ four-then (eqb cols rows) (leb 1 size && leb size maxBlock) (eqb (rows % size) 0) (enough (rows / size) (length vals) (length lists) (length ints) (length floats)) (flatNeighbours g a size (rows / size))
+      call-is : call ≡ (fit >>= λ _. done (replicate base 0 ++ flatNeighbours g a size (rows / size)))
+      unfolding neighboursWithin fitsOf enough
+      call-is = valid-goes a _ (sym ex ∙ e) ∙ four-then (eqb cols rows) (leb 1 size && leb size maxBlock) (eqb (rows % size) 0) (enough (rows / size) (length vals) base (length ints) (length floats)) (replicate base 0 ++ flatNeighbours g a size (rows / size))
 
       pub small : (rows ≤ 1048576) × (length vals ≤ 16777216)
       small = let w = accepted-rows a (sym ex ∙ e) in (w .fewRows, w .fewEntries)
 
       module _ (y : Answer) (ey : y ≡ answerOf fit) where
-        pub not-fitting : (r : Refusal) → y ≡ Refused r → Left (Refused r) lists ints floats
+        pub not-fitting : (r : Refusal) → y ≡ Refused r → Left (Refused r) ints floats
         unfolding fitsOf
         not-fitting r z =
             let f : fit ≡ refused r = refused-is fit r (sym ey ∙ z) in
-            kept r (keeps-refused fit r (fits-keeps (eqb cols rows) (leb 1 size && leb size maxBlock) (eqb (rows % size) 0) (enough (rows / size) (length vals) (length lists) (length ints) (length floats))) f) (call-is ∙ stops fit r _ f)
+            kept r (keeps-refused fit r (fits-keeps (eqb cols rows) (leb 1 size && leb size maxBlock) (eqb (rows % size) 0) (enough (rows / size) (length vals) base (length ints) (length floats))) f) (call-is ∙ stops fit r _ f)
 
         module _ (z : y ≡ Accepted) where
           passed : fit ≡ done tt
           passed = accepted-done fit (sym ey ∙ z)
 
-          tests : ((eqb cols rows ≡ true) × ((leb 1 size && leb size maxBlock) ≡ true)) × ((eqb (rows % size) 0 ≡ true) × (enough (rows / size) (length vals) (length lists) (length ints) (length floats) ≡ true))
+          tests : ((eqb cols rows ≡ true) × ((leb 1 size && leb size maxBlock) ≡ true)) × ((eqb (rows % size) 0 ≡ true) × (enough (rows / size) (length vals) base (length ints) (length floats) ≡ true))
           unfolding fitsOf
-          tests = four-passed (eqb cols rows) (leb 1 size && leb size maxBlock) (eqb (rows % size) 0) (enough (rows / size) (length vals) (length lists) (length ints) (length floats)) passed
+          tests = four-passed (eqb cols rows) (leb 1 size && leb size maxBlock) (eqb (rows % size) 0) (enough (rows / size) (length vals) base (length ints) (length floats)) passed
 
           square : cols ≡ rows
           square = eqb-true cols rows (tests .0 .0)
@@ -124,10 +122,10 @@ module _ (g : TwoLevelAggregation) (rows cols : ℕ) (ptr idx : List ℕ) (vals 
           divides = eqb-true (rows % size) 0 (tests .1 .0)
 
           pub size-low : 1 ≤ size
-          size-low = leb-true 1 size (both (leb 1 size) (leb size 8) (tests .0 .1) .0)
+          size-low = leb-true 1 size (both-true (leb 1 size) (leb size 8) (tests .0 .1) .0)
 
           pub size-high : size ≤ 8
-          size-high = leb-true size 8 (both (leb 1 size) (leb size 8) (tests .0 .1) .1)
+          size-high = leb-true size 8 (both-true (leb 1 size) (leb size 8) (tests .0 .1) .1)
 
           walks : Rows (csr rows rows ptr idx vals)
           walks = square-rows rows cols ptr idx vals square (accepted-rows a (sym ex ∙ e))
@@ -135,15 +133,15 @@ module _ (g : TwoLevelAggregation) (rows cols : ℕ) (ptr idx : List ℕ) (vals 
           pub formed : Formed (rows / size) size ptr idx vals
           formed = formed-of rows size ptr idx vals walks size-low divides
 
-          pub rooms : (rows / size + 1 + length idx ≤ length lists) × ((2 * (rows / size) ≤ length ints) × (3 * (rows / size) ≤ length floats))
-          rooms = let t = enough-are (rows / size) (length vals) (length lists) (length ints) (length floats) (tests .1 .1) in (omega (arith, t .0, walks .same), t .1)
+          pub rooms : (2 * (rows / size) ≤ base) × ((base + rows / size + 1 + length idx ≤ length ints) × (3 * (rows / size) ≤ length floats))
+          rooms = let t = enough-are (rows / size) (length vals) base (length ints) (length floats) (tests .1 .1) in (t .0, (omega (arith, t .1 .0, walks .same), t .1 .1))
 
-          pub built : (lists' ints' : List ℕ) (floats' : List Float)
-              → lists' ≡ padded 0 (length lists) (flatNeighbours g (csr (rows / size * size) (rows / size * size) ptr idx vals) size (rows / size)) → ints' ≡ replicate (length ints) 0 → floats' ≡ replicate (length floats) zeroᶠ
-              → Left Accepted lists' ints' floats'
+          pub built : (ints' : List ℕ) (floats' : List Float)
+              → ints' ≡ padded 0 (length ints) (replicate base 0 ++ flatNeighbours g (csr (rows / size * size) (rows / size * size) ptr idx vals) size (rows / size)) → floats' ≡ replicate (length floats) zeroᶠ
+              → Left Accepted ints' floats'
           unfolding answerOf resultLeft workLeft
-          built lists' ints' floats' p q r =
+          built ints' floats' p r =
               let n : rows / size * size ≡ rows = omega (arith, div-add-mod' rows size, divides) in
-              let c : call ≡ done (flatNeighbours g a size (rows / size)) = call-is ∙ goes-on fit tt _ passed in
+              let c : call ≡ done (replicate base 0 ++ flatNeighbours g a size (rows / size)) = call-is ∙ goes-on fit tt _ passed in
               let s : csr (rows / size * size) (rows / size * size) ptr idx vals ≡ a = rw (n, square) in
-              (rw c, (p ∙ rw (s, c), (q ∙ rw c, r ∙ rw c)))
+              (rw c, (p ∙ rw (s, c), r ∙ rw c))

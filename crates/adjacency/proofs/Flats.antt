@@ -1,36 +1,27 @@
 -- The result list: offsets and lists, then zeros.
 use mathlib.Core.Path.{_≡_, refl, ap, sym, _∙_}
 use mathlib.Core.Bool.{true, false}
-use mathlib.Core.List.{List, [], _∷_, flatMap, append-nil}
+use mathlib.Core.List.{List, [], _∷_, _++_, flatMap, append-assoc, append-nil}
 use Prim.Native.Nat.{ℕ, zero, suc, _+_, _-_, _≤_, _<_}
 use native.Mathlib.Omega.{arith}
 use borrow.Rule.Slice.PartMut.{putMid, postOf}
 use lib.ListN.{length, getD, take, drop, replicate, length-append, length-drop, length-replicate, replicate-append-replicate, take-append-drop, drop-of-length-le}
-use lib.Seq.{length-take-le, getD-take, ext-getD}
+use lib.Seq.{length-take-le, getD-take, ext-getD, take-add, take-at, drop-at}
 use Rattle.definitions.specs.Lists.{tab, padded, pointersFrom, joinedLists}
 use Rattle.definitions.specs.Matrix.{Matrix}
 use Rattle.definitions.specs.Neighbours.{listFor, neighbourLists, flatNeighbours}
 use Rattle.definitions.specs.declared.TwoLevelAggregation.the-variants.{Contiguous, Graph, StrongGraph}
+use Rattle.laws.specs.Lists.{length-tab, tab-cong}
 use Rattle.adjacency.specs.Flat.{flatOf}
 use Rattle.adjacency.specs.Lined.{Lined}
 use Rattle.adjacency.specs.Lists.{listOf}
 use Rattle.adjacency.proofs.Parts.{length-part}
-
-length-tab : {A : Type 0} (f : ℕ → A) (n : ℕ) → length (tab f n) ≡ n
-unfolding tab
-length-tab f zero = refl
-length-tab f (suc n) = ap suc (length-tab (λ i. f (suc i)) n)
 
 take-tab : {A : Type 0} (f : ℕ → A) (u n : ℕ) → u ≤ n → take u (tab f n) ≡ tab f u
 unfolding tab
 take-tab f zero n h = refl
 take-tab f (suc u) zero h = absurd (omega arith)
 take-tab f (suc u) (suc n) h = ap (λ l. f zero ∷ l) (take-tab (λ i. f (suc i)) u n (omega arith))
-
-tab-ext : {A : Type 0} (f g : ℕ → A) (n : ℕ) → ((i : ℕ) → f i ≡ g i) → tab f n ≡ tab g n
-unfolding tab
-tab-ext f g zero h = refl
-tab-ext f g (suc n) h = rw (h zero, tab-ext (λ i. f (suc i)) (λ i. g (suc i)) n (λ i. h (suc i)))
 
 -- ---- offsets
 
@@ -63,14 +54,29 @@ module _ {f : ℕ → List ℕ} {nodes at : ℕ} {lists : List ℕ} (n : Lined f
   unfolding flatOf
   lined-flat = sym (take-append-drop (nodes + 1) (take at lists)) ∙ rw (offsets-are, n .list)
 
-  -- the rest cleared
-  pub lined-padded : (lists' rest : List ℕ) → rest ≡ replicate (length (take (length lists - at) (drop at lists))) 0 → lists' ≡ putMid at (length lists - at) lists rest → lists' ≡ padded 0 (length lists) (flatOf f nodes)
+-- what stands behind the lists cleared, and what stands before them
+module _ {f : ℕ → List ℕ} {nodes at : ℕ} (base : ℕ) (work : List ℕ) (n : Lined f nodes nodes at (drop base work)) where
+  -- the end of the lists, in the whole
+  pub lined-within : base ≤ length work → base + at ≤ length work
+  lined-within h = omega (arith, n .fits, length-drop base work)
+
+  pub lined-padded : (rest front : List ℕ) → base ≤ length work → rest ≡ replicate (length (take (length work - (base + at)) (drop (base + at) work))) 0
+      → front ≡ replicate (length (take base (putMid (base + at) (length work - (base + at)) work rest))) 0
+      → front ++ drop base (putMid (base + at) (length work - (base + at)) work rest) ≡ padded 0 (length work) (replicate base 0 ++ flatOf f nodes)
   unfolding padded
-  lined-padded lists' rest e q =
-      let r : length (take (length lists - at) (drop at lists)) ≡ length lists - at = length-part at (length lists) lists (omega arith) in
-      let o : postOf at (length lists - at) lists ≡ [] = drop-of-length-le (drop at lists) {i = length lists - at} (omega (arith, length-drop at lists)) in
-      let z : length (flatOf f nodes) ≡ at = ap length (sym lined-flat) ∙ length-take-le at lists (n .fits) in
-      q ∙ rw (o, append-nil rest, e, r, z, lined-flat)
+  lined-padded rest front h e q =
+      let m = length work - (base + at) in
+      let g = lined-within h in
+      let r : length (take m (drop (base + at) work)) ≡ m = length-part (base + at) (length work) work (omega arith) in
+      let o : postOf (base + at) m work ≡ [] = drop-of-length-le (drop (base + at) work) {i = m} (omega (arith, length-drop (base + at) work)) in
+      let t : take (base + at) work ≡ take base work ++ flatOf f nodes = take-add base at work ∙ ap (λ l. take base work ++ l) (lined-flat n) in
+      let b : length (take base work) ≡ base = length-take-le base work h in
+      let w : putMid (base + at) m work rest ≡ take base work ++ (flatOf f nodes ++ replicate m 0) = rw (o, append-nil rest, e, r, t) (append-assoc (take base work) (flatOf f nodes) (replicate m 0)) in
+      let z : length (flatOf f nodes) ≡ at = ap length (sym (lined-flat n)) ∙ length-take-le at (drop base work) (n .fits) in
+      let k : length (replicate base 0 ++ flatOf f nodes) ≡ base + at = length-append (replicate base 0) (flatOf f nodes) ∙ rw (z, length-replicate {A = ℕ} base 0) in
+      let u : take base (putMid (base + at) m work rest) ≡ take base work = ap (take base) w ∙ take-at (take base work) (flatOf f nodes ++ replicate m 0) base b in
+      let v : drop base (putMid (base + at) m work rest) ≡ flatOf f nodes ++ replicate m 0 = ap (drop base) w ∙ drop-at (take base work) (flatOf f nodes ++ replicate m 0) base b in
+      rw (q, u, b, v, k) (sym (append-assoc (replicate base 0) (flatOf f nodes) (replicate m 0)))
 
 -- ---- by policy
 
@@ -98,11 +104,11 @@ module _ (a : Matrix) (size nodes : ℕ) where
 
   pub flat-graph : flatOf (listOf false a size nodes) nodes ≡ flatNeighbours Graph a size nodes
   unfolding flatOf flatNeighbours neighbourLists
-  flat-graph = rw (tab-ext (listOf false a size nodes) (listFor Graph a size nodes) nodes same-graph)
+  flat-graph = rw (tab-cong (listOf false a size nodes) (listFor Graph a size nodes) nodes (λ v _. same-graph v))
 
   pub flat-strong : flatOf (listOf true a size nodes) nodes ≡ flatNeighbours StrongGraph a size nodes
   unfolding flatOf flatNeighbours neighbourLists
-  flat-strong = rw (tab-ext (listOf true a size nodes) (listFor StrongGraph a size nodes) nodes same-strong)
+  flat-strong = rw (tab-cong (listOf true a size nodes) (listFor StrongGraph a size nodes) nodes (λ v _. same-strong v))
 
   -- Contiguous lists nothing: every offset is zero
   nothing : (v : ℕ) → listFor Contiguous a size nodes v ≡ []
@@ -113,10 +119,11 @@ module _ (a : Matrix) (size nodes : ℕ) where
   unfolding flatNeighbours neighbourLists
   flat-none =
       let e : nodes + 1 ≡ suc nodes = omega arith in
-      rw (tab-ext (listFor Contiguous a size nodes) none nodes nothing, no-offsets nodes, no-lists nodes, e) (append-nil (replicate (suc nodes) 0))
+      rw (tab-cong (listFor Contiguous a size nodes) none nodes (λ v _. nothing v), no-offsets nodes, no-lists nodes, e) (append-nil (replicate (suc nodes) 0))
 
-  pub none-padded : (len : ℕ) → nodes + 1 ≤ len → replicate len 0 ≡ padded 0 len (flatNeighbours Contiguous a size nodes)
+  pub none-padded : (base len : ℕ) → base + nodes + 1 ≤ len → replicate len 0 ≡ padded 0 len (replicate base 0 ++ flatNeighbours Contiguous a size nodes)
   unfolding padded
-  none-padded len h =
-      let e : nodes + 1 + (len - (nodes + 1)) ≡ len = omega arith in
-      rw (flat-none, length-replicate {A = ℕ} (nodes + 1) 0, replicate-append-replicate {A = ℕ} (nodes + 1) (len - (nodes + 1)) 0, e)
+  none-padded base len h =
+      let n = base + (nodes + 1) in
+      let e : n + (len - n) ≡ len = omega arith in
+      rw (flat-none, replicate-append-replicate {A = ℕ} base (nodes + 1) 0, length-replicate {A = ℕ} n 0, replicate-append-replicate {A = ℕ} n (len - n) 0, e)

@@ -8,13 +8,14 @@ use borrow.Author.Tests.{eq-eqb, ne-eqb, eqb-true, eqb-false}
 use lib.Dec.{eqb, ltb}
 use lib.ListN.{length, getD, set, take, length-take, length-drop, length-set, length-map}
 use lib.Seq.{getD-take, getD-drop, slice, length-slice, getD-set-same, getD-set-other}
-use Rattle.definitions.specs.Lists.{upTo, keep, any}
+use Rattle.definitions.specs.Lists.{upTo, any}
+use Rattle.laws.specs.Kept.{keep-length}
 use Rattle.adjacency.specs.Order.{insertBy, sortBy, Weak, Below}
 use Rattle.adjacency.specs.Collect.{gather, marked, nodesIn, Inside, others}
 use Rattle.adjacency.proofs.Halves.{All}
 use Rattle.adjacency.proofs.Laws.{by-case, Each, insert-here, insert-on}
 use Rattle.adjacency.proofs.Collecting.{gather-skips, gather-takes, gather-different, Different}
-use Rattle.adjacency.proofs.Ascending.{asc, upTo-asc, fresh, keep-yes, keep-no, keep-same, gather-sorted}
+use Rattle.adjacency.proofs.Ascending.{asc, upTo-asc, fresh, keep-same, gather-sorted}
 use Rattle.adjacency.proofs.Sorting.{sort-sort, Apart, Distinct}
 
 -- ---- sorting
@@ -66,13 +67,6 @@ length-asc : (m n : ℕ) → length (asc m n) ≡ n
 unfolding asc
 length-asc m zero = refl
 length-asc m (suc n) = ap suc (length-asc (suc m) n)
-
-length-keep : {A : Type 0} (p : A → Bool) (l : List A) → length (keep p l) ≤ length l
-unfolding keep
-length-keep p [] = omega arith
-length-keep p (x ∷ l) = by-case (p x)
-    (λ e. omega (arith, ap length (keep-yes p x l e), length-keep p l))
-    (λ e. omega (arith, ap length (keep-no p x l e), length-keep p l))
 
 below-set : (m : ℕ) (l : List ℕ) (i x : ℕ) → x < m → Below m l → Below m (set l i x)
 below-set m l i x h b k q = by-case (eqb k i)
@@ -141,7 +135,7 @@ module _ (n v : ℕ) (mark ws : List ℕ) (l : length mark ≡ n) (h : v < n) (b
 
   pub found-short : length list ≤ n
   unfolding others
-  found-short = omega (arith, found-count, length-keep (λ w. not (eqb w v) && any (λ x. eqb x w) ws) (upTo n), ap length (upTo-asc n), length-asc zero n)
+  found-short = omega (arith, found-count, keep-length (λ w. not (eqb w v) && any (λ x. eqb x w) ws) (upTo n), ap length (upTo-asc n), length-asc zero n)
 
   pub found-all : All n list
   found-all = all-gather (v + 1) n (set mark v (v + 1)) ws a

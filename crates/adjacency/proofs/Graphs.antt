@@ -7,21 +7,17 @@ use native.Mathlib.Omega.{arith}
 use native.Mathlib.Numerals.{add-one}
 use borrow.Author.Tests.{eqb-true, eqb-false}
 use lib.Dec.{eqb}
-use lib.ListN.{length, getD, set, take, length-append, length-set, List·getD-append}
-use lib.Seq.{length-take-le, getD-take, getD-set-same, getD-set-other, take-set-lt, drop-set-lt, drop-append-le, slice-empty}
+use lib.ListN.{length, getD, set, take, drop, length-append, length-drop, length-set, List·getD-append}
+use lib.Seq.{length-take-le, getD-take, getD-set-same, getD-set-other, take-set-lt, drop-set-lt, drop-set-add, drop-append-le, slice-empty}
 use lib.Ieee.{Float}
 use Rattle.definitions.specs.Lists.{tab, joinedLists}
 use Rattle.definitions.specs.Matrix.{Matrix, csr}
+use Rattle.laws.specs.Growing.{tab-snoc}
 use Rattle.adjacency.specs.Formed.{Formed}
 use Rattle.adjacency.specs.Lined.{joinedUpTo, Lined}
 use Rattle.adjacency.specs.Lists.{listOf, Between, Listed}
 use Rattle.adjacency.proofs.Laws.{by-case}
 use Rattle.adjacency.proofs.Rows.{next-row, row-fits}
-
-tab-more : {A : Type 0} (f : ℕ → A) (n : ℕ) → tab f (suc n) ≡ tab f n ++ (f n ∷ [])
-unfolding tab
-tab-more f zero = refl
-tab-more f (suc n) = ap (λ l. f zero ∷ l) (tab-more (λ i. f (suc i)) n)
 
 joined-append : (xs ys : List (List ℕ)) → joinedLists (xs ++ ys) ≡ joinedLists xs ++ joinedLists ys
 unfolding flatMap
@@ -34,7 +30,7 @@ joined-one x = append-nil x
 
 module _ (f : ℕ → List ℕ) where
   pub joined-more : (v : ℕ) → joinedUpTo f (v + 1) ≡ joinedUpTo f v ++ f v
-  joined-more v = rw (add-one v, tab-more f v, joined-append (tab f v) (f v ∷ []), joined-one (f v))
+  joined-more v = rw (add-one v, tab-snoc f v, joined-append (tab f v) (f v ∷ []), joined-one (f v))
 
   pub joined-none : joinedUpTo f 0 ≡ []
   unfolding tab flatMap
@@ -72,33 +68,45 @@ module _ (f : ℕ → List ℕ) where
       }
 
 -- the loop over the nodes
-pub record Graphed (strong : Bool) (a : Matrix) (size nodes : ℕ) (lists₀ ints₀ : List ℕ) (floats₀ : List Float) (lists ints : List ℕ) (floats : List Float) (at v : ℕ) : Type 0 where
+pub record Graphed (strong : Bool) (a : Matrix) (size nodes base : ℕ) (work₀ : List ℕ) (floats₀ : List Float) (work : List ℕ) (floats : List Float) (at v : ℕ) : Type 0 where
   pub most : v ≤ nodes
-  pub longs : length lists ≡ length lists₀
-  pub rooms : length ints ≡ length ints₀
+  pub longs : length work ≡ length work₀
   pub spaces : length floats ≡ length floats₀
-  pub ready : Between strong a size nodes v ints floats
-  pub lined : Lined (listOf strong a size nodes) nodes v at lists
+  pub ready : Between strong a size nodes v work floats
+  pub lined : Lined (listOf strong a size nodes) nodes v at (drop base work)
   pub used : at ≤ nodes + 1 + getD (a .rowPtr) (v * size) 0
+
+-- a store behind the stamps leaves them as they are
+between-put : {strong : Bool} {a : Matrix} {size nodes v : ℕ} {work : List ℕ} {floats : List Float} (i x : ℕ) (work' : List ℕ) → Between strong a size nodes v work floats → nodes ≤ i → work' ≡ set work i x → Between strong a size nodes v work' floats
+between-put {nodes = nodes} {v = v} {work = work} i x work' b h e = record {
+  stamps = λ k p. let z : k ≡ i → ⊥ = λ q. absurd (omega arith) in rw (e, getD-set-other work i k x 0 z) (b .stamps k p);
+  room = rw e (simp length-set (b .room));
+  space = b .space;
+  plains = b .plains;
+  norms = b .norms;
+  even = b .even;
+}
 
 module _ {nodes size : ℕ} {ptr cols : List ℕ} {vals : List Float} (w : Formed nodes size ptr cols vals) where
   abbrev a : Matrix
   a = csr (nodes * size) (nodes * size) ptr cols vals
 
-  module _ {strong : Bool} where
-    pub graphed-first : (lists₀ lists ints : List ℕ) (floats : List Float) → lists ≡ set lists₀ 0 0 → nodes + 1 ≤ length lists₀ → Between strong a size nodes 0 ints floats
-        → Graphed strong a size nodes lists ints floats lists ints floats (nodes + 1) 0
-    graphed-first lists₀ lists ints floats e h b = record {
-      most = omega arith;
-      longs = refl;
-      rooms = refl;
-      spaces = refl;
-      ready = b;
-      lined = lined-first (listOf strong a size nodes) nodes lists₀ lists e h;
-      used = omega arith;
-    }
+  module _ {strong : Bool} (base : ℕ) (b : 2 * nodes ≤ base) where
+    pub graphed-first : (work₀ work : List ℕ) (floats : List Float) → work ≡ set work₀ base 0 → base + nodes + 1 ≤ length work₀ → Between strong a size nodes 0 work₀ floats
+        → Graphed strong a size nodes base work floats work floats (nodes + 1) 0
+    graphed-first work₀ work floats e h r =
+        let z : base ≡ base + 0 = omega arith in
+        let f : drop base work ≡ set (drop base work₀) 0 0 = ap (drop base) e ∙ ap (λ n. drop base (set work₀ n 0)) z ∙ drop-set-add base work₀ 0 0 in
+        record {
+          most = omega arith;
+          longs = refl;
+          spaces = refl;
+          ready = between-put base 0 work r (omega arith) e;
+          lined = lined-first (listOf strong a size nodes) nodes (drop base work₀) (drop base work) f (omega (arith, length-drop base work₀));
+          used = omega arith;
+        }
 
-    module _ {lists₀ ints₀ : List ℕ} {floats₀ : List Float} {lists ints : List ℕ} {floats : List Float} {at v : ℕ} (g : Graphed strong a size nodes lists₀ ints₀ floats₀ lists ints floats at v) (h : v < nodes) where
+    module _ {work₀ : List ℕ} {floats₀ : List Float} {work : List ℕ} {floats : List Float} {at v : ℕ} (g : Graphed strong a size nodes base work₀ floats₀ work floats at v) (h : v < nodes) where
       rises : getD ptr (v * size) 0 ≤ getD ptr ((v + 1) * size) 0
       rises = climbs (v * size) size ((v + 1) * size) (next-row v size) (rw (next-row v size) (row-fits v nodes size h))
         where
@@ -111,27 +119,29 @@ module _ {nodes size : ℕ} {ptr cols : List ℕ} {vals : List Float} (w : Forme
       last = w .within ((v + 1) * size) (rw (next-row v size) (row-fits v nodes size h))
 
       -- there is room for the next list
-      pub room-left : nodes + 1 + length cols ≤ length lists₀ → at + (getD ptr ((v + 1) * size) 0 - getD ptr (v * size) 0) ≤ length lists
+      pub room-left : base + nodes + 1 + length cols ≤ length work₀ → base + at + (getD ptr ((v + 1) * size) 0 - getD ptr (v * size) 0) ≤ length work
       room-left q = omega (arith, rises, last, g .used, g .longs)
 
-      module _ (r : ℕ) (lists₁ ints₁ : List ℕ) (floats₁ : List Float) (q : nodes + 1 + length cols ≤ length lists₀) (l : Listed strong a size nodes v at r lists lists₁ ints₁ floats₁) where
+      module _ (r : ℕ) (work₁ : List ℕ) (floats₁ : List Float) (q : base + nodes + 1 + length cols ≤ length work₀) (l : Listed strong a size nodes v at r (drop base work) (drop base work₁) work₁ floats₁) where
         pub end-low : nodes + 1 ≤ r
         end-low = omega (arith, l .count, g .lined .ends)
 
         pub end-high : r ≤ nodes + 1 + length cols
         end-high = omega (arith, rises, last, g .used, l .most)
 
-        pub graphed-more : (i x : ℕ) (lists₂ : List ℕ) → length lists₁ ≡ length lists → length ints₁ ≡ length ints → length floats₁ ≡ length floats
-            → i ≡ v + 1 → x ≡ r - (nodes + 1) → lists₂ ≡ set lists₁ i x → Graphed strong a size nodes lists₀ ints₀ floats₀ lists₂ ints₁ floats₁ r (v + 1)
-        graphed-more i x lists₂ s t u j y e = record {
-          most = omega arith;
-          longs = rw e (simp length-set (s ∙ g .longs));
-          rooms = t ∙ g .rooms;
-          spaces = u ∙ g .spaces;
-          ready = l .next;
-          lined = lined-more (listOf strong a size nodes) i r x lists₁ lists₂ (g .lined) h s (omega (arith, end-high, g .longs)) (l .list) (l .count) j y e;
-          used = omega (arith, rises, g .used, l .most);
-        }
+        pub graphed-more : (i x : ℕ) (work₂ : List ℕ) → length work₁ ≡ length work → length floats₁ ≡ length floats
+            → i ≡ v + 1 → x ≡ r - (nodes + 1) → work₂ ≡ set work₁ (base + i) x → Graphed strong a size nodes base work₀ floats₀ work₂ floats₁ r (v + 1)
+        graphed-more i x work₂ s u j y e =
+            let n₀ = length-drop base work in
+            let n₁ = length-drop base work₁ in
+            record {
+              most = omega arith;
+              longs = rw e (simp length-set (s ∙ g .longs));
+              spaces = u ∙ g .spaces;
+              ready = between-put (base + i) x work₂ (l .next) (omega arith) e;
+              lined = lined-more (listOf strong a size nodes) i r x (drop base work₁) (drop base work₂) (g .lined) h (omega (arith, n₀, n₁, s)) (omega (arith, end-high, n₀, g .longs)) (l .list) (l .count) j y (ap (drop base) e ∙ drop-set-add base work₁ i x);
+              used = omega (arith, rises, g .used, l .most);
+            }
 
-    pub graphed-done : {lists₀ ints₀ : List ℕ} {floats₀ : List Float} {lists ints : List ℕ} {floats : List Float} {at v : ℕ} → Graphed strong a size nodes lists₀ ints₀ floats₀ lists ints floats at v → nodes ≤ v → Lined (listOf strong a size nodes) nodes nodes at lists
-    graphed-done {lists₀} {ints₀} {floats₀} {lists} {ints} {floats} {at} {v} g h = let e : v ≡ nodes = omega (arith, g .most) in rw e at (g .lined)
+    pub graphed-done : {work₀ : List ℕ} {floats₀ : List Float} {work : List ℕ} {floats : List Float} {at v : ℕ} → Graphed strong a size nodes base work₀ floats₀ work floats at v → nodes ≤ v → Lined (listOf strong a size nodes) nodes nodes at (drop base work)
+    graphed-done {work₀} {floats₀} {work} {floats} {at} {v} g h = let e : v ≡ nodes = omega (arith, g .most) in rw e at (g .lined)

@@ -10,6 +10,7 @@ pub mod Sorting
 pub mod Measures
 pub mod Rows
 pub mod Parts
+pub mod Merges
 pub mod Measuring
 pub mod Found
 pub mod Nodes

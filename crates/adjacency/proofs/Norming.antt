@@ -1,13 +1,13 @@
 -- The diagonal norms, one node after the other.
-use mathlib.Core.Path.{_≡_, refl, ap, _∙_}
+use mathlib.Core.Path.{_≡_, refl, ap, sym, _∙_}
 use mathlib.Core.Bool.{Bool, true, false}
 use mathlib.Core.List.{List, [], _∷_}
 use Prim.Native.Nat.{ℕ, _+_, _-_, _*_, _/_, _≤_, _<_}
 use native.Mathlib.Omega.{arith}
 use borrow.Author.Tests.{eqb-true, eqb-false}
 use lib.Dec.{eqb}
-use lib.ListN.{length, getD, set, replicate, length-set, length-replicate}
-use lib.Seq.{getD-set-same, getD-set-other}
+use lib.ListN.{length, getD, set, take, replicate, length-set, length-replicate}
+use lib.Seq.{getD-take, getD-set-same, getD-set-other}
 use lib.Ieee.{Float, nan}
 use Rattle.definitions.specs.Lists.{keep}
 use Rattle.definitions.specs.Numbers.{rootᶠ, total, zeroᶠ}
@@ -73,22 +73,25 @@ module _ {nodes size : ℕ} {ptr cols : List ℕ} {vals : List Float} (w : Forme
 
 -- ---- the work lists before the first node
 
-pub ready-even : (strong : Bool) (a : Matrix) (size nodes m n : ℕ) (ints : List ℕ) (floats : List Float) → ints ≡ replicate m 0 → floats ≡ replicate n zeroᶠ → 2 * nodes ≤ m → 3 * nodes ≤ n → strong ≡ false
+no-stamp : (nodes m : ℕ) (ints : List ℕ) → take nodes ints ≡ replicate m 0 → (u : ℕ) → u < nodes → getD ints u 0 < 0 + 1
+no-stamp nodes m ints e u i = let z : getD ints u 0 ≡ 0 = sym (getD-take nodes ints u 0 i) ∙ ap (λ l. getD l u 0) e ∙ blank-at {A = ℕ} m u 0 in omega arith
+
+pub ready-even : (strong : Bool) (a : Matrix) (size nodes m n : ℕ) (ints : List ℕ) (floats : List Float) → take nodes ints ≡ replicate m 0 → floats ≡ replicate n zeroᶠ → 2 * nodes ≤ length ints → 3 * nodes ≤ n → strong ≡ false
     → Between strong a size nodes 0 ints floats
 ready-even strong a size nodes m n ints floats e f h k s = record {
-  stamps = λ u i. rw (e, blank-at {A = ℕ} m u 0) (omega arith);
-  room = omega (arith, ap length e, length-replicate {A = ℕ} m 0);
+  stamps = λ u i. no-stamp nodes m ints e u i;
+  room = h;
   space = omega (arith, ap length f, length-replicate {A = Float} n zeroᶠ);
   plains = λ i. rw (f, blank-at n i zeroᶠ) plain-zero;
   norms = λ t. absurd (let z : _≡_ {A = ℕ} 0 1 = cc in omega arith);
   even = λ t u. rw (f, blank-at n (2 * nodes + u) zeroᶠ);
 }
 
-pub ready-norms : (strong : Bool) (a : Matrix) (size nodes m : ℕ) (ints : List ℕ) (floats : List Float) → ints ≡ replicate m 0 → 2 * nodes ≤ m → 3 * nodes ≤ length floats → Normed a size nodes nodes floats → strong ≡ true
+pub ready-norms : (strong : Bool) (a : Matrix) (size nodes m : ℕ) (ints : List ℕ) (floats : List Float) → take nodes ints ≡ replicate m 0 → 2 * nodes ≤ length ints → 3 * nodes ≤ length floats → Normed a size nodes nodes floats → strong ≡ true
     → Between strong a size nodes 0 ints floats
 ready-norms strong a size nodes m ints floats e h k n s = record {
-  stamps = λ u i. rw (e, blank-at {A = ℕ} m u 0) (omega arith);
-  room = omega (arith, ap length e, length-replicate {A = ℕ} m 0);
+  stamps = λ u i. no-stamp nodes m ints e u i;
+  room = h;
   space = k;
   plains = n .plains;
   norms = λ t. n .norms;

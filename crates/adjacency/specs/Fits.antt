@@ -13,10 +13,10 @@ four square small multiple long = do
   _ ← require multiple NotMultiple
   require long ListTooShort
 
--- enough room for `nodes` offsets and one, the neighbours, and the work lists
+-- enough room before `base` for stamps and sorting, from there on for `nodes` offsets and one and the neighbours, and among the floats
 unfoldable pub enough : ℕ → ℕ → ℕ → ℕ → ℕ → Bool
-enough nodes entries room ints floats = leb (nodes + 1 + entries) room && leb (2 * nodes) ints && leb (3 * nodes) floats
+enough nodes entries base ints floats = leb (2 * nodes) base && leb (base + nodes + 1 + entries) ints && leb (3 * nodes) floats
 
 unfoldable pub fitsOf : ℕ → ℕ → ℕ → ℕ → ℕ → ℕ → ℕ → Checked
-fitsOf rows cols entries size room ints floats =
-    four (eqb cols rows) (leb 1 size && leb size maxBlock) (eqb (rows % size) 0) (enough (rows / size) entries room ints floats)
+fitsOf rows cols entries size base ints floats =
+    four (eqb cols rows) (leb 1 size && leb size maxBlock) (eqb (rows % size) 0) (enough (rows / size) entries base ints floats)

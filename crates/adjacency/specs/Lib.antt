@@ -8,3 +8,4 @@ pub mod Norms
 pub mod Lined
 pub mod Flat
 pub mod Fits
+pub mod Within

@@ -1,8 +1,9 @@
-// The work lists made ready, the lists built, and the rest of the result list cleared.
+// The work lists made ready, the lists built, and the rest cleared.
 use super::graph::all_lists;
 use super::norms::norms;
 use definitions::TwoLevelAggregation;
 ghost use mathlib.Core.Path.{_≡_};
+ghost use mathlib.Core.List.{_++_};
 ghost use Prim.Native.Nat.{_+_, _*_, _≤_};
 ghost use lib.ListN.{length, replicate};
 ghost use Rattle.definitions.specs.Numbers.{zeroᶠ};
@@ -13,7 +14,7 @@ ghost use Rattle.adjacency.specs.Flat.{flatOf};
 ghost use Rattle.adjacency.specs.Formed.{Formed};
 ghost use Rattle.adjacency.specs.Lists.{Between, listOf};
 
-// Clears the work lists, and makes the diagonal norms if strengths are wanted.
+// Clears the stamps and the floats, and makes the diagonal norms if strengths are wanted.
 fn ready(
     strong: bool,
     row_ptr: &[u32],
@@ -21,21 +22,21 @@ fn ready(
     values: &[f64],
     size: u32,
     nodes: usize,
-    ints: &mut [u32],
+    work: &mut [u32],
     floats: &mut [f64],
 )
     requires { ⌜ Formed nodes size (now «row_ptr») (now «col_idx») (now values) ⌝ }
-    requires { ⌜ (2 * nodes ≤ length (now ints)) × (3 * nodes ≤ length (now floats)) ⌝ }
-    ensures { λ _. ⌜ Between strong (csr (nodes * size) (nodes * size) (now («row_ptr» .entry)) (now («col_idx» .entry)) (now (values .entry))) size nodes 0 (now (ints .exit)) (now (floats .exit)) ⌝ }
+    requires { ⌜ (2 * nodes ≤ length (now work)) × (3 * nodes ≤ length (now floats)) ⌝ }
+    ensures { λ _. ⌜ Between strong (csr (nodes * size) (nodes * size) (now («row_ptr» .entry)) (now («col_idx» .entry)) (now (values .entry))) size nodes 0 (now (work .exit)) (now (floats .exit)) ⌝ }
 {
-    numbers::zero_ints(ints);
+    numbers::zero_ints(&mut work[..nodes]);
     numbers::zero_floats(floats);
     if strong {
         norms(row_ptr, col_idx, values, size, nodes, floats);
     }
 }
 
-// Builds the lists, by strength if that is wanted.
+// Builds the lists, by strength if that is wanted, and clears what stands before and behind them.
 fn linked(
     strong: bool,
     row_ptr: &[u32],
@@ -43,15 +44,15 @@ fn linked(
     values: &[f64],
     size: u32,
     nodes: usize,
-    lists: &mut [u32],
-    ints: &mut [u32],
+    base: usize,
+    work: &mut [u32],
     floats: &mut [f64],
 )
     requires { ⌜ Formed nodes size (now «row_ptr») (now «col_idx») (now values) ⌝ }
-    requires { ⌜ (nodes + 1 + length (now «col_idx») ≤ length (now lists)) × ((2 * nodes ≤ length (now ints)) × (3 * nodes ≤ length (now floats))) ⌝ }
-    ensures { λ _. ⌜ now (lists .exit) ≡ padded 0 (length (now (lists .entry))) (flatOf (listOf strong (csr (nodes * size) (nodes * size) (now («row_ptr» .entry)) (now («col_idx» .entry)) (now (values .entry))) size nodes) nodes) ⌝ }
+    requires { ⌜ (2 * nodes ≤ base) × ((base + nodes + 1 + length (now «col_idx») ≤ length (now work)) × (3 * nodes ≤ length (now floats))) ⌝ }
+    ensures { λ _. ⌜ now (work .exit) ≡ padded 0 (length (now (work .entry))) (replicate base 0 ++ flatOf (listOf strong (csr (nodes * size) (nodes * size) (now («row_ptr» .entry)) (now («col_idx» .entry)) (now (values .entry))) size nodes) nodes) ⌝ }
 {
-    ready(strong, row_ptr, col_idx, values, size, nodes, ints, floats);
+    ready(strong, row_ptr, col_idx, values, size, nodes, work, floats);
     let end = all_lists(
         strong,
         row_ptr,
@@ -59,14 +60,15 @@ fn linked(
         values,
         size,
         nodes,
-        lists,
-        ints,
+        base,
+        work,
         floats,
     );
-    numbers::zero_ints(&mut lists[end..]);
+    numbers::zero_ints(&mut work[base + end..]);
+    numbers::zero_ints(&mut work[..base]);
 }
 
-// Fills the result list by policy.
+// Fills the work list by policy.
 fn fill(
     aggregation: TwoLevelAggregation,
     row_ptr: &[u32],
@@ -74,16 +76,16 @@ fn fill(
     values: &[f64],
     size: u32,
     nodes: usize,
-    lists: &mut [u32],
-    ints: &mut [u32],
+    base: usize,
+    work: &mut [u32],
     floats: &mut [f64],
 )
     requires { ⌜ Formed nodes size (now «row_ptr») (now «col_idx») (now values) ⌝ }
-    requires { ⌜ (nodes + 1 + length (now «col_idx») ≤ length (now lists)) × ((2 * nodes ≤ length (now ints)) × (3 * nodes ≤ length (now floats))) ⌝ }
-    ensures { λ _. ⌜ now (lists .exit) ≡ padded 0 (length (now (lists .entry))) (flatNeighbours aggregation (csr (nodes * size) (nodes * size) (now («row_ptr» .entry)) (now («col_idx» .entry)) (now (values .entry))) size nodes) ⌝ }
+    requires { ⌜ (2 * nodes ≤ base) × ((base + nodes + 1 + length (now «col_idx») ≤ length (now work)) × (3 * nodes ≤ length (now floats))) ⌝ }
+    ensures { λ _. ⌜ now (work .exit) ≡ padded 0 (length (now (work .entry))) (replicate base 0 ++ flatNeighbours aggregation (csr (nodes * size) (nodes * size) (now («row_ptr» .entry)) (now («col_idx» .entry)) (now (values .entry))) size nodes) ⌝ }
 {
     match aggregation {
-        TwoLevelAggregation::Contiguous => numbers::zero_ints(lists),
+        TwoLevelAggregation::Contiguous => numbers::zero_ints(work),
         TwoLevelAggregation::Graph => linked(
             false,
             row_ptr,
@@ -91,8 +93,8 @@ fn fill(
             values,
             size,
             nodes,
-            lists,
-            ints,
+            base,
+            work,
             floats,
         ),
         TwoLevelAggregation::StrongGraph => linked(
@@ -102,14 +104,14 @@ fn fill(
             values,
             size,
             nodes,
-            lists,
-            ints,
+            base,
+            work,
             floats,
         ),
     }
 }
 
-// Fills the result list, and clears the work lists, of which the front is used.
+// Fills the work list, and clears the floats, of which the front is used.
 pub fn build(
     aggregation: TwoLevelAggregation,
     row_ptr: &[u32],
@@ -117,19 +119,17 @@ pub fn build(
     values: &[f64],
     block_size: usize,
     nodes: usize,
-    lists: &mut [u32],
+    base: usize,
     work_ints: &mut [u32],
     work_floats: &mut [f64],
 )
     requires { ⌜ Formed nodes «block_size» (now «row_ptr») (now «col_idx») (now values) ⌝ }
-    requires { ⌜ (nodes + 1 + length (now «col_idx») ≤ length (now lists)) × ((2 * nodes ≤ length (now «work_ints»)) × (3 * nodes ≤ length (now «work_floats»))) ⌝ }
+    requires { ⌜ (2 * nodes ≤ base) × ((base + nodes + 1 + length (now «col_idx») ≤ length (now «work_ints»)) × (3 * nodes ≤ length (now «work_floats»))) ⌝ }
     requires { ⌜ «block_size» ≤ 8 ⌝ }
-    ensures { λ _. ⌜ now (lists .exit) ≡ padded 0 (length (now (lists .entry))) (flatNeighbours aggregation (csr (nodes * «block_size») (nodes * «block_size») (now («row_ptr» .entry)) (now («col_idx» .entry)) (now (values .entry))) «block_size» nodes) ⌝ }
-    ensures { λ _. ⌜ now («work_ints» .exit) ≡ replicate (length (now («work_ints» .entry))) 0 ⌝ }
+    ensures { λ _. ⌜ now («work_ints» .exit) ≡ padded 0 (length (now («work_ints» .entry))) (replicate base 0 ++ flatNeighbours aggregation (csr (nodes * «block_size») (nodes * «block_size») (now («row_ptr» .entry)) (now («col_idx» .entry)) (now (values .entry))) «block_size» nodes) ⌝ }
     ensures { λ _. ⌜ now («work_floats» .exit) ≡ replicate (length (now («work_floats» .entry))) zeroᶠ ⌝ }
 {
     let size = block_size as u32;
-    let ints = 2 * nodes;
     let floats = 3 * nodes;
     fill(
         aggregation,
@@ -138,10 +138,9 @@ pub fn build(
         values,
         size,
         nodes,
-        lists,
-        &mut work_ints[..ints],
+        base,
+        work_ints,
         &mut work_floats[..floats],
     );
-    numbers::zero_ints(work_ints);
     numbers::zero_floats(work_floats);
 }

@@ -6,14 +6,16 @@ ghost use Prim.Native.Nat.{_≤_};
 ghost use Rattle.definitions.specs.Answers.{answerOf};
 ghost use Rattle.adjacency.specs.Fits.{fitsOf, enough};
 
-// Room for the offsets and the neighbours, and for the work lists.
-fn long_enough(nodes: usize, entries: usize, room: usize, ints: usize, floats: usize) -> bool
+// Room for stamps and sorting before base, for the offsets and the neighbours behind it, and for the floats.
+fn long_enough(nodes: usize, entries: usize, base: usize, ints: usize, floats: usize) -> bool
     requires { ⌜ (nodes ≤ 1048576) × (entries ≤ 16777216) ⌝ }
-    ensures { λ r. ⌜ r ≡ enough nodes entries room ints floats ⌝ }
+    ensures { λ r. ⌜ r ≡ enough nodes entries base ints floats ⌝ }
 {
-    if nodes + 1 + entries <= room {
-        if 2 * nodes <= ints {
-            return 3 * nodes <= floats;
+    if 2 * nodes <= base {
+        if base <= ints {
+            if nodes + 1 + entries <= ints - base {
+                return 3 * nodes <= floats;
+            }
         }
     }
     false
@@ -25,12 +27,12 @@ pub fn fits(
     cols: usize,
     entries: usize,
     block_size: usize,
-    room: usize,
+    base: usize,
     ints: usize,
     floats: usize,
 ) -> Answer
     requires { ⌜ (rows ≤ 1048576) × (entries ≤ 16777216) ⌝ }
-    ensures { λ r. ⌜ r ≡ answerOf (fitsOf rows cols entries «block_size» room ints floats) ⌝ }
+    ensures { λ r. ⌜ r ≡ answerOf (fitsOf rows cols entries «block_size» base ints floats) ⌝ }
 {
     if cols != rows {
         return Answer::Refused(Refusal::NotSquare);
@@ -44,7 +46,7 @@ pub fn fits(
     if rows % block_size != 0 {
         return Answer::Refused(Refusal::NotMultiple);
     }
-    if long_enough(rows / block_size, entries, room, ints, floats) {
+    if long_enough(rows / block_size, entries, base, ints, floats) {
         return Answer::Accepted;
     }
     Answer::Refused(Refusal::ListTooShort)

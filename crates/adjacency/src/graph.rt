@@ -3,20 +3,20 @@ use super::node::node_list;
 use super::words::wide;
 ghost use mathlib.Core.Path.{_≡_};
 ghost use Prim.Native.Nat.{_+_, _*_, _^_, _<_, _≤_};
-ghost use lib.ListN.{length, set};
+ghost use lib.ListN.{length, set, drop};
 ghost use Rattle.definitions.specs.Matrix.{csr};
 ghost use Rattle.adjacency.specs.Formed.{Formed};
 ghost use Rattle.adjacency.specs.Lined.{Lined};
 ghost use Rattle.adjacency.specs.Lists.{Between, listOf};
 
-fn put(lists: &mut [u32], i: usize, x: usize)
-    requires { ⌜ (i < length (now lists)) × (x < 2 ^ 32) ⌝ }
-    ensures { λ _. ⌜ now (lists .exit) ≡ set (now (lists .entry)) i x ⌝ }
+fn put(work: &mut [u32], i: usize, x: usize)
+    requires { ⌜ (i < length (now work)) × (x < 2 ^ 32) ⌝ }
+    ensures { λ _. ⌜ now (work .exit) ≡ set (now (work .entry)) i x ⌝ }
 {
-    lists[i] = x as u32;
+    work[i] = x as u32;
 }
 
-// Puts the lists at lists[nodes + 1..] and their offsets before them, and returns their end.
+// Puts the offsets at work[base..], the lists behind them, and returns their end, counted from base.
 pub fn all_lists(
     strong: bool,
     row_ptr: &[u32],
@@ -24,18 +24,18 @@ pub fn all_lists(
     values: &[f64],
     size: u32,
     nodes: usize,
-    lists: &mut [u32],
-    ints: &mut [u32],
+    base: usize,
+    work: &mut [u32],
     floats: &mut [f64],
 ) -> usize
     requires { ⌜ Formed nodes size (now «row_ptr») (now «col_idx») (now values) ⌝ }
-    requires { ⌜ Between strong (csr (nodes * size) (nodes * size) (now «row_ptr») (now «col_idx») (now values)) size nodes 0 (now ints) (now floats) ⌝ }
-    requires { ⌜ nodes + 1 + length (now «col_idx») ≤ length (now lists) ⌝ }
-    ensures { λ r. ⌜ Lined (listOf strong (csr (nodes * size) (nodes * size) (now («row_ptr» .entry)) (now («col_idx» .entry)) (now (values .entry))) size nodes) nodes nodes r (now (lists .exit)) ⌝ }
+    requires { ⌜ Between strong (csr (nodes * size) (nodes * size) (now «row_ptr») (now «col_idx») (now values)) size nodes 0 (now work) (now floats) ⌝ }
+    requires { ⌜ (2 * nodes ≤ base) × (base + nodes + 1 + length (now «col_idx») ≤ length (now work)) ⌝ }
+    ensures { λ r. ⌜ Lined (listOf strong (csr (nodes * size) (nodes * size) (now («row_ptr» .entry)) (now («col_idx» .entry)) (now (values .entry))) size nodes) nodes nodes r (drop base (now (work .exit))) ⌝ }
 {
-    let base = nodes + 1;
-    put(lists, 0, 0);
-    let mut at = base;
+    let first = nodes + 1;
+    put(work, base, 0);
+    let mut at = first;
     let mut v: u32 = 0;
     while wide(v) < nodes {
         at = node_list(
@@ -46,13 +46,13 @@ pub fn all_lists(
             size,
             v,
             nodes,
-            lists,
-            ints,
+            base,
+            work,
             floats,
             at,
         );
         v += 1;
-        put(lists, wide(v), at - base);
+        put(work, base + wide(v), at - first);
     }
     at
 }

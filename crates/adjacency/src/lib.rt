@@ -18,11 +18,11 @@ ghost use mathlib.Core.Path.{_≡_};
 ghost use lib.ListN.{length};
 ghost use Rattle.definitions.specs.Answers.{answerOf};
 ghost use Rattle.definitions.specs.Matrix.{csr};
-ghost use Rattle.definitions.specs.Neighbours.{neighboursCall};
 ghost use Rattle.definitions.specs.Numbers.{zeroᶠ};
 ghost use Rattle.definitions.specs.Refusal.{resultLeft, workLeft};
+ghost use Rattle.adjacency.specs.Within.{neighboursWithin};
 
-// The offsets of the lists, nodes + 1 many, and then the lists end to end.
+// Puts the offsets of the lists, nodes + 1 many, at work_ints[base..], and behind them the lists end to end.
 pub fn neighbours(
     rows: usize,
     cols: usize,
@@ -31,14 +31,13 @@ pub fn neighbours(
     values: &[f64],
     block_size: usize,
     aggregation: TwoLevelAggregation,
-    lists: &mut [u32],
+    base: usize,
     work_ints: &mut [u32],
     work_floats: &mut [f64],
 ) -> Answer
-    ensures { λ r. ⌜ r ≡ answerOf (neighboursCall aggregation (csr rows cols (now («row_ptr» .entry)) (now («col_idx» .entry)) (now (values .entry))) «block_size» (length (now (lists .entry))) (length (now («work_ints» .entry))) (length (now («work_floats» .entry)))) ⌝ }
-    ensures { λ _. ⌜ now (lists .exit) ≡ resultLeft 0 (neighboursCall aggregation (csr rows cols (now («row_ptr» .entry)) (now («col_idx» .entry)) (now (values .entry))) «block_size» (length (now (lists .entry))) (length (now («work_ints» .entry))) (length (now («work_floats» .entry)))) (now (lists .entry)) ⌝ }
-    ensures { λ _. ⌜ now («work_ints» .exit) ≡ workLeft 0 (neighboursCall aggregation (csr rows cols (now («row_ptr» .entry)) (now («col_idx» .entry)) (now (values .entry))) «block_size» (length (now (lists .entry))) (length (now («work_ints» .entry))) (length (now («work_floats» .entry)))) (now («work_ints» .entry)) ⌝ }
-    ensures { λ _. ⌜ now («work_floats» .exit) ≡ workLeft zeroᶠ (neighboursCall aggregation (csr rows cols (now («row_ptr» .entry)) (now («col_idx» .entry)) (now (values .entry))) «block_size» (length (now (lists .entry))) (length (now («work_ints» .entry))) (length (now («work_floats» .entry)))) (now («work_floats» .entry)) ⌝ }
+    ensures { λ r. ⌜ r ≡ answerOf (neighboursWithin aggregation (csr rows cols (now («row_ptr» .entry)) (now («col_idx» .entry)) (now (values .entry))) «block_size» base (length (now («work_ints» .entry))) (length (now («work_floats» .entry)))) ⌝ }
+    ensures { λ _. ⌜ now («work_ints» .exit) ≡ resultLeft 0 (neighboursWithin aggregation (csr rows cols (now («row_ptr» .entry)) (now («col_idx» .entry)) (now (values .entry))) «block_size» base (length (now («work_ints» .entry))) (length (now («work_floats» .entry)))) (now («work_ints» .entry)) ⌝ }
+    ensures { λ _. ⌜ now («work_floats» .exit) ≡ workLeft zeroᶠ (neighboursWithin aggregation (csr rows cols (now («row_ptr» .entry)) (now («col_idx» .entry)) (now (values .entry))) «block_size» base (length (now («work_ints» .entry))) (length (now («work_floats» .entry)))) (now («work_floats» .entry)) ⌝ }
 {
     let valid = csr32::validate(rows, cols, row_ptr, col_idx, values);
     match valid {
@@ -49,7 +48,7 @@ pub fn neighbours(
                 cols,
                 values.len(),
                 block_size,
-                lists.len(),
+                base,
                 work_ints.len(),
                 work_floats.len(),
             );
@@ -63,7 +62,7 @@ pub fn neighbours(
                         values,
                         block_size,
                         rows / block_size,
-                        lists,
+                        base,
                         work_ints,
                         work_floats,
                     );

@@ -1,4 +1,4 @@
-// One node's list. Stamps stand in ints[..nodes], room for sorting after them; strengths in floats[2 * nodes..].
+// One node's list. Stamps stand in work[..nodes], room for sorting after them, lists from work[base] on; strengths in floats[2 * nodes..].
 use super::links::collect;
 use super::order::sort;
 use super::strengths::strengths;
@@ -24,7 +24,7 @@ pub fn start(row_ptr: &[u32], v: u32, size: u32) -> usize
     wide(row_ptr[i])
 }
 
-// Puts the nodes other than v that col_idx[from..to] names at lists[at..], each once, and returns their end.
+// Puts the nodes other than v that col_idx[from..to] names at work[base + at..], each once, and returns their end.
 fn find(
     col_idx: &[u32],
     from: usize,
@@ -32,45 +32,38 @@ fn find(
     size: u32,
     v: u32,
     nodes: usize,
-    ints: &mut [u32],
-    lists: &mut [u32],
+    base: usize,
+    work: &mut [u32],
     at: usize,
 ) -> usize
-    requires { ⌜ (from ≤ to) × ((to ≤ length (now «col_idx»)) × ((0 < size) × (at + (to - from) ≤ length (now lists)))) ⌝ }
-    requires { ⌜ (v < nodes) × ((nodes < 2 ^ 31) × (nodes ≤ length (now ints))) ⌝ }
+    requires { ⌜ (from ≤ to) × ((to ≤ length (now «col_idx»)) × ((0 < size) × (base + at + (to - from) ≤ length (now work)))) ⌝ }
+    requires { ⌜ (v < nodes) × ((nodes < 2 ^ 31) × (nodes ≤ base)) ⌝ }
     requires { ⌜ Inside nodes size (now «col_idx») ⌝ }
-    ensures { λ r. ⌜ r ≡ at + length (found nodes size v from to (now («col_idx» .entry)) (now (ints .entry))) ⌝ }
-    ensures { λ r. ⌜ take r (now (lists .exit)) ≡ take at (now (lists .entry)) ++ found nodes size v from to (now («col_idx» .entry)) (now (ints .entry)) ⌝ }
-    ensures { λ _. ⌜ take nodes (now (ints .exit)) ≡ marked (v + 1) (set (take nodes (now (ints .entry))) v (v + 1)) (nodesIn size from to (now («col_idx» .entry))) ⌝ }
+    ensures { λ r. ⌜ r ≡ at + length (found nodes size v from to (now («col_idx» .entry)) (now (work .entry))) ⌝ }
+    ensures { λ r. ⌜ take r (drop base (now (work .exit))) ≡ take at (drop base (now (work .entry))) ++ found nodes size v from to (now («col_idx» .entry)) (now (work .entry)) ⌝ }
+    ensures { λ _. ⌜ take nodes (now (work .exit)) ≡ marked (v + 1) (set (take nodes (now (work .entry))) v (v + 1)) (nodesIn size from to (now («col_idx» .entry))) ⌝ }
 {
     let i = wide(v);
     let stamp = v + 1;
-    ints[i] = stamp;
-    collect(
-        col_idx,
-        from,
-        to,
-        size,
-        stamp,
-        &mut ints[..nodes],
-        lists,
-        at,
-    )
+    work[i] = stamp;
+    collect(col_idx, from, to, size, stamp, nodes, base, work, at)
 }
 
-// Sorts lists[at..end] by strength.
-fn arrange(floats: &[f64], nodes: usize, lists: &mut [u32], ints: &mut [u32], at: usize, end: usize)
-    requires { ⌜ (at ≤ end) × ((end ≤ length (now lists)) × ((end - at ≤ nodes) × ((2 * nodes ≤ length (now ints)) × (3 * nodes ≤ length (now floats))))) ⌝ }
+// Sorts the nodes at work[base + at..base + end] by strength.
+fn arrange(floats: &[f64], nodes: usize, base: usize, work: &mut [u32], at: usize, end: usize)
+    requires { ⌜ (at ≤ end) × ((base + end ≤ length (now work)) × ((end - at ≤ nodes) × ((2 * nodes ≤ base) × (3 * nodes ≤ length (now floats))))) ⌝ }
     requires { ⌜ AllPlain (now floats) ⌝ }
-    requires { ⌜ Below nodes (part at end (now lists)) ⌝ }
-    ensures { λ _. ⌜ take end (now (lists .exit)) ≡ take at (now (lists .entry)) ++ sortBy (before (drop (2 * nodes) (now (floats .entry)))) (part at end (now (lists .entry))) ⌝ }
-    ensures { λ _. ⌜ take nodes (now (ints .exit)) ≡ take nodes (now (ints .entry)) ⌝ }
+    requires { ⌜ Below nodes (part at end (drop base (now work))) ⌝ }
+    ensures { λ _. ⌜ take end (drop base (now (work .exit))) ≡ take at (drop base (now (work .entry))) ++ sortBy (before (drop (2 * nodes) (now (floats .entry)))) (part at end (drop base (now (work .entry)))) ⌝ }
+    ensures { λ _. ⌜ take nodes (now (work .exit)) ≡ take nodes (now (work .entry)) ⌝ }
 {
-    let from = 2 * nodes;
-    sort(&floats[from..], &mut lists[at..end], &mut ints[nodes..]);
+    let strong = 2 * nodes;
+    let from = base + at - nodes;
+    let to = base + end;
+    sort(&floats[strong..], &mut work[nodes..to], nodes, from);
 }
 
-// Puts node v's list at lists[at..], by strength if that is wanted, and returns its end.
+// Puts node v's list at work[base + at..], by strength if that is wanted, and returns its end.
 pub fn node_list(
     strong: bool,
     row_ptr: &[u32],
@@ -79,19 +72,19 @@ pub fn node_list(
     size: u32,
     v: u32,
     nodes: usize,
-    lists: &mut [u32],
-    ints: &mut [u32],
+    base: usize,
+    work: &mut [u32],
     floats: &mut [f64],
     at: usize,
 ) -> usize
     requires { ⌜ Formed nodes size (now «row_ptr») (now «col_idx») (now values) ⌝ }
-    requires { ⌜ Between strong (csr (nodes * size) (nodes * size) (now «row_ptr») (now «col_idx») (now values)) size nodes v (now ints) (now floats) ⌝ }
-    requires { ⌜ (v < nodes) × (at + (getD (now «row_ptr») ((v + 1) * size) 0 - getD (now «row_ptr») (v * size) 0) ≤ length (now lists)) ⌝ }
-    ensures { λ r. ⌜ Listed strong (csr (nodes * size) (nodes * size) (now («row_ptr» .entry)) (now («col_idx» .entry)) (now (values .entry))) size nodes v at r (now (lists .entry)) (now (lists .exit)) (now (ints .exit)) (now (floats .exit)) ⌝ }
+    requires { ⌜ Between strong (csr (nodes * size) (nodes * size) (now «row_ptr») (now «col_idx») (now values)) size nodes v (now work) (now floats) ⌝ }
+    requires { ⌜ (v < nodes) × ((2 * nodes ≤ base) × (base + at + (getD (now «row_ptr») ((v + 1) * size) 0 - getD (now «row_ptr») (v * size) 0) ≤ length (now work))) ⌝ }
+    ensures { λ r. ⌜ Listed strong (csr (nodes * size) (nodes * size) (now («row_ptr» .entry)) (now («col_idx» .entry)) (now (values .entry))) size nodes v at r (drop base (now (work .entry))) (drop base (now (work .exit))) (now (work .exit)) (now (floats .exit)) ⌝ }
 {
     let from = start(row_ptr, v, size);
     let to = start(row_ptr, v + 1, size);
-    let end = find(col_idx, from, to, size, v, nodes, ints, lists, at);
+    let end = find(col_idx, from, to, size, v, nodes, base, work, at);
     strengths(
         strong,
         col_idx,
@@ -101,9 +94,9 @@ pub fn node_list(
         size,
         v,
         nodes,
-        &lists[at..end],
+        &work[base + at..base + end],
         floats,
     );
-    arrange(&floats[..], nodes, lists, ints, at, end);
+    arrange(&floats[..], nodes, base, work, at, end);
     end
 }

@@ -16,9 +16,9 @@ enum-told c = search needs
 
 fits-requires : tie.Need-fits-requires
 fits-requires c κs =
-    let b = c .before .before .before .before .before .before .before .before .before .args in
+    let b = c .before .before .before .before .before .before .before .before .args in
     let v = c .before .before .validate in
-    small (b .aggregation) (b .rows) (b .cols) (b .row-ptr .now) (b .col-idx .now) (b .values .now) (b .block-size) (b .lists .now) (b .work-ints .now) (b .work-floats .now) (v .result) (v .ensures) (c .enum-told .given .1)
+    small (b .aggregation) (b .rows) (b .cols) (b .row-ptr .now) (b .col-idx .now) (b .values .now) (b .block-size) (b .base) (b .work-ints .now) (b .work-floats .now) (v .result) (v .ensures) (c .enum-told .given .1)
 
 enum-known-fit : tie.Need-enum-known-fit
 enum-known-fit c = search needs
@@ -28,37 +28,37 @@ enum-told-2 c = search needs
 
 div-build : tie.Need-div-build
 div-build c =
-    let b = c .before .before .before .before .before .before .before .before .before .before .before .before .args in
+    let b = c .before .before .before .before .before .before .before .before .before .before .before .args in
     let v = c .before .before .before .before .before .validate in
     let f = c .before .before .fits2 in
-    omega (arith, size-low (b .aggregation) (b .rows) (b .cols) (b .row-ptr .now) (b .col-idx .now) (b .values .now) (b .block-size) (b .lists .now) (b .work-ints .now) (b .work-floats .now) (v .result) (v .ensures) (c .before .before .before .enum-told .given .1) (f .result) (f .ensures) (c .enum-told2 .given .1))
+    omega (arith, size-low (b .aggregation) (b .rows) (b .cols) (b .row-ptr .now) (b .col-idx .now) (b .values .now) (b .block-size) (b .base) (b .work-ints .now) (b .work-floats .now) (v .result) (v .ensures) (c .before .before .before .enum-told .given .1) (f .result) (f .ensures) (c .enum-told2 .given .1))
 
 build-requires : tie.Need-build-requires
 build-requires c κs =
-    let b = c .before .before .before .before .before .before .before .before .before .before .before .before .before .before .before .args in
-    let v = c .before .before .before .before .before .before .before .before .validate in
-    let f = c .before .before .before .before .before .fits2 in
-    let e = c .before .before .before .before .before .before .enum-told .given .1 in
-    let z = c .before .before .before .enum-told2 .given .1 in (
-      formed (b .aggregation) (b .rows) (b .cols) (b .row-ptr .now) (b .col-idx .now) (b .values .now) (b .block-size) (b .lists .now) (b .work-ints .now) (b .work-floats .now) (v .result) (v .ensures) e (f .result) (f .ensures) z,
+    let b = c .before .before .before .before .before .before .before .before .before .before .before .before .before .args in
+    let v = c .before .before .before .before .before .before .before .validate in
+    let f = c .before .before .before .before .fits2 in
+    let e = c .before .before .before .before .before .enum-told .given .1 in
+    let z = c .before .before .enum-told2 .given .1 in (
+      formed (b .aggregation) (b .rows) (b .cols) (b .row-ptr .now) (b .col-idx .now) (b .values .now) (b .block-size) (b .base) (b .work-ints .now) (b .work-floats .now) (v .result) (v .ensures) e (f .result) (f .ensures) z,
       (
-        rooms (b .aggregation) (b .rows) (b .cols) (b .row-ptr .now) (b .col-idx .now) (b .values .now) (b .block-size) (b .lists .now) (b .work-ints .now) (b .work-floats .now) (v .result) (v .ensures) e (f .result) (f .ensures) z,
-        size-high (b .aggregation) (b .rows) (b .cols) (b .row-ptr .now) (b .col-idx .now) (b .values .now) (b .block-size) (b .lists .now) (b .work-ints .now) (b .work-floats .now) (v .result) (v .ensures) e (f .result) (f .ensures) z,
+        rooms (b .aggregation) (b .rows) (b .cols) (b .row-ptr .now) (b .col-idx .now) (b .values .now) (b .block-size) (b .base) (b .work-ints .now) (b .work-floats .now) (v .result) (v .ensures) e (f .result) (f .ensures) z,
+        size-high (b .aggregation) (b .rows) (b .cols) (b .row-ptr .now) (b .col-idx .now) (b .values .now) (b .block-size) (b .base) (b .work-ints .now) (b .work-floats .now) (v .result) (v .ensures) e (f .result) (f .ensures) z,
       ),
     )
 
 returns : tie.Need-returns
 returns c =
-    let b = c .before .before .before .before .before .before .before .before .before .before .args in
+    let b = c .before .before .before .before .before .before .before .before .before .args in
     let v = c .before .before .before .validate in
-    not-valid (b .aggregation) (b .rows) (b .cols) (b .row-ptr .now) (b .col-idx .now) (b .values .now) (b .block-size) (b .lists .now) (b .work-ints .now) (b .work-floats .now) (v .result) (v .ensures) _ (c .before .valid .given .1)
+    not-valid (b .aggregation) (b .rows) (b .cols) (b .row-ptr .now) (b .col-idx .now) (b .values .now) (b .block-size) (b .base) (b .work-ints .now) (b .work-floats .now) (v .result) (v .ensures) _ (c .before .valid .given .1)
 
 returns-2 : tie.Need-returns-2
 returns-2 c =
-    let b = c .before .before .before .before .before .before .before .before .before .before .before .before .before .args in
+    let b = c .before .before .before .before .before .before .before .before .before .before .before .before .args in
     let v = c .before .before .before .before .before .before .validate in
     let f = c .before .before .before .fits2 in
-    not-fitting (b .aggregation) (b .rows) (b .cols) (b .row-ptr .now) (b .col-idx .now) (b .values .now) (b .block-size) (b .lists .now) (b .work-ints .now) (b .work-floats .now) (v .result) (v .ensures) (c .before .before .before .before .enum-told .given .1) (f .result) (f .ensures) _ (c .before .fit .given .1)
+    not-fitting (b .aggregation) (b .rows) (b .cols) (b .row-ptr .now) (b .col-idx .now) (b .values .now) (b .block-size) (b .base) (b .work-ints .now) (b .work-floats .now) (v .result) (v .ensures) (c .before .before .before .before .enum-told .given .1) (f .result) (f .ensures) _ (c .before .fit .given .1)
 
 same-length : tie.Need-same-length
 same-length c = search needs
@@ -66,17 +66,13 @@ same-length c = search needs
 same-length-2 : tie.Need-same-length-2
 same-length-2 c = search needs
 
-same-length-3 : tie.Need-same-length-3
-same-length-3 c = search needs
-
 returns-3 : tie.Need-returns-3
 returns-3 c =
-    let b = c .before .before .before .before .before .before .before .before .before .before .before .before .before .before .before .before .before .before .before .before .before .before .args in
-    let v = c .before .before .before .before .before .before .before .before .before .before .before .before .before .before .before .validate in
-    let f = c .before .before .before .before .before .before .before .before .before .before .before .before .fits2 in
-    let k = c .before .before .before .before .before .before .build in
-    built (b .aggregation) (b .rows) (b .cols) (b .row-ptr .now) (b .col-idx .now) (b .values .now) (b .block-size) (b .lists .now) (b .work-ints .now) (b .work-floats .now) (v .result) (v .ensures) (c .before .before .before .before .before .before .before .before .before .before .before .before .before .enum-told .given .1) (f .result) (f .ensures) (c .before .before .before .before .before .before .before .before .before .before .enum-told2 .given .1)
-    (k .last .1 .1 .1 .1 .1 .1 .0) (k .last .1 .1 .1 .1 .1 .1 .1 .0) (k .last .1 .1 .1 .1 .1 .1 .1 .1 .0) (k .ensures .0) (k .ensures .1 .0) (k .ensures .1 .1)
+    let b = c .before .before .before .before .before .before .before .before .before .before .before .before .before .before .before .before .before .before .args in
+    let v = c .before .before .before .before .before .before .before .before .before .before .before .before .validate in
+    let f = c .before .before .before .before .before .before .before .before .before .fits2 in
+    let k = c .before .before .before .before .build in
+    built (b .aggregation) (b .rows) (b .cols) (b .row-ptr .now) (b .col-idx .now) (b .values .now) (b .block-size) (b .base) (b .work-ints .now) (b .work-floats .now) (v .result) (v .ensures) (c .before .before .before .before .before .before .before .before .before .before .enum-told .given .1) (f .result) (f .ensures) (c .before .before .before .before .before .before .before .enum-told2 .given .1) (k .last .1 .1 .1 .1 .1 .1 .1 .0) (k .last .1 .1 .1 .1 .1 .1 .1 .1 .0) (k .ensures .0) (k .ensures .1)
 
 pub neighbours-spec : {M : Type 1} → statement M
 neighbours-spec =
@@ -94,5 +90,4 @@ neighbours-spec =
     returns-2
     same-length
     same-length-2
-    same-length-3
     returns-3)

@@ -1,5 +1,5 @@
--- The front of each work list is lent, and all of it is cleared.
-use Prim.Native.Nat.{_-_, _*_}
+-- The front of the floats is lent, and all of them are cleared.
+use Prim.Native.Nat.{_*_}
 use mathlib.Core.Path.{ap, sym, _∙_}
 use native.Mathlib.Omega.{arith}
 use lib.ListN.{replicate}
@@ -12,9 +12,6 @@ use Rattle.adjacency.proofs.build.build.Tie as tie
 cast-size : tie.Need-cast-size
 cast-size c = search needs
 
-mul-ints : tie.Need-mul-ints
-mul-ints c = search needs
-
 mul-floats : tie.Need-mul-floats
 mul-floats c = search needs
 
@@ -23,26 +20,14 @@ slice-relend-prefix-fill c = search needs
 
 slice-aggregate-fill : tie.Need-slice-aggregate-fill
 slice-aggregate-fill c =
-    let b = c .before .before .before .before .before .before .before .before in
-    sym (length-take-le (2 * b .args .nodes) (b .args .work-ints .now) (omega (arith, b .pre .1 .0 .1 .0)))
-
-slice-relend-prefix-fill-2 : tie.Need-slice-relend-prefix-fill-2
-slice-relend-prefix-fill-2 c = search needs
-
-slice-aggregate-fill-2 : tie.Need-slice-aggregate-fill-2
-slice-aggregate-fill-2 c =
-    let b = c .before .before .before .before .before .before .before .before .before in
+    let b = c .before .before .before .before .before .before .before in
     sym (length-take-le (3 * b .args .nodes) (b .args .work-floats .now) (omega (arith, b .pre .1 .0 .1 .1)))
 
 fill-requires : tie.Need-fill-requires
 fill-requires c κs =
-    let b = c .before .before .before .before .before .before .before .before .before in
-    let i = length-take-le (2 * b .args .nodes) (b .args .work-ints .now) (omega (arith, b .pre .1 .0 .1 .0)) in
+    let b = c .before .before .before .before .before .before .before in
     let f = length-take-le (3 * b .args .nodes) (b .args .work-floats .now) (omega (arith, b .pre .1 .0 .1 .1)) in
-    (b .pre .0, (b .pre .1 .0 .0, (omega (arith, i), omega (arith, f))))
-
-zero-ints-requires : tie.Need-zero-ints-requires
-zero-ints-requires c κs = search needs
+    (b .pre .0, (b .pre .1 .0 .0, (b .pre .1 .0 .1 .0, omega (arith, f))))
 
 zero-floats-requires : tie.Need-zero-floats-requires
 zero-floats-requires c κs = search needs
@@ -53,35 +38,22 @@ same-length c = search needs
 same-length-2 : tie.Need-same-length-2
 same-length-2 c = search needs
 
-same-length-3 : tie.Need-same-length-3
-same-length-3 c = search needs
-
 returns : tie.Need-returns
 returns c =
-    let b = c .before .before .before .before .before .before .before .before .before .before .before .before .before .before .before .before .before .before .before .before .before .before .before .before in
-    let g = c .before .before .before .before .before .before .before .before .before .before .before .before .before .before .fill in (
-      g .ensures,
-      (
-        c .before .before .before .before .before .before .zero-ints .ensures ∙ ap (λ n. replicate n 0) (length-front (b .args .work-ints .now) (g .last .1 .1 .1 .1 .1 .1 .1 .0) (2 * b .args .nodes) (g .kept .1 .1 .1 .1 .1 .1 .1 .0)),
-        c .before .before .zero-floats .ensures ∙ ap (λ n. replicate n zeroᶠ) (length-front (b .args .work-floats .now) (g .last .1 .1 .1 .1 .1 .1 .1 .1 .0) (3 * b .args .nodes) (g .kept .1 .1 .1 .1 .1 .1 .1 .1 .0)),
-      ),
-    )
+    let b = c .before .before .before .before .before .before .before .before .before .before .before .before .before .before .before .before in
+    let g = c .before .before .before .before .before .before .before .before .fill in
+    (g .ensures, c .before .before .zero-floats .ensures ∙ ap (λ n. replicate n zeroᶠ) (length-front (b .args .work-floats .now) (g .last .1 .1 .1 .1 .1 .1 .1 .1 .0) (3 * b .args .nodes) (g .kept .1 .1 .1 .1 .1 .1 .1 .1 .0)))
 
 pub build-spec : {M : Type 1} → statement M
 build-spec =
     tie.close
     (tie.spec
     cast-size
-    mul-ints
     mul-floats
     slice-relend-prefix-fill
     slice-aggregate-fill
-    slice-relend-prefix-fill-2
-    slice-aggregate-fill-2
     fill-requires
-    zero-ints-requires
     zero-floats-requires
     same-length
     same-length-2
-    same-length-3
     returns)

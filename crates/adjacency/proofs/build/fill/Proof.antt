@@ -1,5 +1,5 @@
 -- By cases on the policy; Contiguous lists nothing, so that every offset is zero.
-use Prim.Native.Nat.{_-_, _*_}
+use Prim.Native.Nat.{_*_}
 use mathlib.Core.Path.{_∙_}
 use native.Mathlib.Omega.{arith}
 use lib.ListN.{length}
@@ -32,9 +32,9 @@ same-length c = search needs
 
 returns : tie.Need-returns
 returns c =
-    let b = c .before .before .before .before .before .before .before .before .before .before .before .before in
+    let b = c .before .before .before .before .before .before .before .before .before .before .before in
     let a = csr (b .args .nodes * b .args .size) (b .args .nodes * b .args .size) (b .args .row-ptr .now) (b .args .col-idx .now) (b .args .values .now) in
-    rw (c .before .before .before .before .enum-told .given .1) (c .before .before .zero-ints .ensures ∙ none-padded a (b .args .size) (b .args .nodes) (length (b .args .lists .now)) (omega (arith, b .pre .1 .0)))
+    rw (c .before .before .before .before .enum-told .given .1) (c .before .before .zero-ints .ensures ∙ none-padded a (b .args .size) (b .args .nodes) (b .args .base) (length (b .args .work .now)) (omega (arith, b .pre .1 .1 .0)))
 
 same-length-2 : tie.Need-same-length-2
 same-length-2 c = search needs
@@ -42,29 +42,23 @@ same-length-2 c = search needs
 same-length-3 : tie.Need-same-length-3
 same-length-3 c = search needs
 
-same-length-4 : tie.Need-same-length-4
-same-length-4 c = search needs
-
 returns-2 : tie.Need-returns-2
 returns-2 c =
-    let b = c .before .before .before .before .before .before .before .before .before .before .before .before .before .before .before .before .before .before in
+    let b = c .before .before .before .before .before .before .before .before .before .before .before .before .before .before in
     let a = csr (b .args .nodes * b .args .size) (b .args .nodes * b .args .size) (b .args .row-ptr .now) (b .args .col-idx .now) (b .args .values .now) in
-    rw (c .before .before .before .before .before .before .before .before .before .before .enum-told2 .given .1, ← flat-graph a (b .args .size) (b .args .nodes)) (c .before .before .before .before .before .before .linked .ensures)
+    rw (c .before .before .before .before .before .before .before .enum-told2 .given .1, ← flat-graph a (b .args .size) (b .args .nodes)) (c .before .before .before .before .linked .ensures)
+
+same-length-4 : tie.Need-same-length-4
+same-length-4 c = search needs
 
 same-length-5 : tie.Need-same-length-5
 same-length-5 c = search needs
 
-same-length-6 : tie.Need-same-length-6
-same-length-6 c = search needs
-
-same-length-7 : tie.Need-same-length-7
-same-length-7 c = search needs
-
 returns-3 : tie.Need-returns-3
 returns-3 c =
-    let b = c .before .before .before .before .before .before .before .before .before .before .before .before .before .before .before .before .before .before in
+    let b = c .before .before .before .before .before .before .before .before .before .before .before .before .before .before in
     let a = csr (b .args .nodes * b .args .size) (b .args .nodes * b .args .size) (b .args .row-ptr .now) (b .args .col-idx .now) (b .args .values .now) in
-    rw (c .before .before .before .before .before .before .before .before .before .before .enum-told3 .given .1, ← flat-strong a (b .args .size) (b .args .nodes)) (c .before .before .before .before .before .before .linked2 .ensures)
+    rw (c .before .before .before .before .before .before .before .enum-told3 .given .1, ← flat-strong a (b .args .size) (b .args .nodes)) (c .before .before .before .before .linked2 .ensures)
 
 pub fill-spec : {M : Type 1} → statement M
 fill-spec =
@@ -80,9 +74,7 @@ fill-spec =
     returns
     same-length-2
     same-length-3
-    same-length-4
     returns-2
+    same-length-4
     same-length-5
-    same-length-6
-    same-length-7
     returns-3)

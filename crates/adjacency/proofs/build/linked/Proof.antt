@@ -1,14 +1,16 @@
--- The lists and offsets make the flat list, and the rest is cleared.
-use borrow.Rule.Slice.PartMut.{putMid}
+-- The lists and offsets make the flat list; what stands behind them is cleared, then what stands before.
+use borrow.Rule.Slice.PartMut.{putMid, same-len-mid}
 use Rattle.definitions.specs.Matrix.{csr}
 use Rattle.adjacency.specs.Lists.{listOf}
-use Prim.Native.Nat.{_-_, _*_}
-use mathlib.Core.Path.{refl, ap, _∙_}
+use Prim.Native.Nat.{_-_, _+_, _*_, _≤_}
+use mathlib.Core.Path.{ap, sym, _∙_}
+use mathlib.Core.List.{_++_}
 use native.Mathlib.Omega.{arith}
-use lib.ListN.{length}
+use lib.ListN.{length, replicate}
+use lib.Seq.{length-take-le}
 use Rattle.definitions.specs.Lists.{padded}
 use Rattle.adjacency.specs.Flat.{flatOf}
-use Rattle.adjacency.proofs.Flats.{lined-padded}
+use Rattle.adjacency.proofs.Flats.{lined-within, lined-padded}
 use borrow.Author.Needs.{needs}
 use Rattle.adjacency.proofs.build.linked.Statement.{statement}
 use Rattle.adjacency.proofs.build.linked.Tie as tie
@@ -17,16 +19,28 @@ ready-requires : tie.Need-ready-requires
 ready-requires c κs = search needs
 
 all-lists-requires : tie.Need-all-lists-requires
-all-lists-requires c κs = search needs
+all-lists-requires c κs =
+    let b = c .before .before .before .before .before .before .before .before .before .before .before .before .before .before in
+    let r = c .before .before .before .before .before .before .ready in
+    (b .pre .0, (r .ensures, (b .pre .1 .0, omega (arith, b .pre .1 .1 .0, r .kept .1 .1 .1 .1 .1 .1 .0))))
+
+whole : (c : tie.After-all-lists) → c .before .before .before .before .before .before .before .before .before .before .before .before .before .before .before .args .base ≤ length (c .all-lists .last .1 .1 .1 .1 .1 .1 .1 .0)
+whole c = omega (arith, c .before .before .before .before .before .before .before .before .before .before .before .before .before .before .before .pre .1 .1 .0, c .all-lists .kept .1 .1 .1 .1 .1 .1 .1 .0, c .before .before .before .before .before .before .before .ready .kept .1 .1 .1 .1 .1 .1 .0)
+
+within : (c : tie.After-all-lists) → c .before .before .before .before .before .before .before .before .before .before .before .before .before .before .before .args .base + c .all-lists .result ≤ length (c .all-lists .last .1 .1 .1 .1 .1 .1 .1 .0)
+within c = lined-within (c .before .before .before .before .before .before .before .before .before .before .before .before .before .before .before .args .base) (c .all-lists .last .1 .1 .1 .1 .1 .1 .1 .0) (c .all-lists .ensures) (whole c)
+
+add-zero-ints : tie.Need-add-zero-ints
+add-zero-ints c = omega (arith, within (c .before .before .before .before))
 
 mul-zero-ints : tie.Need-mul-zero-ints
-mul-zero-ints c = omega (arith, c .before .before .before .before .before .before .all-lists .ensures .fits, c .before .before .before .before .before .before .all-lists .kept .1 .1 .1 .1 .1 .1 .0, c .before .before .before .before .before .before .before .before .before .before .before .before .before .before .before .before .before .before .before .before .before .before .before .good)
+mul-zero-ints c = omega (arith, within (c .before .before .before .before))
 
 sub-zero-ints : tie.Need-sub-zero-ints
-sub-zero-ints c = search needs
+sub-zero-ints c = omega (arith, within (c .before .before .before .before))
 
 part-zero-ints-start : tie.Need-part-zero-ints-start
-part-zero-ints-start c = search needs
+part-zero-ints-start c = omega (arith, within (c .before .before .before .before))
 
 part-zero-ints-end : tie.Need-part-zero-ints-end
 part-zero-ints-end c = search needs
@@ -34,23 +48,34 @@ part-zero-ints-end c = search needs
 zero-ints-requires : tie.Need-zero-ints-requires
 zero-ints-requires c κs = search needs
 
+slice-relend-prefix-zero-ints : tie.Need-slice-relend-prefix-zero-ints
+slice-relend-prefix-zero-ints c = search needs
+
+slice-aggregate-zero-ints : tie.Need-slice-aggregate-zero-ints
+slice-aggregate-zero-ints c =
+    let d = c .before .before .before .before .before .before .before .before .before .before .before .before .before .before .before .before .before .before .before .before .before .before .before .before .args .base in
+    let a = c .before .before .before .before .before .before .before .before .before .all-lists in
+    let l = a .last .1 .1 .1 .1 .1 .1 .1 .0 in
+    let z = c .before .before .before .zero-ints in
+    let m = putMid (d + a .result) (length l - (d + a .result)) l (z .last .0) in
+    sym (length-take-le _ m (omega (arith, whole (c .before .before .before .before .before .before .before .before .before), same-len-mid (d + a .result) (length l - (d + a .result)) l (z .last .0) (z .kept .0))))
+
+zero-ints-requires-2 : tie.Need-zero-ints-requires-2
+zero-ints-requires-2 c κs = search needs
+
 same-length : tie.Need-same-length
 same-length c = search needs
 
 same-length-2 : tie.Need-same-length-2
 same-length-2 c = search needs
 
-same-length-3 : tie.Need-same-length-3
-same-length-3 c = search needs
-
 returns : tie.Need-returns
 returns c =
     let b = c .before .before .before .before .before .before .before .before .before .before .before .before .before .before .before .before .before .before .before .before .before .before .before .before .before .before .before in
-    let a = c .before .before .before .before .before .before .before .before .before .before .all-lists in
+    let a = c .before .before .before .before .before .before .before .before .before .before .before .before .all-lists in
     let m = csr (b .args .nodes * b .args .size) (b .args .nodes * b .args .size) (b .args .row-ptr .now) (b .args .col-idx .now) (b .args .values .now) in
-    let l = a .last .1 .1 .1 .1 .1 .1 .0 in
-    lined-padded (a .ensures) (putMid (a .result) (length l - a .result) l (c .before .before .zero-ints .last .0)) (c .before .before .zero-ints .last .0) (c .before .before .zero-ints .ensures) refl
-    ∙ ap (λ n. padded 0 n (flatOf (listOf (b .args .strong) m (b .args .size) (b .args .nodes)) (b .args .nodes))) (a .kept .1 .1 .1 .1 .1 .1 .0)
+    lined-padded (b .args .base) (a .last .1 .1 .1 .1 .1 .1 .1 .0) (a .ensures) (c .before .before .before .before .before .before .zero-ints .last .0) (c .before .before .zero-ints2 .last .0) (whole (c .before .before .before .before .before .before .before .before .before .before .before .before)) (c .before .before .before .before .before .before .zero-ints .ensures) (c .before .before .zero-ints2 .ensures)
+    ∙ ap (λ n. padded 0 n (replicate (b .args .base) 0 ++ flatOf (listOf (b .args .strong) m (b .args .size) (b .args .nodes)) (b .args .nodes))) (a .kept .1 .1 .1 .1 .1 .1 .1 .0 ∙ c .before .before .before .before .before .before .before .before .before .before .before .before .before .before .before .before .before .before .before .ready .kept .1 .1 .1 .1 .1 .1 .0)
 
 pub linked-spec : {M : Type 1} → statement M
 linked-spec =
@@ -58,12 +83,15 @@ linked-spec =
     (tie.spec
     ready-requires
     all-lists-requires
+    add-zero-ints
     mul-zero-ints
     sub-zero-ints
     part-zero-ints-start
     part-zero-ints-end
     zero-ints-requires
+    slice-relend-prefix-zero-ints
+    slice-aggregate-zero-ints
+    zero-ints-requires-2
     same-length
     same-length-2
-    same-length-3
     returns)

@@ -1,12 +1,24 @@
 -- Cleared lists bear no stamp and no strength; the norms are made if they are wanted.
-use Prim.Native.Nat.{_-_, _*_}
+use Prim.Native.Nat.{_*_}
+use mathlib.Core.Path.{refl, sym, _∙_}
 use native.Mathlib.Omega.{arith}
-use lib.ListN.{length}
+use mathlib.Core.List.{_++_}
+use lib.ListN.{length, take, drop}
+use lib.Seq.{length-take-le, length-front}
 use Rattle.definitions.specs.Matrix.{csr}
 use Rattle.adjacency.proofs.Norming.{ready-even, ready-norms, plain-blank}
+use Rattle.adjacency.proofs.Parts.{take-front}
 use borrow.Author.Needs.{needs}
 use Rattle.adjacency.proofs.build.ready.Statement.{statement}
 use Rattle.adjacency.proofs.build.ready.Tie as tie
+
+slice-relend-prefix-zero-ints : tie.Need-slice-relend-prefix-zero-ints
+slice-relend-prefix-zero-ints c = search needs
+
+slice-aggregate-zero-ints : tie.Need-slice-aggregate-zero-ints
+slice-aggregate-zero-ints c =
+    let b = c .before .before .before .before .before .before in
+    sym (length-take-le (b .args .nodes) (b .args .work .now) (omega arith))
 
 zero-ints-requires : tie.Need-zero-ints-requires
 zero-ints-requires c κs = search needs
@@ -28,8 +40,13 @@ same-length-2 c = search needs
 returns : tie.Need-returns
 returns c =
     let b = c .before .before .before .before .before .before .before .before .before .before .before .before .before .before .before .before .before .before in
-    ready-norms (b .args .strong) (csr (b .args .nodes * b .args .size) (b .args .nodes * b .args .size) (b .args .row-ptr .now) (b .args .col-idx .now) (b .args .values .now)) (b .args .size) (b .args .nodes) (length (b .args .ints .now))
-    (c .before .before .before .before .before .before .before .before .before .before .before .zero-ints .last .0) (c .before .before .norms .last .1 .1 .1 .1 .1 .0) (c .before .before .before .before .before .before .before .before .before .before .before .zero-ints .ensures) (b .pre .1 .0) (omega (arith, b .pre .1 .1, c .before .before .before .before .before .before .before .zero-floats .kept .0, c .before .before .norms .kept .1 .1 .1 .1 .1 .0)) (c .before .before .norms .ensures) (c .before .before .before .before .if1 .taken)
+    let w = b .args .work .now in
+    let n = b .args .nodes in
+    let z = c .before .before .before .before .before .before .before .before .before .before .before .zero-ints in
+    let x = z .last .0 in
+    ready-norms (b .args .strong) (csr (n * b .args .size) (n * b .args .size) (b .args .row-ptr .now) (b .args .col-idx .now) (b .args .values .now)) (b .args .size) n (length (take n w))
+    (x ++ drop n w) (c .before .before .norms .last .1 .1 .1 .1 .1 .0) (take-front n w (x ++ drop n w) x (z .kept .0) (omega (arith, b .pre .1 .0)) refl ∙ z .ensures) (omega (arith, length-front w x n (z .kept .0), b .pre .1 .0))
+    (omega (arith, b .pre .1 .1, c .before .before .before .before .before .before .before .zero-floats .kept .0, c .before .before .norms .kept .1 .1 .1 .1 .1 .0)) (c .before .before .norms .ensures) (c .before .before .before .before .if1 .taken)
 
 same-length-3 : tie.Need-same-length-3
 same-length-3 c = search needs
@@ -40,13 +57,19 @@ same-length-4 c = search needs
 returns-2 : tie.Need-returns-2
 returns-2 c =
     let b = c .before .before .before .before .before .before .before .before .before .before .before .before .before .before in
-    ready-even (b .args .strong) (csr (b .args .nodes * b .args .size) (b .args .nodes * b .args .size) (b .args .row-ptr .now) (b .args .col-idx .now) (b .args .values .now)) (b .args .size) (b .args .nodes) (length (b .args .ints .now)) (length (b .args .floats .now))
-    (c .before .before .before .before .before .before .before .zero-ints .last .0) (c .before .before .before .zero-floats .last .0) (c .before .before .before .before .before .before .before .zero-ints .ensures) (c .before .before .before .zero-floats .ensures) (b .pre .1 .0) (b .pre .1 .1) (c .if1 .left)
+    let w = b .args .work .now in
+    let n = b .args .nodes in
+    let z = c .before .before .before .before .before .before .before .zero-ints in
+    let x = z .last .0 in
+    ready-even (b .args .strong) (csr (n * b .args .size) (n * b .args .size) (b .args .row-ptr .now) (b .args .col-idx .now) (b .args .values .now)) (b .args .size) n (length (take n w)) (length (b .args .floats .now))
+    (x ++ drop n w) (c .before .before .before .zero-floats .last .0) (take-front n w (x ++ drop n w) x (z .kept .0) (omega (arith, b .pre .1 .0)) refl ∙ z .ensures) (c .before .before .before .zero-floats .ensures) (omega (arith, length-front w x n (z .kept .0), b .pre .1 .0)) (b .pre .1 .1) (c .if1 .left)
 
 pub ready-spec : {M : Type 1} → statement M
 ready-spec =
     tie.close
     (tie.spec
+    slice-relend-prefix-zero-ints
+    slice-aggregate-zero-ints
     zero-ints-requires
     zero-floats-requires
     norms-requires

@@ -10,17 +10,17 @@ use Rattle.adjacency.proofs.checks.fits.Tie as tie
 returns : tie.Need-returns
 returns c =
     let b = c .before .args in
-    fits-square (b .rows) (b .cols) (b .entries) (b .block-size) (b .room) (b .ints) (b .floats) (c .if1 .taken)
+    fits-square (b .rows) (b .cols) (b .entries) (b .block-size) (b .base) (b .ints) (b .floats) (c .if1 .taken)
 
 returns-2 : tie.Need-returns-2
 returns-2 c =
     let b = c .before .before .args in
-    fits-none (b .rows) (b .cols) (b .entries) (b .block-size) (b .room) (b .ints) (b .floats) (c .before .if1 .left) (c .if2 .taken)
+    fits-none (b .rows) (b .cols) (b .entries) (b .block-size) (b .base) (b .ints) (b .floats) (c .before .if1 .left) (c .if2 .taken)
 
 returns-3 : tie.Need-returns-3
 returns-3 c =
     let b = c .before .before .before .args in
-    fits-large (b .rows) (b .cols) (b .entries) (b .block-size) (b .room) (b .ints) (b .floats) (c .before .before .if1 .left) (c .before .if2 .left) (c .if3 .taken)
+    fits-large (b .rows) (b .cols) (b .entries) (b .block-size) (b .base) (b .ints) (b .floats) (c .before .before .if1 .left) (c .before .if2 .left) (c .if3 .taken)
 
 rem-if4 : tie.Need-rem-if4
 rem-if4 c = search needs
@@ -28,7 +28,7 @@ rem-if4 c = search needs
 returns-4 : tie.Need-returns-4
 returns-4 c =
     let b = c .before .before .before .before .args in
-    fits-multiple (b .rows) (b .cols) (b .entries) (b .block-size) (b .room) (b .ints) (b .floats) (c .before .before .before .if1 .left) (c .before .before .if2 .left) (c .before .if3 .left) (c .if4 .taken)
+    fits-multiple (b .rows) (b .cols) (b .entries) (b .block-size) (b .base) (b .ints) (b .floats) (c .before .before .before .if1 .left) (c .before .before .if2 .left) (c .before .if3 .left) (c .if4 .taken)
 
 div-long-enough : tie.Need-div-long-enough
 div-long-enough c = search needs
@@ -39,12 +39,12 @@ long-enough-requires c κs = (omega (arith, div-le-self (c .before .before .befo
 returns-5 : tie.Need-returns-5
 returns-5 c =
     let b = c .before .before .before .before .before .before .args in
-    fits-all (b .rows) (b .cols) (b .entries) (b .block-size) (b .room) (b .ints) (b .floats) (c .before .before .before .before .before .if1 .left) (c .before .before .before .before .if2 .left) (c .before .before .before .if3 .left) (c .before .before .if4 .left) (sym (c .before .long-enough .ensures) ∙ c .if5 .taken)
+    fits-all (b .rows) (b .cols) (b .entries) (b .block-size) (b .base) (b .ints) (b .floats) (c .before .before .before .before .before .if1 .left) (c .before .before .before .before .if2 .left) (c .before .before .before .if3 .left) (c .before .before .if4 .left) (sym (c .before .long-enough .ensures) ∙ c .if5 .taken)
 
 returns-6 : tie.Need-returns-6
 returns-6 c =
     let b = c .before .before .before .before .before .before .args in
-    fits-short (b .rows) (b .cols) (b .entries) (b .block-size) (b .room) (b .ints) (b .floats) (c .before .before .before .before .before .if1 .left) (c .before .before .before .before .if2 .left) (c .before .before .before .if3 .left) (c .before .before .if4 .left) (sym (c .before .long-enough .ensures) ∙ c .if5 .left)
+    fits-short (b .rows) (b .cols) (b .entries) (b .block-size) (b .base) (b .ints) (b .floats) (c .before .before .before .before .before .if1 .left) (c .before .before .before .before .if2 .left) (c .before .before .before .if3 .left) (c .before .before .if4 .left) (sym (c .before .long-enough .ensures) ∙ c .if5 .left)
 
 pub fits-spec : {M : Type 1} → statement M
 fits-spec =

@@ -10,81 +10,88 @@ use Rattle.adjacency.proofs.graph.all_lists.Statement.{statement}
 use Rattle.adjacency.proofs.graph.all_lists.Tie as tie
 
 abbrev Inv-loop : tie.InvT-loop
-Inv-loop strong row-ptr col-idx values size nodes lists₀ ints₀ floats₀ base at₀ v₀ lists ints floats at v = Graphed strong (csr (nodes * size) (nodes * size) row-ptr col-idx values) size nodes lists₀ ints₀ floats₀ lists ints floats at v
+Inv-loop strong row-ptr col-idx values size nodes base work₀ floats₀ first at₀ v₀ work floats at v = Graphed strong (csr (nodes * size) (nodes * size) row-ptr col-idx values) size nodes base work₀ floats₀ work floats at v
 
 abbrev μ-loop : tie.MeasureT-loop
-μ-loop strong row-ptr col-idx values size nodes lists₀ ints₀ floats₀ base at₀ v₀ lists ints floats at v = nodes - v
+μ-loop strong row-ptr col-idx values size nodes base work₀ floats₀ first at₀ v₀ work floats at v = nodes - v
 
-add-base : tie.Need-add-base Inv-loop μ-loop
-add-base c = omega (arith, c .before .before .before .before .before .before .pre .0 .few)
+add-first : tie.Need-add-first Inv-loop μ-loop
+add-first c = omega (arith, c .before .before .before .before .before .pre .0 .few)
 
 put-requires : tie.Need-put-requires Inv-loop μ-loop
-put-requires c κs = omega (arith, c .before .before .before .before .before .before .before .pre .1 .1)
+put-requires c κs = omega (arith, c .before .before .before .before .before .before .pre .1 .1)
 
 loop-holds : tie.Need-loop-holds Inv-loop μ-loop
 loop-holds c =
-    let b = c .before .before .before .before .before .before .before .before .before .before in
-    graphed-first (b .pre .0) (b .args .lists .now) (c .before .before .put .last .0) (b .args .ints .now) (b .args .floats .now) (c .before .before .put .ensures) (omega (arith, b .pre .1 .1)) (b .pre .1 .0)
+    let b = c .before .before .before .before .before .before .before .before .before in
+    graphed-first (b .pre .0) (b .args .base) (b .pre .1 .1 .0) (b .args .work .now) (c .before .before .put .last .0) (b .args .floats .now) (c .before .before .put .ensures) (omega (arith, b .pre .1 .1 .1)) (b .pre .1 .0)
 
 wide-requires : tie.Need-wide-requires Inv-loop μ-loop
 wide-requires c κs = search needs
 
-less : (c : tie.Then1 Inv-loop μ-loop) → c .before .before .loop .v < c .before .before .before .before .before .before .before .before .before .before .before .before .before .args .nodes
+less : (c : tie.Then1 Inv-loop μ-loop) → c .before .before .loop .v < c .before .before .before .before .before .before .before .before .before .before .before .before .args .nodes
 less c = omega (arith, c .before .wide .ensures, c .if1 .taken)
 
-room : (c : tie.Then1 Inv-loop μ-loop) → c .before .before .before .before .before .before .before .before .before .before .before .before .before .args .nodes + 1 + length (c .before .before .before .before .before .before .before .before .before .before .before .before .before .args .col-idx .now) ≤ length (c .before .before .before .before .before .put .last .0)
-room c = omega (arith, c .before .before .before .before .before .before .before .before .before .before .before .before .before .pre .1 .1, c .before .before .before .before .before .put .kept .0)
+room : (c : tie.Then1 Inv-loop μ-loop) → c .before .before .before .before .before .before .before .before .before .before .before .before .args .base + c .before .before .before .before .before .before .before .before .before .before .before .before .args .nodes + 1 + length (c .before .before .before .before .before .before .before .before .before .before .before .before .args .col-idx .now) ≤ length (c .before .before .before .before .before .put .last .0)
+room c = omega (arith, c .before .before .before .before .before .before .before .before .before .before .before .before .pre .1 .1 .1, c .before .before .before .before .before .put .kept .0)
 
 node-list-requires : tie.Need-node-list-requires Inv-loop μ-loop
 node-list-requires c κs =
-    let b = c .before .before .before .before .before .before .before .before .before .before .before .before .before .before .before .before in
-    let l = c .before .before .before .before .before .loop in
-    (b .pre .0, (l .inv .ready, (less (c .before .before .before), room-left (b .pre .0) (l .inv) (less (c .before .before .before)) (room (c .before .before .before)))))
+    let b = c .before .before .before .before .before .before .before .before .before .before .before .before .before .before in
+    let l = c .before .before .before .before .loop in
+    let h = less (c .before .before) in
+    (b .pre .0, (l .inv .ready, (h, (b .pre .1 .1 .0, room-left (b .pre .0) (b .args .base) (b .pre .1 .1 .0) (l .inv) h (room (c .before .before))))))
 
 add-v : tie.Need-add-v Inv-loop μ-loop
-add-v c = omega (arith, less (c .before .before .before .before .before .before .before .before .before .before), c .before .before .before .before .before .before .before .before .before .before .before .before .before .before .before .before .before .before .before .before .before .before .before .pre .0 .few)
+add-v c = omega (arith, less (c .before .before .before .before .before .before .before), c .before .before .before .before .before .before .before .before .before .before .before .before .before .before .before .before .before .before .before .pre .0 .few)
+
+low : (c : tie.After-node-list Inv-loop μ-loop) → c .before .before .before .before .before .before .before .before .before .before .before .before .before .before .before .args .nodes + 1 ≤ c .node-list .result
+low c =
+    let b = c .before .before .before .before .before .before .before .before .before .before .before .before .before .before .before in
+    let n = c .node-list in
+    end-low (b .pre .0) (b .args .base) (b .pre .1 .1 .0) (c .before .before .before .before .before .loop .inv) (less (c .before .before .before)) (n .result) (n .last .1 .1 .1 .1 .1 .1 .1 .1 .0) (n .last .1 .1 .1 .1 .1 .1 .1 .1 .1 .0) (room (c .before .before .before)) (n .ensures)
+
+high : (c : tie.After-node-list Inv-loop μ-loop) → c .node-list .result ≤ c .before .before .before .before .before .before .before .before .before .before .before .before .before .before .before .args .nodes + 1 + length (c .before .before .before .before .before .before .before .before .before .before .before .before .before .before .before .args .col-idx .now)
+high c =
+    let b = c .before .before .before .before .before .before .before .before .before .before .before .before .before .before .before in
+    let n = c .node-list in
+    end-high (b .pre .0) (b .args .base) (b .pre .1 .1 .0) (c .before .before .before .before .before .loop .inv) (less (c .before .before .before)) (n .result) (n .last .1 .1 .1 .1 .1 .1 .1 .1 .0) (n .last .1 .1 .1 .1 .1 .1 .1 .1 .1 .0) (room (c .before .before .before)) (n .ensures)
 
 wide-requires-2 : tie.Need-wide-requires-2 Inv-loop μ-loop
 wide-requires-2 c κs = search needs
 
-low : (c : tie.After-node-list Inv-loop μ-loop) → c .before .before .before .before .before .before .before .before .before .before .before .before .before .before .before .before .before .args .nodes + 1 ≤ c .node-list .result
-low c =
-    let n = c .node-list in
-    end-low (c .before .before .before .before .before .before .before .before .before .before .before .before .before .before .before .before .before .pre .0) (c .before .before .before .before .before .before .loop .inv) (less (c .before .before .before .before)) (n .result) (n .last .1 .1 .1 .1 .1 .1 .1 .0) (n .last .1 .1 .1 .1 .1 .1 .1 .1 .0) (n .last .1 .1 .1 .1 .1 .1 .1 .1 .1 .0) (room (c .before .before .before .before)) (n .ensures)
-
-high : (c : tie.After-node-list Inv-loop μ-loop) → c .node-list .result ≤ c .before .before .before .before .before .before .before .before .before .before .before .before .before .before .before .before .before .args .nodes + 1 + length (c .before .before .before .before .before .before .before .before .before .before .before .before .before .before .before .before .before .args .col-idx .now)
-high c =
-    let n = c .node-list in
-    end-high (c .before .before .before .before .before .before .before .before .before .before .before .before .before .before .before .before .before .pre .0) (c .before .before .before .before .before .before .loop .inv) (less (c .before .before .before .before)) (n .result) (n .last .1 .1 .1 .1 .1 .1 .1 .0) (n .last .1 .1 .1 .1 .1 .1 .1 .1 .0) (n .last .1 .1 .1 .1 .1 .1 .1 .1 .1 .0) (room (c .before .before .before .before)) (n .ensures)
+add-put : tie.Need-add-put Inv-loop μ-loop
+add-put c = omega (arith, c .wide2 .ensures, less (c .before .before .before .before .before .before .before .before .before), room (c .before .before .before .before .before .before .before .before .before))
 
 sub-put : tie.Need-sub-put Inv-loop μ-loop
-sub-put c = low (c .before .before .before .before .before .before .before .before)
+sub-put c = low (c .before .before .before .before .before .before)
 
 put-requires-2 : tie.Need-put-requires-2 Inv-loop μ-loop
-put-requires-2 c κs =
-    let n = c .before .before .before .before .before .before .before .before .node-list in
-    (omega (arith, c .wide2 .ensures, less (c .before .before .before .before .before .before .before .before .before .before .before .before), room (c .before .before .before .before .before .before .before .before .before .before .before .before), n .kept .1 .1 .1 .1 .1 .1 .1 .0, c .before .before .before .before .before .before .before .before .before .before .before .before .before .before .loop .inv .longs), omega (arith, high (c .before .before .before .before .before .before .before .before), low (c .before .before .before .before .before .before .before .before), c .before .before .before .before .before .before .before .before .before .before .before .before .before .before .before .before .before .before .before .before .before .before .before .before .before .pre .0 .short))
+put-requires-2 c κs = (
+  omega (arith, c .wide2 .ensures, less (c .before .before .before .before .before .before .before .before .before), room (c .before .before .before .before .before .before .before .before .before), c .before .before .before .before .before .before .node-list .kept .1 .1 .1 .1 .1 .1 .1 .1 .0, c .before .before .before .before .before .before .before .before .before .before .before .loop .inv .longs),
+  omega (arith, high (c .before .before .before .before .before .before), low (c .before .before .before .before .before .before), c .before .before .before .before .before .before .before .before .before .before .before .before .before .before .before .before .before .before .before .before .before .pre .0 .short),
+)
 
 loop-less : tie.Need-loop-less Inv-loop μ-loop
-loop-less c = omega (arith, less (c .before .before .before .before .before .before .before .before .before .before .before .before .before .before .before))
+loop-less c = omega (arith, less (c .before .before .before .before .before .before .before .before .before .before .before .before))
 
 loop-again : tie.Need-loop-again Inv-loop μ-loop
 loop-again c =
-    let n = c .before .before .before .before .before .before .before .before .before .before .before .node-list in
-    graphed-more (c .before .before .before .before .before .before .before .before .before .before .before .before .before .before .before .before .before .before .before .before .before .before .before .before .before .before .before .before .pre .0) (c .before .before .before .before .before .before .before .before .before .before .before .before .before .before .before .before .before .loop .inv) (less (c .before .before .before .before .before .before .before .before .before .before .before .before .before .before .before)) (n .result) (n .last .1 .1 .1 .1 .1 .1 .1 .0) (n .last .1 .1 .1 .1 .1 .1 .1 .1 .0) (n .last .1 .1 .1 .1 .1 .1 .1 .1 .1 .0) (room (c .before .before .before .before .before .before .before .before .before .before .before .before .before .before .before)) (n .ensures)
-    (c .before .before .before .wide2 .result) (n .result - (c .before .before .before .before .before .before .before .before .before .before .before .before .before .before .before .before .before .before .before .before .before .before .before .before .before .before .before .before .args .nodes + 1)) (c .before .before .put2 .last .0) (n .kept .1 .1 .1 .1 .1 .1 .1 .0) (n .kept .1 .1 .1 .1 .1 .1 .1 .1 .0) (n .kept .1 .1 .1 .1 .1 .1 .1 .1 .1 .0) (c .before .before .before .wide2 .ensures) refl (c .before .before .put2 .ensures)
+    let b = c .before .before .before .before .before .before .before .before .before .before .before .before .before .before .before .before .before .before .before .before .before .before .before .before in
+    let n = c .before .before .before .before .before .before .before .before .before .node-list in
+    graphed-more (b .pre .0) (b .args .base) (b .pre .1 .1 .0) (c .before .before .before .before .before .before .before .before .before .before .before .before .before .before .loop .inv) (less (c .before .before .before .before .before .before .before .before .before .before .before .before)) (n .result) (n .last .1 .1 .1 .1 .1 .1 .1 .1 .0) (n .last .1 .1 .1 .1 .1 .1 .1 .1 .1 .0) (room (c .before .before .before .before .before .before .before .before .before .before .before .before)) (n .ensures)
+    (c .before .before .before .wide2 .result) (n .result - (b .args .nodes + 1)) (c .before .before .put2 .last .0) (n .kept .1 .1 .1 .1 .1 .1 .1 .1 .0) (n .kept .1 .1 .1 .1 .1 .1 .1 .1 .1 .0) (c .before .before .before .wide2 .ensures) refl (c .before .before .put2 .ensures)
 
 same-length : tie.Need-same-length Inv-loop μ-loop
 same-length c = c .before .before .loop .inv .longs ∙ c .before .before .before .before .before .put .kept .0
 
 same-length-2 : tie.Need-same-length-2 Inv-loop μ-loop
-same-length-2 c = c .before .before .loop .inv .rooms
-
-same-length-3 : tie.Need-same-length-3 Inv-loop μ-loop
-same-length-3 c = c .before .before .loop .inv .spaces
+same-length-2 c = c .before .before .loop .inv .spaces
 
 returns : tie.Need-returns Inv-loop μ-loop
-returns c = graphed-done (c .before .before .before .before .before .before .before .before .before .before .before .before .before .pre .0) (c .before .before .loop .inv) (omega (arith, c .before .wide .ensures, c .if1 .left))
+returns c =
+    let b = c .before .before .before .before .before .before .before .before .before .before .before .before in
+    graphed-done (b .pre .0) (b .args .base) (b .pre .1 .1 .0) (c .before .before .loop .inv) (omega (arith, c .before .wide .ensures, c .if1 .left))
 
 pub all-lists-spec : {M : Type 1} → statement M
 all-lists-spec =
@@ -92,18 +99,18 @@ all-lists-spec =
     (tie.spec
     Inv-loop
     μ-loop
-    add-base
+    add-first
     put-requires
     loop-holds
     wide-requires
     node-list-requires
     add-v
     wide-requires-2
+    add-put
     sub-put
     put-requires-2
     loop-less
     loop-again
     same-length
     same-length-2
-    same-length-3
     returns)

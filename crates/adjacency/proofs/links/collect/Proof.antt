@@ -1,22 +1,26 @@
 -- What was put so far, and what the rest will add, make the whole list; the stamps likewise.
-use mathlib.Core.Path.{refl}
+use mathlib.Core.Path.{_≡_, refl, sym, _∙_}
 use mathlib.Core.Logic.{⊎-elim}
-use Prim.Native.Nat.{_≤_, _<_, _-_}
+use Prim.Native.Nat.{_≤_, _<_, _-_, _+_}
 use native.Mathlib.Omega.{arith}
-use lib.ListN.{length}
+use lib.ListN.{length, take, drop, length-drop, length-set}
+use lib.Seq.{getD-take}
 use Rattle.adjacency.proofs.Collecting.{Collected, collect-skip, collect-take, collected}
+use Rattle.adjacency.proofs.Parts.{stored-front, stored-behind}
 use borrow.Author.Needs.{needs}
 use Rattle.adjacency.proofs.links.collect.Statement.{statement}
 use Rattle.adjacency.proofs.links.collect.Tie as tie
 
 abbrev Inv-loop : tie.InvT-loop
-Inv-loop «col_idx» from to size stamp mark₀ out₀ at end₀ k₀ mark out end k = Collected «col_idx» mark₀ out₀ from to size stamp at mark out end k
+Inv-loop col-idx from to size stamp nodes base work₀ at end₀ k₀ work end k = (length work ≡ length work₀) × ((base + end + (to - k) ≤ length work) × Collected col-idx (take nodes work₀) (drop base work₀) from to size stamp at (take nodes work) (drop base work) end k)
 
 abbrev μ-loop : tie.MeasureT-loop
-μ-loop «col_idx» from to size stamp mark₀ out₀ at end₀ k₀ mark out end k = to - k
+μ-loop col-idx from to size stamp nodes base work₀ at end₀ k₀ work end k = to - k
 
 loop-holds : tie.Need-loop-holds Inv-loop μ-loop
-loop-holds c = record { upto = omega arith; room = omega arith; marks = refl; outs = refl; list = refl; count = refl; stamps = refl }
+loop-holds c =
+    let b = c .before .before in
+    (refl, (omega arith, record { upto = omega arith; room = omega (arith, length-drop (b .args .base) (b .args .work .now)); marks = refl; outs = refl; list = refl; count = refl; stamps = refl }))
 
 node-of-requires : tie.Need-node-of-requires Inv-loop μ-loop
 node-of-requires c κs = search needs
@@ -24,10 +28,13 @@ node-of-requires c κs = search needs
 wide-requires : tie.Need-wide-requires Inv-loop μ-loop
 wide-requires c κs = search needs
 
-below : (c : tie.After-wide Inv-loop μ-loop) → c .wide .result < length (c .before .before .before .loop .mark)
-below c =
-    let b = c .before .before .before .before .before .before .before in
-    omega (arith, c .wide .ensures, c .before .node-of .ensures, c .before .before .before .loop .inv .marks, b .pre .1 (c .before .before .before .loop .k) (omega arith))
+inside : (c : tie.After-wide Inv-loop μ-loop) → c .before .node-of .result < c .before .before .before .before .before .before .args .nodes
+inside c =
+    let b = c .before .before .before .before .before .before in
+    rw (c .before .node-of .ensures) (b .pre .1 .1 (c .before .before .before .loop .k) (omega arith))
+
+below : (c : tie.After-wide Inv-loop μ-loop) → c .wide .result < length (c .before .before .before .loop .work)
+below c = omega (arith, inside c, c .wide .ensures, c .before .before .before .loop .inv .0)
 
 mul-if1 : tie.Need-mul-if1 Inv-loop μ-loop
 mul-if1 c = omega (arith, below c)
@@ -35,17 +42,20 @@ mul-if1 c = omega (arith, below c)
 slice-read-if1 : tie.Need-slice-read-if1 Inv-loop μ-loop
 slice-read-if1 c = below (c .before)
 
-mul-mark : tie.Need-mul-mark Inv-loop μ-loop
-mul-mark c = omega (arith, below (c .before .before))
+mul-work : tie.Need-mul-work Inv-loop μ-loop
+mul-work c = omega (arith, below (c .before .before))
 
-slice-write-mark : tie.Need-slice-write-mark Inv-loop μ-loop
-slice-write-mark c = below (c .before .before)
+slice-write-work : tie.Need-slice-write-work Inv-loop μ-loop
+slice-write-work c = below (c .before .before)
 
-mul-out : tie.Need-mul-out Inv-loop μ-loop
-mul-out c = search needs
+add-work : tie.Need-add-work Inv-loop μ-loop
+add-work c = search needs
 
-slice-write-out : tie.Need-slice-write-out Inv-loop μ-loop
-slice-write-out c = search needs
+mul-work-2 : tie.Need-mul-work-2 Inv-loop μ-loop
+mul-work-2 c = search needs
+
+slice-write-work-2 : tie.Need-slice-write-work-2 Inv-loop μ-loop
+slice-write-work-2 c = rw length-set (omega (arith, c .before .before .before .before .before .loop .inv .1 .0))
 
 add-end : tie.Need-add-end Inv-loop μ-loop
 add-end c = search needs
@@ -58,25 +68,34 @@ loop-less c = omega arith
 
 loop-again : tie.Need-loop-again Inv-loop μ-loop
 loop-again c =
-    let b = c .before .before .before .before .before .before .before .before .before in
+    let b = c .before .before .before .before .before .before .before .before in
     let l = c .before .before .before .before .before .loop in
+    let n = b .args .nodes in
+    let d = b .args .base in
+    let x = c .before .before .before .node-of .result in
     let q = c .before .before .before .node-of .ensures in
     let h : l .k < b .args .to = omega arith in
     let e : b .args .to ≤ length (b .args .col-idx .now) = omega arith in
+    let p : n ≤ d = omega arith in
+    let i = inside (c .before .before) in
     let z = c .before .before .wide .ensures in
+    let g = getD-take n (l .work) x 0 i in
     ⊎-elim
-    (λ w. rw (w .1, w .2, w .3, z) (collect-take (l .inv) h e (c .before .before .before .node-of .result) q (rw z at (w .0 .taken))))
-    (λ w. rw (w .1, w .2, w .3) (collect-skip (l .inv) h e (rw (z, q) at (w .0 .left))))
+    (λ w. (
+      rw (w .1, length-set, length-set) (l .inv .0),
+      (
+        rw (w .1, w .2, length-set, length-set) (omega (arith, l .inv .1 .0)),
+        rw (w .1, w .2, z, stored-front n d x (l .end) (b .args .stamp) x (l .work) p i, stored-behind n d x (l .end) (b .args .stamp) x (l .work) p i) (collect-take (l .inv .1 .1) h e x q (λ r. (rw z at (w .0 .taken)) (sym g ∙ r))),
+      ),
+    ))
+    (λ w. (rw (w .1) (l .inv .0), (rw (w .1, w .2) (omega (arith, l .inv .1 .0)), rw (w .1, w .2) (collect-skip (l .inv .1 .1) h e (rw q at (g ∙ (rw z at (w .0 .left))))))))
     (c .if1 .came)
 
 same-length : tie.Need-same-length Inv-loop μ-loop
 same-length c = search needs
 
-same-length-2 : tie.Need-same-length-2 Inv-loop μ-loop
-same-length-2 c = search needs
-
 returns : tie.Need-returns Inv-loop μ-loop
-returns c = collected (c .before .loop .inv) (omega arith)
+returns c = collected (c .before .loop .inv .1 .1) (omega arith)
 
 pub collect-spec : {M : Type 1} → statement M
 collect-spec =
@@ -89,14 +108,14 @@ collect-spec =
     wide-requires
     mul-if1
     slice-read-if1
-    mul-mark
-    slice-write-mark
-    mul-out
-    slice-write-out
+    mul-work
+    slice-write-work
+    add-work
+    mul-work-2
+    slice-write-work-2
     add-end
     add-k
     loop-less
     loop-again
     same-length
-    same-length-2
     returns)
