@@ -1,4 +1,5 @@
 -- The laws of the public functions.
 mod Upto
 mod Stages
+mod Placed
 mod Answered

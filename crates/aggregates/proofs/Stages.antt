@@ -4,7 +4,7 @@ use mathlib.Core.List.{List, [], _++_, append-nil}
 use Prim.Native.Nat.{ℕ, _-_, _≤_}
 use native.Mathlib.Omega.{arith}
 use lib.ListN.{length, getD, take, drop, replicate, length-append, length-drop, length-replicate, drop-of-length-le}
-use lib.Seq.{getD-take, take-at, take-all, length-take-le}
+use lib.Seq.{getD-take, take-at, take-all, drop-at, length-take-le}
 use Rattle.definitions.specs.Lists.{padded}
 use Rattle.definitions.specs.Groups.{renumbered, grown, joinings, graphGrouping, listed, noAnchor, floorOf}
 use Rattle.numbers.specs.Copied.{copied}
@@ -14,10 +14,11 @@ use Rattle.aggregates.specs.Numbered.{Numbered}
 use Rattle.aggregates.specs.Settled.{Grows, Settled}
 use Rattle.aggregates.proofs.growth.Between.{grown-all}
 use Rattle.aggregates.proofs.Upto.{joined-ids-upto}
+use Rattle.aggregates.proofs.stored.Elements.{still-from}
 
 -- after joining the numbers are still those of groups
-pub numbered-after : (n groups floor : ℕ) (offsets nb w w' : List ℕ) → Grows n groups offsets nb w → take n w' ≡ joinedIds offsets nb floor groups (take n w) → length w' ≡ length w → Numbered n groups w'
-numbered-after n groups floor offsets nb w w' o e l = record {
+pub numbered-after : (n groups floor base : ℕ) (offsets nb w w' : List ℕ) → Grows n groups base offsets nb w → take n w' ≡ joinedIds offsets nb floor groups (take n w) → length w' ≡ length w → Numbered n groups w'
+numbered-after n groups floor base offsets nb w w' o e l = record {
   upto = λ v h. rw (← getD-take n w' v 0 h, e) (joined-ids-upto (listed offsets nb) noAnchor floor groups (take n w) (o .upto) v);
   room = omega (arith, o .room);
   small = o .joins .small .0;
@@ -39,6 +40,12 @@ module _ (n : ℕ) (w t : List ℕ) (fits : n ≤ length w) (z : t ≡ replicate
   pub front-length : length (take 0 w ++ (t ++ drop (n - 0) (drop 0 w))) ≡ length w
   front-length = let e : length t ≡ n = ap length z ∙ length-replicate (length (take (n - 0) (drop 0 w))) 0 ∙ front-long in simp (length-append, e, length-drop) (omega arith)
 
+  pub front-still : (base : ℕ) → n ≤ base → drop base (take 0 w ++ (t ++ drop (n - 0) (drop 0 w))) ≡ drop base w
+  front-still base h =
+      let e : length t ≡ n = ap length z ∙ length-replicate (length (take (n - 0) (drop 0 w))) 0 ∙ front-long in
+      let q : n - 0 ≡ n = omega arith in
+      still-from n base (t ++ drop (n - 0) w) w h (drop-at t (drop (n - 0) w) n e ∙ ap (λ k. drop k w) q)
+
 -- zeros behind the front of a list
 module _ (n : ℕ) (w t ids : List ℕ) (fits : n ≤ length w) (front : take n w ≡ ids) (z : t ≡ replicate (length (take (length w - n) (drop n w))) 0) where
   rest-long : length (take (length w - n) (drop n w)) ≡ length w - length ids
@@ -53,7 +60,7 @@ module _ (n : ℕ) (w t ids : List ℕ) (fits : n ≤ length w) (front : take n 
   unfolding padded
   zeros-behind = rw (none-left, append-nil t, front, z, rest-long)
 
-module _ (n size : ℕ) (offsets nb : List ℕ) (room : ℕ) (ok : Accepts n size offsets nb room) (groups : ℕ) (w : List ℕ) (e : (take n w, groups) ≡ grown (listed offsets nb) noAnchor n size) where
+module _ (n size base : ℕ) (offsets nb : List ℕ) (ok : Accepts n size base offsets nb) (groups : ℕ) (w : List ℕ) (e : (take n w, groups) ≡ grown (listed offsets nb) noAnchor n size) where
   ids-are : take n w ≡ grown (listed offsets nb) noAnchor n size .0
   ids-are = ap (λ p. p .0) e
 
@@ -63,11 +70,12 @@ module _ (n size : ℕ) (offsets nb : List ℕ) (room : ℕ) (ok : Accepts n siz
   ids-upto : (u : ℕ) → getD (take n w) u 0 ≤ groups
   ids-upto u = rw (ids-are, count-is) (grown-all (listed offsets nb) n size (ok .least) .upto u)
 
-  pub grows-after : length w ≡ room → groups ≤ n → Grows n groups offsets nb w
+  pub grows-after : base ≤ length w → groups ≤ n → Grows n groups base offsets nb w
   grows-after l f = record {
     joins = record {
       lists = ok .lists;
       room = omega (arith, ok .room);
+      fits = l;
       few = f;
       small = (omega (arith, ok .few), omega (arith, ok .entries));
       grouped = λ v h. rw (← getD-take n w v 0 h) (ids-upto v);

@@ -1,13 +1,13 @@
 -- Joining makes no new group numbers: each node's group stays at most the count of the groups that were grown.
-use mathlib.Core.Path.{_≡_, refl, ap}
+use mathlib.Core.Path.{_≡_, refl}
 use mathlib.Core.Logic.{⊎-elim}
 use mathlib.Core.Bool.{Bool}
 use mathlib.Core.List.{List, [], _∷_}
 use Prim.Native.Nat.{ℕ, zero, suc, _≤_, _<_}
 use native.Mathlib.Omega.{arith}
 use lib.ListN.{length, getD, set, length-set}
-use Rattle.definitions.specs.Lists.{tab}
 use Rattle.definitions.specs.Groups.{Joining, Groups, nodesIn, sizeIn, relabelled, joined, replay, takerOf, roundFrom, joiningsFrom, groupsOf, nodesOf}
+use Rattle.laws.specs.Lists.{length-tab}
 use Rattle.aggregates.specs.Stops.{taker-other, replay-append, round-stays, round-joins, rounds-end, rounds-go}
 use Rattle.aggregates.proofs.growth.Between.{set-cases}
 
@@ -59,11 +59,6 @@ module _ (lists : ℕ → List ℕ) (anchor : ℕ → Bool) (floor top : ℕ) wh
       go [] e next = rw (rounds-end lists anchor floor count (suc fuel) s e) o
       go (j ∷ js) e next =
           rw (rounds-go lists anchor floor count fuel s (j ∷ js) (omega arith) e, replay-append (j ∷ js) (joiningsFrom lists anchor floor count fuel (replay (j ∷ js) s)) s) (rw e at next)
-
-length-tab : (f : ℕ → List ℕ) (n : ℕ) → length (tab f n) ≡ n
-unfolding tab
-length-tab f zero = refl
-length-tab f (suc n) = ap suc (length-tab (λ i. f (suc i)) n)
 
 pub joined-ids-upto : (lists : ℕ → List ℕ) (anchor : ℕ → Bool) (floor groups : ℕ) (ids : List ℕ) → ((u : ℕ) → getD ids u 0 ≤ groups) →
     (u : ℕ) → getD (replay (joiningsFrom lists anchor floor groups (suc groups) (groupsOf ids groups)) (groupsOf ids groups) .of) u 0 ≤ groups

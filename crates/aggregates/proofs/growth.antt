@@ -4,4 +4,5 @@ mod Growing
 mod Pushing
 mod Queue
 mod Seeding
+mod Seeded
 pub mod Between

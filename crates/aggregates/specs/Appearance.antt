@@ -9,6 +9,7 @@ use lib.Dec.{eqb}
 use lib.ListN.{length, getD, length-append}
 use Rattle.definitions.specs.Lists.{any, tab, upTo}
 use Rattle.definitions.specs.Groups.{place, firsts, renumbered}
+use Rattle.laws.specs.Growing.{upTo-snoc}
 
 pub split {ℓ} : {X : Type ℓ} (b : Bool) → (b ≡ true → X) → (b ≡ false → X) → X
 split true t f = t refl
@@ -153,17 +154,9 @@ pub renumbered-below : (ids : List ℕ) (v : ℕ) → v < length ids → getD (r
 unfolding renumbered
 renumbered-below ids v h = rw (getD-mapped (λ x. place x (firsts [] ids)) ids v h) (place-below (getD ids v 0) (firsts [] ids) (has-each [] ids v h))
 
-up-more : (n : ℕ) → upTo (suc n) ≡ upTo n ++ (n ∷ [])
-unfolding upTo tab
-up-more n = more (λ i. i) n
-  where
-    more : (f : ℕ → ℕ) (k : ℕ) → tab f (suc k) ≡ tab f k ++ (f k ∷ [])
-    more f zero = refl
-    more f (suc k) = ap (λ l. f 0 ∷ l) (more (λ i. f (suc i)) k)
-
 has-up : (k n : ℕ) → k < n → has k (upTo n) ≡ true
 has-up k zero h = absurd (omega arith)
-has-up k (suc n) h = rw (up-more n) (split (eqb k n)
+has-up k (suc n) h = rw (upTo-snoc n) (split (eqb k n)
     (λ e. rw (eqb-true k n e) (has-last n (upTo n)))
     (λ e. has-append k (upTo n) (n ∷ []) (has-up k n (omega (arith, eqb-false k n e)))))
 
@@ -177,14 +170,14 @@ has-none k = refl
 
 has-not : (k n : ℕ) → n ≤ k → has k (upTo n) ≡ false
 has-not k zero h = rw up-none (has-none k)
-has-not k (suc n) h = rw (up-more n) (has-other k n (upTo n) (λ e. omega arith) ∙ has-not k n (omega arith))
+has-not k (suc n) h = rw (upTo-snoc n) (has-other k n (upTo n) (λ e. omega arith) ∙ has-not k n (omega arith))
 
 order-from : (seen xs : List ℕ) → firsts (upTo (length seen)) (numbersFrom seen xs) ≡ upTo (length (firsts seen xs))
 unfolding firsts numbersFrom
 order-from seen [] = refl
 order-from seen (x ∷ xs) = split (has x seen)
     (λ e. rw (numbers-old seen x xs e, firsts-old seen x xs e, firsts-old (upTo (length seen)) (place x seen) (numbersFrom seen xs) (has-up (place x seen) (length seen) (place-below x seen e))) (order-from seen xs))
-    (λ e. rw (numbers-new seen x xs e, firsts-new seen x xs e, firsts-new (upTo (length seen)) (length seen) (numbersFrom (seen ++ (x ∷ [])) xs) (has-not (length seen) (length seen) (omega arith)), ← up-more (length seen))
+    (λ e. rw (numbers-new seen x xs e, firsts-new seen x xs e, firsts-new (upTo (length seen)) (length seen) (numbersFrom (seen ++ (x ∷ [])) xs) (has-not (length seen) (length seen) (omega arith)), ← upTo-snoc (length seen))
     (ap (λ n. firsts (upTo n) (numbersFrom (seen ++ (x ∷ [])) xs)) (long e) ∙ order-from (seen ++ (x ∷ [])) xs))
   where
     long : has x seen ≡ false → suc (length seen) ≡ length (seen ++ (x ∷ []))

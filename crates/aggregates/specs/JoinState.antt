@@ -64,12 +64,13 @@ chainOf n w g = walk (at (3 * n + 1) w g) (drop n w) (at (2 * n) w g)
 abbrev pub Reads : ℕ → ℕ → List ℕ → List ℕ → Type 0
 Reads counts tail neighbours w = (k : ℕ) → k < length neighbours → (getD neighbours k 0 < tail) × (counts + getD w (getD neighbours k 0) 0 < tail)
 
--- what `gather` asks: the group is one of at most n, all members are nodes, and there is room for all edges of the group
-pub record Gathers (n : ℕ) (offsets w : List ℕ) (g : ℕ) : Type 0 where
+-- what `gather` asks: the group is one of at most n, all members are nodes, and there is room below `base` for all edges of the group
+pub record Gathers (n base : ℕ) (offsets w : List ℕ) (g : ℕ) : Type 0 where
   pub own : g ≤ n
   pub sizes : (v : ℕ) → v < n → getD w v 0 ≤ n
   pub nodes : All (λ v. v < n) (chainOf n w g)
-  pub room : 5 * n + 3 + total (λ v. getD offsets (suc v) 0 - getD offsets v 0) (chainOf n w g) ≤ length w
+  pub room : 5 * n + 3 + total (λ v. getD offsets (suc v) 0 - getD offsets v 0) (chainOf n w g) ≤ base
+  pub fits : base ≤ length w
 
 -- the work list after all of the group g went to the group b: the chain of g is put before that of b
 unfoldable pub moved : ℕ → ℕ → ℕ → List ℕ → List ℕ
@@ -93,10 +94,11 @@ turnOf lists floor s g = elim (takerOf lists noAnchor floor s g) [ zero ↦ [] |
 abbrev pub joinedIds : List ℕ → List ℕ → ℕ → ℕ → List ℕ → List ℕ
 joinedIds offsets neighbours floor groups ids = replay (joiningsFrom (listed offsets neighbours) noAnchor floor groups (suc groups) (groupsOf ids groups)) (groupsOf ids groups) .of
 
--- what `join_groups` asks: proper lists, at most n groups, each node in one of them, and room behind the nodes' groups
-pub record Joins (n groups : ℕ) (offsets neighbours w : List ℕ) : Type 0 where
+-- what `join_groups` asks: proper lists, at most n groups, each node in one of them, and room behind the nodes' groups, below `base`
+pub record Joins (n groups base : ℕ) (offsets neighbours w : List ℕ) : Type 0 where
   pub lists : Lists n offsets neighbours
-  pub room : 5 * n + length neighbours + 3 ≤ length w
+  pub room : 5 * n + length neighbours + 3 ≤ base
+  pub fits : base ≤ length w
   pub few : groups ≤ n
   pub small : (n < 2 ^ 31) × (length neighbours < 2 ^ 32)
   pub grouped : (v : ℕ) → v < n → getD w v 0 ≤ groups

@@ -1,5 +1,6 @@
 -- What the contracts of `aggregates` cite besides the definitions.
 pub mod Lists
+pub mod Stored
 pub mod Growth
 pub mod Numbered
 pub mod JoinChoice
@@ -7,4 +8,5 @@ pub mod JoinState
 pub mod Stops
 pub mod Checked
 pub mod Settled
+pub mod Within
 pub mod Appearance

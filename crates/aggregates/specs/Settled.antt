@@ -7,8 +7,8 @@ use Rattle.definitions.specs.Groups.{renumbered}
 use Rattle.aggregates.specs.JoinState.{Joins, joinedIds}
 
 -- the groups as grown, and room to join and renumber them
-pub record Grows (n groups : ℕ) (offsets neighbours w : List ℕ) : Type 0 where
-  pub joins : Joins n groups offsets neighbours w
+pub record Grows (n groups base : ℕ) (offsets neighbours w : List ℕ) : Type 0 where
+  pub joins : Joins n groups base offsets neighbours w
   pub upto : (u : ℕ) → getD (take n w) u 0 ≤ groups
   pub room : n + groups < length w
 

@@ -1,7 +1,7 @@
 -- JOINING STOPS. Each joining lowers the number of groups that have members by exactly one; so there are fewer joinings than grown groups,
 -- and after the rounds of `joiningsFrom` one round more joins nothing. For any lists and any anchors.
-use mathlib.Core.Path.{_≡_, refl, ap, sym, _∙_}
-use mathlib.Core.Bool.{Bool, true, false, _||_, true≢false}
+use mathlib.Core.Path.{_≡_, refl, sym, _∙_}
+use mathlib.Core.Bool.{Bool, true, false, _||_}
 use mathlib.Core.List.{List, [], _∷_, _++_}
 use Prim.Native.Nat.{ℕ, zero, suc, _+_, _-_, _≤_, _<_}
 use native.Mathlib.Omega.{arith}
@@ -11,6 +11,8 @@ use lib.ListN.{length, getD, set, length-set, length-append}
 use lib.Seq.{getD-set-same, getD-set-other}
 use Rattle.definitions.specs.Lists.{tab}
 use Rattle.definitions.specs.Groups.{Joining, Groups, nodesIn, sizeIn, joined, replay, edgesTo, before, chosen, others, named, takerOf, roundFrom, joiningsFrom, floorOf, nodesOf, groupsOf, grown, joinings}
+use Rattle.laws.specs.Tests.{both-false}
+use Rattle.laws.specs.Lists.{length-tab}
 use Rattle.aggregates.specs.JoinState.{All}
 
 -- 1 for a group with members
@@ -92,10 +94,6 @@ pub by-test {ℓ} : {X : Type ℓ} (b : Bool) → (b ≡ true → X) → (b ≡ 
 by-test true t f = t refl
 by-test false t f = f refl
 
-pub or-false : (a b : Bool) → (a || b) ≡ false → (a ≡ false) × (b ≡ false)
-or-false true b e = let z : true ≡ false = e in absurd (true≢false z)
-or-false false b e = (refl, e)
-
 pub chosen-keeps : (Q : ℕ → Type 0) (e m : ℕ → ℕ) (best : ℕ) (l : List ℕ) → Q best → All Q l → Q (chosen e m best l)
 unfolding chosen
 chosen-keeps Q e m best [] q a = q
@@ -112,8 +110,8 @@ module _ (lists : ℕ → List ℕ) (anchor : ℕ → Bool) where
       by-test (anchor w || eqb o g || eqb (sizeIn s o) 0)
       (λ e. rw (others, e) (others-other g s ws))
       (λ e.
-      let z = or-false (anchor w || eqb o g) (eqb (sizeIn s o) 0) e in
-      let y = or-false (anchor w) (eqb o g) (z .0) in
+      let z = both-false (anchor w || eqb o g) (eqb (sizeIn s o) 0) e in
+      let y = both-false (anchor w) (eqb o g) (z .0) in
       rw (others, e) ((omega (arith, eqb-false (sizeIn s o) 0 (z .1)), eqb-false o g (y .1)), others-other g s ws))
 
   named-other : (g : ℕ) (s : Groups) (vs : List ℕ) → All (Other g (sizeIn s)) (named lists anchor g s vs)
@@ -233,11 +231,6 @@ unfolding alive
 alive-most [] = omega arith
 alive-most ([] ∷ ms) = omega (arith, alive-most ms)
 alive-most ((v ∷ m) ∷ ms) = omega (arith, alive-most ms)
-
-pub length-tab : (f : ℕ → List ℕ) (n : ℕ) → length (tab f n) ≡ n
-unfolding tab
-length-tab f zero = refl
-length-tab f (suc n) = ap suc (length-tab (λ i. f (suc i)) n)
 
 no-zero : (v : ℕ) (ids : List ℕ) → ((k : ℕ) → k < length ids → 0 < getD ids k 0) → nodesOf 0 v ids ≡ []
 unfolding nodesOf

@@ -1,10 +1,13 @@
-// Growth: from each ungrouped node in turn, first in first out. The groups of the nodes are w[0..nodes], the queue lies behind them.
+// Growth: from each ungrouped node in turn, first in first out. The groups of the nodes are w[0..nodes], the queue lies behind them, and the neighbour lists from w[base] on.
+use super::stored::neighbour;
+use super::stored::offset;
 ghost use mathlib.Core.Path.{_≡_};
 ghost use mathlib.Core.List.{List, [], _∷_, _++_};
 ghost use Prim.Native.Nat.{ℕ, suc, _+_, _^_, _<_, _≤_};
-ghost use lib.ListN.{length, getD, take, replicate};
-ghost use Rattle.definitions.specs.Groups.{free, grow, grown, listed, noAnchor};
+ghost use lib.ListN.{length, getD, take, drop, replicate};
+ghost use Rattle.definitions.specs.Groups.{free, grow, grown, noAnchor};
 ghost use Rattle.aggregates.specs.Lists.{Lists};
+ghost use Rattle.aggregates.specs.Stored.{offsetsAt, neighboursAt, listsAt};
 ghost use Rattle.aggregates.specs.Growth.{Pushes};
 
 fn wide(x: u32) -> usize
@@ -14,23 +17,17 @@ fn wide(x: u32) -> usize
 }
 
 // Puts the nodes that v lists and that are in no group at the queue's end, and returns the new end.
-fn push_free(
-    offsets: &[u32],
-    neighbours: &[u32],
-    w: &mut [u32],
-    nodes: usize,
-    v: usize,
-    tail: usize,
-) -> usize
-    requires { ⌜ Pushes (now offsets) (now neighbours) (now w) nodes v tail ⌝ }
-    ensures { λ r. ⌜ r ≡ tail + length (free (listed (now (offsets .entry)) (now (neighbours .entry))) noAnchor (take nodes (now (w .entry))) (listed (now (offsets .entry)) (now (neighbours .entry)) v)) ⌝ }
-    ensures { λ r. ⌜ take r (now (w .exit)) ≡ take tail (now (w .entry)) ++ free (listed (now (offsets .entry)) (now (neighbours .entry))) noAnchor (take nodes (now (w .entry))) (listed (now (offsets .entry)) (now (neighbours .entry)) v) ⌝ }
+fn push_free(w: &mut [u32], base: usize, nodes: usize, v: usize, tail: usize) -> usize
+    requires { ⌜ Pushes (offsetsAt base nodes (now w)) (neighboursAt base nodes (now w)) (now w) base nodes v tail ⌝ }
+    ensures { λ r. ⌜ r ≡ tail + length (free (listsAt base nodes (now (w .entry))) noAnchor (take nodes (now (w .entry))) (listsAt base nodes (now (w .entry)) v)) ⌝ }
+    ensures { λ r. ⌜ take r (now (w .exit)) ≡ take tail (now (w .entry)) ++ free (listsAt base nodes (now (w .entry))) noAnchor (take nodes (now (w .entry))) (listsAt base nodes (now (w .entry)) v) ⌝ }
+    ensures { λ _. ⌜ drop base (now (w .exit)) ≡ drop base (now (w .entry)) ⌝ }
 {
     let mut end = tail;
-    let mut i = wide(offsets[v]);
-    let to = wide(offsets[v + 1]);
+    let mut i = offset(&w[..], base, nodes, v);
+    let to = offset(&w[..], base, nodes, v + 1);
     while i < to {
-        let u = neighbours[i];
+        let u = neighbour(&w[..], base, nodes, i);
         if w[wide(u)] == 0 {
             w[end] = u;
             end += 1;
@@ -41,18 +38,11 @@ fn push_free(
 }
 
 // The group g takes in up to `size` nodes, from the seed on. The queue is w[head..tail].
-fn grow_group(
-    offsets: &[u32],
-    neighbours: &[u32],
-    w: &mut [u32],
-    nodes: usize,
-    seed: u32,
-    g: u32,
-    size: usize,
-)
-    requires { ⌜ Lists nodes (now offsets) (now neighbours) ⌝ }
-    requires { ⌜ (seed < nodes) × ((0 < g) × (nodes + (length (now neighbours) + 1) ≤ length (now w))) ⌝ }
-    ensures { λ _. ⌜ take nodes (now (w .exit)) ≡ grow (listed (now (offsets .entry)) (now (neighbours .entry))) noAnchor g size (take nodes (now (w .entry))) (seed ∷ []) ⌝ }
+fn grow_group(w: &mut [u32], base: usize, nodes: usize, seed: u32, g: u32, size: usize)
+    requires { ⌜ Lists nodes (offsetsAt base nodes (now w)) (neighboursAt base nodes (now w)) ⌝ }
+    requires { ⌜ (seed < nodes) × ((0 < g) × (nodes + (length (neighboursAt base nodes (now w)) + 1) ≤ base)) ⌝ }
+    ensures { λ _. ⌜ take nodes (now (w .exit)) ≡ grow (listsAt base nodes (now (w .entry))) noAnchor g size (take nodes (now (w .entry))) (seed ∷ []) ⌝ }
+    ensures { λ _. ⌜ drop base (now (w .exit)) ≡ drop base (now (w .entry)) ⌝ }
 {
     w[nodes] = seed;
     let mut head = nodes;
@@ -67,31 +57,26 @@ fn grow_group(
         if w[v] == 0 {
             w[v] = g;
             room -= 1;
-            tail = push_free(offsets, neighbours, w, nodes, v, tail);
+            tail = push_free(w, base, nodes, v, tail);
         }
     }
 }
 
 // Grows groups from each ungrouped node in turn. Returns how many there are.
-pub fn grow_all(
-    offsets: &[u32],
-    neighbours: &[u32],
-    w: &mut [u32],
-    nodes: usize,
-    size: usize,
-) -> u32
-    requires { ⌜ Lists nodes (now offsets) (now neighbours) ⌝ }
-    requires { ⌜ (nodes < 2 ^ 31) × (nodes + (length (now neighbours) + 1) ≤ length (now w)) ⌝ }
+pub fn grow_all(w: &mut [u32], base: usize, nodes: usize, size: usize) -> u32
+    requires { ⌜ Lists nodes (offsetsAt base nodes (now w)) (neighboursAt base nodes (now w)) ⌝ }
+    requires { ⌜ (nodes < 2 ^ 31) × (nodes + (length (neighboursAt base nodes (now w)) + 1) ≤ base) ⌝ }
     requires { ⌜ take nodes (now w) ≡ replicate nodes 0 ⌝ }
-    ensures { λ r. ⌜ (take nodes (now (w .exit)), r) ≡ grown (listed (now (offsets .entry)) (now (neighbours .entry))) noAnchor nodes size ⌝ }
+    ensures { λ r. ⌜ (take nodes (now (w .exit)), r) ≡ grown (listsAt base nodes (now (w .entry))) noAnchor nodes size ⌝ }
     ensures { λ r. ⌜ r ≤ nodes ⌝ }
+    ensures { λ _. ⌜ drop base (now (w .exit)) ≡ drop base (now (w .entry)) ⌝ }
 {
     let mut g: u32 = 0;
     let mut v: usize = 0;
     while v < nodes {
         if w[v] == 0 {
             g += 1;
-            grow_group(offsets, neighbours, w, nodes, v as u32, g, size);
+            grow_group(w, base, nodes, v as u32, g, size);
         }
         v += 1;
     }

@@ -5,6 +5,9 @@
 //     w[3n+1..4n+2]      how many members a group has
 //     w[4n+2..5n+3]      the edges to a group, zero but while a group looks for another
 //     w[5n+3..]          the groups that are named, one for each edge
+// and the neighbour lists from w[base] on, behind all of these.
+use super::stored::neighbour;
+use super::stored::offset;
 ghost use mathlib.Core.Path.{_≡_};
 ghost use mathlib.Core.Bool.{_||_};
 ghost use mathlib.Core.List.{List, [], _∷_, _++_};
@@ -12,8 +15,9 @@ ghost use Prim.Native.Nat.{ℕ, suc, _+_, _-_, _*_, _^_, _<_, _≤_};
 ghost use lib.Dec.{eqb};
 ghost use lib.ListN.{length, getD, take, drop};
 ghost use lib.Seq.{slice};
-ghost use Rattle.definitions.specs.Groups.{chosen, edgesTo, listed, noAnchor, nodesOf, relabelled, replay, groupsOf};
+ghost use Rattle.definitions.specs.Groups.{chosen, edgesTo, noAnchor, nodesOf, relabelled, replay, groupsOf};
 ghost use Rattle.aggregates.specs.Lists.{Lists};
+ghost use Rattle.aggregates.specs.Stored.{offsetsAt, neighboursAt, listsAt};
 ghost use Rattle.aggregates.specs.JoinChoice.{at, beforeBy, better, bump, namedBy, othersBy, wipe, Named, Zeros};
 ghost use Rattle.aggregates.specs.JoinState.{All, Gathers, Joins, Moves, Reads, Rep, chainOf, hop, joinedIds, membersOf, moved, stateOf, turnOf, walk};
 
@@ -132,25 +136,27 @@ fn left_out(w: &[u32], counts: usize, g: u32, o: u32) -> bool
     w[counts + wide(o)] == 0
 }
 
-// Puts the groups that neighbours[from..to] names at w[tail..], and returns the new end.
+// Puts the groups that the neighbours from..to name at w[tail..], and returns the new end.
 fn names_of(
-    neighbours: &[u32],
     w: &mut [u32],
+    base: usize,
+    nodes: usize,
     counts: usize,
     g: u32,
     from: usize,
     to: usize,
     tail: usize,
 ) -> usize
-    requires { ⌜ (from ≤ to) × ((to ≤ length (now neighbours)) × (tail + (to - from) ≤ length (now w))) ⌝ }
-    requires { ⌜ Reads counts tail (now neighbours) (now w) ⌝ }
-    ensures { λ r. ⌜ r ≡ tail + length (othersBy g (now (w .entry)) (at counts (now (w .entry))) (slice from to (now (neighbours .entry)))) ⌝ }
-    ensures { λ r. ⌜ take r (now (w .exit)) ≡ take tail (now (w .entry)) ++ othersBy g (now (w .entry)) (at counts (now (w .entry))) (slice from to (now (neighbours .entry))) ⌝ }
+    requires { ⌜ (from ≤ to) × ((to ≤ length (neighboursAt base nodes (now w))) × ((tail + (to - from) ≤ base) × (base ≤ length (now w)))) ⌝ }
+    requires { ⌜ Reads counts tail (neighboursAt base nodes (now w)) (now w) ⌝ }
+    ensures { λ r. ⌜ r ≡ tail + length (othersBy g (now (w .entry)) (at counts (now (w .entry))) (slice from to (neighboursAt base nodes (now (w .entry))))) ⌝ }
+    ensures { λ r. ⌜ take r (now (w .exit)) ≡ take tail (now (w .entry)) ++ othersBy g (now (w .entry)) (at counts (now (w .entry))) (slice from to (neighboursAt base nodes (now (w .entry)))) ⌝ }
+    ensures { λ _. ⌜ drop base (now (w .exit)) ≡ drop base (now (w .entry)) ⌝ }
 {
     let mut end = tail;
     let mut i = from;
     while i < to {
-        let o = w[wide(neighbours[i])];
+        let o = w[wide(neighbour(&w[..], base, nodes, i))];
         if left_out(&w[..], counts, g, o) {} else {
             w[end] = o;
             end += 1;
@@ -161,12 +167,13 @@ fn names_of(
 }
 
 // Puts the groups that the lists of the group g name into w[5 * nodes + 3..], one for each edge, and returns the end.
-fn gather(offsets: &[u32], neighbours: &[u32], w: &mut [u32], nodes: usize, g: u32) -> usize
-    requires { ⌜ Lists nodes (now offsets) (now neighbours) ⌝ }
-    requires { ⌜ Gathers nodes (now offsets) (now w) g ⌝ }
-    ensures { λ r. ⌜ r ≡ 5 * nodes + 3 + length (namedBy (listed (now (offsets .entry)) (now (neighbours .entry))) g (now (w .entry)) (at (3 * nodes + 1) (now (w .entry))) (chainOf nodes (now (w .entry)) g)) ⌝ }
-    ensures { λ r. ⌜ take r (now (w .exit)) ≡ take (5 * nodes + 3) (now (w .entry)) ++ namedBy (listed (now (offsets .entry)) (now (neighbours .entry))) g (now (w .entry)) (at (3 * nodes + 1) (now (w .entry))) (chainOf nodes (now (w .entry)) g) ⌝ }
+fn gather(w: &mut [u32], base: usize, nodes: usize, g: u32) -> usize
+    requires { ⌜ Lists nodes (offsetsAt base nodes (now w)) (neighboursAt base nodes (now w)) ⌝ }
+    requires { ⌜ Gathers nodes base (offsetsAt base nodes (now w)) (now w) g ⌝ }
+    ensures { λ r. ⌜ r ≡ 5 * nodes + 3 + length (namedBy (listsAt base nodes (now (w .entry))) g (now (w .entry)) (at (3 * nodes + 1) (now (w .entry))) (chainOf nodes (now (w .entry)) g)) ⌝ }
+    ensures { λ r. ⌜ take r (now (w .exit)) ≡ take (5 * nodes + 3) (now (w .entry)) ++ namedBy (listsAt base nodes (now (w .entry))) g (now (w .entry)) (at (3 * nodes + 1) (now (w .entry))) (chainOf nodes (now (w .entry)) g) ⌝ }
     ensures { λ r. ⌜ r ≤ length (now (w .entry)) ⌝ }
+    ensures { λ _. ⌜ drop base (now (w .exit)) ≡ drop base (now (w .entry)) ⌝ }
 {
     let heads = 2 * nodes;
     let counts = 3 * nodes + 1;
@@ -175,9 +182,9 @@ fn gather(offsets: &[u32], neighbours: &[u32], w: &mut [u32], nodes: usize, g: u
     let mut end = 5 * nodes + 3;
     while 0 < left {
         let v = wide(cur);
-        let first = wide(offsets[v]);
-        let last = wide(offsets[v + 1]);
-        end = names_of(neighbours, w, counts, g, first, last, end);
+        let first = offset(&w[..], base, nodes, v);
+        let last = offset(&w[..], base, nodes, v + 1);
+        end = names_of(w, base, nodes, counts, g, first, last, end);
         cur = w[nodes + v];
         left -= 1;
     }
@@ -226,20 +233,13 @@ fn move_group(w: &mut [u32], nodes: usize, g: u32, b: u32)
 }
 
 // The turn of the group g: it joins another, if it is below the floor and names one. Returns 1 if it did.
-fn join_one(
-    offsets: &[u32],
-    neighbours: &[u32],
-    w: &mut [u32],
-    nodes: usize,
-    groups: u32,
-    floor: u32,
-    g: u32,
-) -> u32
-    requires { ⌜ Rep nodes groups (now offsets) (now neighbours) (take nodes (now w)) (drop nodes (now w)) ⌝ }
-    requires { ⌜ g ≤ groups ⌝ }
-    ensures { λ r. ⌜ r ≡ length (turnOf (listed (now (offsets .entry)) (now (neighbours .entry))) floor (stateOf nodes groups (take nodes (now (w .entry))) (drop nodes (now (w .entry)))) g) ⌝ }
-    ensures { λ _. ⌜ stateOf nodes groups (take nodes (now (w .exit))) (drop nodes (now (w .exit))) ≡ replay (turnOf (listed (now (offsets .entry)) (now (neighbours .entry))) floor (stateOf nodes groups (take nodes (now (w .entry))) (drop nodes (now (w .entry)))) g) (stateOf nodes groups (take nodes (now (w .entry))) (drop nodes (now (w .entry)))) ⌝ }
-    ensures { λ _. ⌜ Rep nodes groups (now (offsets .entry)) (now (neighbours .entry)) (take nodes (now (w .exit))) (drop nodes (now (w .exit))) ⌝ }
+fn join_one(w: &mut [u32], base: usize, nodes: usize, groups: u32, floor: u32, g: u32) -> u32
+    requires { ⌜ Rep nodes groups (offsetsAt base nodes (now w)) (neighboursAt base nodes (now w)) (take nodes (now w)) (drop nodes (now w)) ⌝ }
+    requires { ⌜ (g ≤ groups) × (5 * nodes + length (neighboursAt base nodes (now w)) + 3 ≤ base) ⌝ }
+    ensures { λ r. ⌜ r ≡ length (turnOf (listsAt base nodes (now (w .entry))) floor (stateOf nodes groups (take nodes (now (w .entry))) (drop nodes (now (w .entry)))) g) ⌝ }
+    ensures { λ _. ⌜ stateOf nodes groups (take nodes (now (w .exit))) (drop nodes (now (w .exit))) ≡ replay (turnOf (listsAt base nodes (now (w .entry))) floor (stateOf nodes groups (take nodes (now (w .entry))) (drop nodes (now (w .entry)))) g) (stateOf nodes groups (take nodes (now (w .entry))) (drop nodes (now (w .entry)))) ⌝ }
+    ensures { λ _. ⌜ Rep nodes groups (offsetsAt base nodes (now (w .entry))) (neighboursAt base nodes (now (w .entry))) (take nodes (now (w .exit))) (drop nodes (now (w .exit))) ⌝ }
+    ensures { λ _. ⌜ drop base (now (w .exit)) ≡ drop base (now (w .entry)) ⌝ }
 {
     let counts = 3 * nodes + 1;
     let size = w[counts + wide(g)];
@@ -249,7 +249,7 @@ fn join_one(
     if floor <= size {
         return 0;
     }
-    let end = gather(offsets, neighbours, w, nodes, g);
+    let end = gather(w, base, nodes, g);
     let b = choose_group(w, counts, 4 * nodes + 2, 5 * nodes + 3, end);
     if b == 0 {
         return 0;
@@ -259,23 +259,17 @@ fn join_one(
 }
 
 // Rounds over the groups, until one joins nothing.
-fn join_rounds(
-    offsets: &[u32],
-    neighbours: &[u32],
-    w: &mut [u32],
-    nodes: usize,
-    groups: u32,
-    floor: u32,
-)
-    requires { ⌜ Rep nodes groups (now offsets) (now neighbours) (take nodes (now w)) (drop nodes (now w)) ⌝ }
+fn join_rounds(w: &mut [u32], base: usize, nodes: usize, groups: u32, floor: u32)
+    requires { ⌜ Rep nodes groups (offsetsAt base nodes (now w)) (neighboursAt base nodes (now w)) (take nodes (now w)) (drop nodes (now w)) ⌝ }
+    requires { ⌜ 5 * nodes + length (neighboursAt base nodes (now w)) + 3 ≤ base ⌝ }
     requires { ⌜ stateOf nodes groups (take nodes (now w)) (drop nodes (now w)) ≡ groupsOf (take nodes (now w)) groups ⌝ }
-    ensures { λ _. ⌜ take nodes (now (w .exit)) ≡ joinedIds (now (offsets .entry)) (now (neighbours .entry)) floor groups (take nodes (now (w .entry))) ⌝ }
+    ensures { λ _. ⌜ take nodes (now (w .exit)) ≡ joinedIds (offsetsAt base nodes (now (w .entry))) (neighboursAt base nodes (now (w .entry))) floor groups (take nodes (now (w .entry))) ⌝ }
 {
     'rounds: loop {
         let mut joins: u32 = 0;
         let mut g: u32 = 1;
         while g <= groups {
-            joins += join_one(offsets, neighbours, w, nodes, groups, floor, g);
+            joins += join_one(w, base, nodes, groups, floor, g);
             g += 1;
         }
         if joins == 0 {
@@ -292,6 +286,7 @@ fn link(w: &mut [u32], nodes: usize)
     ensures { λ _. ⌜ take nodes (now (w .exit)) ≡ take nodes (now (w .entry)) ⌝ }
     ensures { λ _. ⌜ ((o : ℕ) → o ≤ nodes → membersOf nodes (drop nodes (now (w .exit))) o ≡ nodesOf o 0 (take nodes (now (w .entry)))) ⌝ }
     ensures { λ _. ⌜ Zeros (3 * nodes + 2) (4 * nodes + 3) (drop nodes (now (w .exit))) ⌝ }
+    ensures { λ _. ⌜ drop (5 * nodes + 3) (now (w .exit)) ≡ drop (5 * nodes + 3) (now (w .entry)) ⌝ }
 {
     let heads = 2 * nodes;
     let counts = 3 * nodes + 1;
@@ -306,21 +301,14 @@ fn link(w: &mut [u32], nodes: usize)
     }
 }
 
-// Joins undersized groups until a round joins nothing: w[0..nodes] has the group of each node, from 1; the rest of w is room, and may hold anything.
-pub fn join_groups(
-    offsets: &[u32],
-    neighbours: &[u32],
-    w: &mut [u32],
-    nodes: usize,
-    groups: u32,
-    floor: u32,
-)
-    requires { ⌜ Joins nodes groups (now offsets) (now neighbours) (now w) ⌝ }
-    ensures { λ _. ⌜ take nodes (now (w .exit)) ≡ joinedIds (now (offsets .entry)) (now (neighbours .entry)) floor groups (take nodes (now (w .entry))) ⌝ }
+// Joins undersized groups until a round joins nothing: w[0..nodes] has the group of each node, from 1; the rest of w below `base` is room, and may hold anything.
+pub fn join_groups(w: &mut [u32], base: usize, nodes: usize, groups: u32, floor: u32)
+    requires { ⌜ Joins nodes groups base (offsetsAt base nodes (now w)) (neighboursAt base nodes (now w)) (now w) ⌝ }
+    ensures { λ _. ⌜ take nodes (now (w .exit)) ≡ joinedIds (offsetsAt base nodes (now (w .entry))) (neighboursAt base nodes (now (w .entry))) floor groups (take nodes (now (w .entry))) ⌝ }
 {
     let from = 3 * nodes + 1;
     let to = 5 * nodes + 3;
     numbers::zero_ints(&mut w[from..to]);
     link(w, nodes);
-    join_rounds(offsets, neighbours, w, nodes, groups, floor);
+    join_rounds(w, base, nodes, groups, floor);
 }

@@ -3,8 +3,11 @@ ghost use mathlib.Core.Path.{_≡_};
 ghost use Prim.Native.Nat.{_+_, _*_, _^_, _≤_, _<_};
 ghost use lib.ListN.{length, take, replicate};
 ghost use Rattle.definitions.specs.Lists.{padded};
-ghost use Rattle.definitions.specs.Groups.{groupingCall, graphGrouping, listed, noAnchor, floorOf, groupingLeft, groupingWorkLeft};
+ghost use Rattle.definitions.specs.Groups.{groupingCall, graphGrouping, noAnchor, floorOf, groupingLeft, groupingWorkLeft};
 ghost use Rattle.definitions.specs.Answers.{groupingAnswer};
+ghost use Rattle.aggregates.specs.Lists.{Lists};
+ghost use Rattle.aggregates.specs.Stored.{offsetsAt, neighboursAt, listsAt};
+ghost use Rattle.aggregates.specs.Within.{withinCall};
 ghost use Rattle.aggregates.specs.Checked.{Accepts};
 ghost use Rattle.aggregates.specs.Settled.{Grows, Settled};
 use definitions::Answer;
@@ -14,6 +17,7 @@ mod checks;
 mod growth;
 mod joining;
 mod renumber;
+mod stored;
 
 // A quarter of the group size, cut down, at least 1.
 fn floor_of(size: usize) -> u32
@@ -24,33 +28,26 @@ fn floor_of(size: usize) -> u32
     if quarter == 0 { 1 } else { quarter as u32 }
 }
 
-// Joins and renumbers `groups` grown groups: w[0..nodes] has the group of each node, the rest of w is room.
-fn settle(
-    offsets: &[u32],
-    neighbours: &[u32],
-    w: &mut [u32],
-    nodes: usize,
-    groups: u32,
-    floor: u32,
-) -> u32
-    requires { ⌜ Grows nodes groups (now offsets) (now neighbours) (now w) ⌝ }
-    ensures { λ r. ⌜ Settled (now (offsets .entry)) (now (neighbours .entry)) nodes groups floor (now (w .entry)) (now (w .exit)) r ⌝ }
+// Joins and renumbers `groups` grown groups: w[0..nodes] has the group of each node, the rest of w below `base` is room.
+fn settle(w: &mut [u32], base: usize, nodes: usize, groups: u32, floor: u32) -> u32
+    requires { ⌜ Grows nodes groups base (offsetsAt base nodes (now w)) (neighboursAt base nodes (now w)) (now w) ⌝ }
+    ensures { λ r. ⌜ Settled (offsetsAt base nodes (now (w .entry))) (neighboursAt base nodes (now (w .entry))) nodes groups floor (now (w .entry)) (now (w .exit)) r ⌝ }
 {
-    joining::join_groups(offsets, neighbours, w, nodes, groups, floor);
+    joining::join_groups(w, base, nodes, groups, floor);
     renumber::renumber(w, nodes, groups)
 }
 
-// Groups the nodes of an accepted call into w[0..nodes], and returns how many groups there are.
-fn build(nodes: usize, size: usize, offsets: &[u32], neighbours: &[u32], w: &mut [u32]) -> u64
-    requires { ⌜ Accepts nodes size (now offsets) (now neighbours) (length (now w)) ⌝ }
-    ensures { λ r. ⌜ r ≡ (graphGrouping (listed (now (offsets .entry)) (now (neighbours .entry))) noAnchor nodes size) .count ⌝ }
-    ensures { λ r. ⌜ now (w .exit) ≡ padded 0 (length (now (w .entry))) ((graphGrouping (listed (now (offsets .entry)) (now (neighbours .entry))) noAnchor nodes size) .ids) ⌝ }
-    ensures { λ r. ⌜ length ((graphGrouping (listed (now (offsets .entry)) (now (neighbours .entry))) noAnchor nodes size) .ids) ≡ nodes ⌝ }
+// Groups the nodes of an accepted call into w[0..nodes], and returns how many groups there are. The neighbour lists stand in w from w[base] on, and are cleared.
+fn build(nodes: usize, size: usize, base: usize, w: &mut [u32]) -> u64
+    requires { ⌜ Accepts nodes size base (offsetsAt base nodes (now w)) (neighboursAt base nodes (now w)) ⌝ }
+    ensures { λ r. ⌜ r ≡ (graphGrouping (listsAt base nodes (now (w .entry))) noAnchor nodes size) .count ⌝ }
+    ensures { λ r. ⌜ now (w .exit) ≡ padded 0 (length (now (w .entry))) ((graphGrouping (listsAt base nodes (now (w .entry))) noAnchor nodes size) .ids) ⌝ }
+    ensures { λ r. ⌜ length ((graphGrouping (listsAt base nodes (now (w .entry))) noAnchor nodes size) .ids) ≡ nodes ⌝ }
 {
     numbers::zero_ints(&mut w[0..nodes]);
-    let groups = growth::grow_all(offsets, neighbours, w, nodes, size);
+    let groups = growth::grow_all(w, base, nodes, size);
     let floor = floor_of(size);
-    let count = settle(offsets, neighbours, w, nodes, groups, floor);
+    let count = settle(w, base, nodes, groups, floor);
     numbers::zero_ints(&mut w[nodes..]);
     count as u64
 }
@@ -66,22 +63,28 @@ fn hand_over(work: &mut [u32], ids: &mut [u32], nodes: usize)
     numbers::zero_ints(work);
 }
 
-// GROUPING IN ONE LIST: the group of each node, zeros behind. The checks are those of grouping alone, with the room that it needs in `work`.
-pub fn group_in(
-    nodes: usize,
-    size: usize,
-    offsets: &[u32],
-    neighbours: &[u32],
-    work: &mut [u32],
-) -> GroupingAnswer
-    ensures { λ r. ⌜ r ≡ groupingAnswer (groupingCall nodes size (now (offsets .entry)) (now (neighbours .entry)) nodes (length (now (work .entry)))) ⌝ }
-    ensures { λ r. ⌜ now (work .exit) ≡ groupingLeft (groupingCall nodes size (now (offsets .entry)) (now (neighbours .entry)) nodes (length (now (work .entry)))) (now (work .entry)) ⌝ }
+// GROUPING IN ONE LIST: the neighbour lists stand in `work` from work[base] on; the group of each node takes the front, zeros behind.
+pub fn group_within(nodes: usize, size: usize, base: usize, work: &mut [u32]) -> GroupingAnswer
+    ensures { λ r. ⌜ r ≡ groupingAnswer (withinCall nodes size base (now (work .entry))) ⌝ }
+    ensures { λ r. ⌜ now (work .exit) ≡ groupingLeft (withinCall nodes size base (now (work .entry))) (now (work .entry)) ⌝ }
 {
-    let answer = checks::check(nodes, size, offsets, neighbours, nodes, work.len());
+    let answer = checks::check_within(nodes, size, base, &work[..]);
     match answer {
         Answer::Refused(cause) => GroupingAnswer::Refused(cause),
-        Answer::Accepted => GroupingAnswer::Groups(build(nodes, size, offsets, neighbours, work)),
+        Answer::Accepted => GroupingAnswer::Groups(build(nodes, size, base, work)),
     }
+}
+
+// Copies the neighbour lists to work[base..].
+fn place(nodes: usize, offsets: &[u32], neighbours: &[u32], base: usize, work: &mut [u32])
+    requires { ⌜ Lists nodes (now offsets) (now neighbours) ⌝ }
+    requires { ⌜ base + (nodes + 1) + length (now neighbours) ≤ length (now work) ⌝ }
+    ensures { λ _. ⌜ offsetsAt base nodes (now (work .exit)) ≡ now (offsets .entry) ⌝ }
+    ensures { λ _. ⌜ neighboursAt base nodes (now (work .exit)) ≡ now (neighbours .entry) ⌝ }
+{
+    let start = base + (nodes + 1);
+    numbers::copy_ints(offsets, &mut work[base..]);
+    numbers::copy_ints(neighbours, &mut work[start..]);
 }
 
 // GROUPING ALONE: the group of each node goes to `ids`, zeros behind, and `work` is left zero.
@@ -101,7 +104,9 @@ pub fn group(
     match answer {
         Answer::Refused(cause) => GroupingAnswer::Refused(cause),
         Answer::Accepted => {
-            let count = build(nodes, size, offsets, neighbours, work);
+            let base = checks::room_for(nodes, neighbours.len());
+            place(nodes, offsets, neighbours, base, work);
+            let count = build(nodes, size, base, work);
             hand_over(work, ids, nodes);
             GroupingAnswer::Groups(count)
         }

@@ -4,7 +4,7 @@ use mathlib.Core.Bool.{Bool, true, false, not, _&&_, true≢false}
 use mathlib.Core.List.{List, [], _∷_, _++_, map}
 use Prim.Native.Nat.{ℕ, zero, suc, _+_, _-_, _*_, _≤_}
 use native.Mathlib.Omega.{arith}
-use borrow.Author.Tests.{leb-true, leb-false, le-leb, lt-leb}
+use borrow.Author.Tests.{leb-true, leb-false, le-leb, lt-leb, not-true}
 use lib.Dec.{leb, ltb, eqb}
 use lib.ListN.{length, getD}
 use Rattle.definitions.specs.Lists.{any, falls}
@@ -14,6 +14,7 @@ use Rattle.definitions.specs.Groups.{Grouping, groupingCall, graphGrouping, lis
 use Rattle.definitions.specs.Text.{isBlank, isDigit, trimmed, isNone, Read, Listing, digits, first, number, neighboursFrom, nodesFrom, textGrouping}
 use Rattle.definitions.specs.declared.Refusal.{Refusal}
 use Rattle.definitions.specs.declared.Refusal.the-variants.{TooLarge, GroupSize, NeighbourOffsets, NoNode, NeighbourOutside, ListTooShort}
+use Rattle.laws.specs.Tests.{both-true}
 use Rattle.grouping_text.specs.Capped.{cap, digitsC, firstC, numberC, neighboursC, nodesC, Asked, askedC, answered}
 
 split {ℓ} : {X : Type ℓ} (b : Bool) → (b ≡ true → X) → (b ≡ false → X) → X
@@ -237,14 +238,6 @@ module _ (n s : ℕ) (offsets nb : List ℕ) (room work : ℕ) where
   unfolding groupingCall ordered
   call-is = refl
 
-not-true : (b : Bool) → not b ≡ true → b ≡ false
-not-true true e = absurd (true≢false (sym e))
-not-true false e = refl
-
-and-second : (a b : Bool) → (a && b) ≡ true → b ≡ true
-and-second true b e = e
-and-second false b e = absurd (true≢false (sym e))
-
 call-agrees : (n s : ℕ) (offsets nb : List ℕ) (room work : ℕ) → n ≤ 256 → groupingCall n (cap s) offsets (map cap nb) room work ≡ groupingCall n s offsets nb room work
 call-agrees n s offsets nb room work h =
     call-is n (cap s) offsets (map cap nb) room work
@@ -252,7 +245,7 @@ call-agrees n s offsets nb room work h =
     (eqb (length offsets) (n + 1) && eqb (getD offsets 0 1) 0 && not (falls offsets) && eqb (getD offsets n 0) (length nb)) (ltb 0 n)
     (not (any (λ w. leb n w) nb)) (leb n room && leb (8 * n + 4 * length nb + 16) work)
     (graphGrouping (listed offsets (map cap nb)) noAnchor n (cap s)) (graphGrouping (listed offsets nb) noAnchor n s)
-    (λ b e. rw (all-small n nb h (not-true (any (λ w. leb n w) nb) e), cap-small s (omega (arith, leb-true s maxGroup (and-second (leb 1 s) (leb s maxGroup) b)))) refl))
+    (λ b e. rw (all-small n nb h (not-true (any (λ w. leb n w) nb) e), cap-small s (omega (arith, leb-true s maxGroup (both-true (leb 1 s) (leb s maxGroup) b .1)))) refl))
     ∙ sym (call-is n s offsets nb room work)
 
 -- the lists before the first node

@@ -1,6 +1,6 @@
 -- A scan that looks at one element a turn: what is left of the list decides.
 use mathlib.Core.Path.{_≡_, refl, ap, sym, _∙_}
-use mathlib.Core.Bool.{Bool, true, false, not, _||_, _&&_, true≢false}
+use mathlib.Core.Bool.{Bool, true, false, not, _&&_, true≢false}
 use mathlib.Core.List.{List, [], _∷_}
 use Prim.Native.Nat.{ℕ, zero, suc, _+_, _-_, _<_, _≤_}
 use native.Mathlib.Numerals.{add-one}
@@ -10,6 +10,7 @@ use lib.ListN.{length, getD, drop}
 use lib.Seq.{drop-cons, drop-length}
 use borrow.Author.Tests.{lt-ltb, le-ltb, ltb-false, leb-false, eq-eqb, ne-eqb}
 use Rattle.definitions.specs.Lists.{any, falls}
+use Rattle.laws.specs.Tests.{both-false}
 
 module _ (f : ℕ → Bool) (xs : List ℕ) (i : ℕ) (h : i < length xs) where
   pub any-found : f (getD xs i 0) ≡ true → any f (drop i xs) ≡ true
@@ -48,24 +49,20 @@ falls-none (x ∷ p) h = absurd (not-zero h)
     not-zero : suc (length p) ≡ 0 → ⊥
     not-zero e = omega arith
 
-or-false : (a b : Bool) → (a || b) ≡ false → (a ≡ false) × (b ≡ false)
-or-false true b e = let z : true ≡ false = e in absurd (true≢false z)
-or-false false b e = (refl, e)
-
 -- a list that does not fall rises everywhere
 pub rises : (p : List ℕ) → falls p ≡ false → (v : ℕ) → suc v < length p → getD p v 0 ≤ getD p (suc v) 0
 unfolding falls
 rises [] e v h = omega arith
 rises (x ∷ []) e v h = omega arith
-rises (x ∷ (y ∷ p)) e zero h = ltb-false y x (or-false (ltb y x) (falls (y ∷ p)) e .0)
-rises (x ∷ (y ∷ p)) e (suc v) h = rises (y ∷ p) (or-false (ltb y x) (falls (y ∷ p)) e .1) v (omega arith)
+rises (x ∷ (y ∷ p)) e zero h = ltb-false y x (both-false (ltb y x) (falls (y ∷ p)) e .0)
+rises (x ∷ (y ∷ p)) e (suc v) h = rises (y ∷ p) (both-false (ltb y x) (falls (y ∷ p)) e .1) v (omega arith)
 
 -- where no element reaches n, each is below it
 pub all-below : (n : ℕ) (xs : List ℕ) → any (λ x. leb n x) xs ≡ false → (k : ℕ) → k < length xs → getD xs k 0 < n
 unfolding any
 all-below n [] e k h = omega arith
-all-below n (x ∷ xs) e zero h = leb-false n x (or-false (leb n x) (any (λ y. leb n y) xs) e .0)
-all-below n (x ∷ xs) e (suc k) h = all-below n xs (or-false (leb n x) (any (λ y. leb n y) xs) e .1) k (omega arith)
+all-below n (x ∷ xs) e zero h = leb-false n x (both-false (leb n x) (any (λ y. leb n y) xs) e .0)
+all-below n (x ∷ xs) e (suc k) h = all-below n xs (both-false (leb n x) (any (λ y. leb n y) xs) e .1) k (omega arith)
 
 -- inside a list the default does not matter
 pub getD-any : (l : List ℕ) (i d e : ℕ) → i < length l → getD l i d ≡ getD l i e
@@ -138,8 +135,3 @@ not-one a b e = rw e
 
 pub not-two : (a b : Bool) → a ≡ true → b ≡ false → (a && b) ≡ false
 not-two a b e f = rw (e, f)
-
-pub two-true : (a b : Bool) → (a && b) ≡ true → (a ≡ true) × (b ≡ true)
-two-true true true e = (refl, refl)
-two-true true false e = absurd (true≢false (sym e))
-two-true false b e = absurd (true≢false (sym e))

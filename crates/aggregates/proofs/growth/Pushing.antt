@@ -4,44 +4,46 @@ use mathlib.Core.List.{List, [], _++_, append-nil}
 use Prim.Native.Nat.{ℕ, suc, _+_, _-_, _≤_, _<_}
 use native.Mathlib.Omega.{arith}
 use native.Mathlib.Numerals.{add-one}
-use lib.ListN.{length, getD, set, take, length-set}
-use lib.Seq.{slice, slice-empty, take-set-le, getD-take}
+use lib.ListN.{length, getD, set, take, drop, length-set}
+use lib.Seq.{slice, slice-empty, take-set-le, drop-set-lt, getD-take}
 use Rattle.definitions.specs.Groups.{free, listed, noAnchor}
 use Rattle.aggregates.proofs.growth.Free.{free-slice-takes, free-slice-skips, free-slice-push}
 
-pub record Pushing (lists : ℕ → List ℕ) (nb w₀ : List ℕ) (nodes from to tail : ℕ) (w : List ℕ) (end i : ℕ) : Type 0 where
+pub record Pushing (lists : ℕ → List ℕ) (nb w₀ : List ℕ) (base nodes from to tail : ℕ) (w : List ℕ) (end i : ℕ) : Type 0 where
   pub upto : i ≤ to
-  pub room : end + (to - i) ≤ length w
+  pub room : end + (to - i) ≤ base
   pub same : length w ≡ length w₀
   pub behind : nodes ≤ end
   pub kept : take nodes w ≡ take nodes w₀
+  pub still : drop base w ≡ drop base w₀
   pub queue : take end w ++ free lists noAnchor (take nodes w₀) (slice i to nb) ≡ take tail w₀ ++ free lists noAnchor (take nodes w₀) (slice from to nb)
   pub count : end + length (free lists noAnchor (take nodes w₀) (slice i to nb)) ≡ tail + length (free lists noAnchor (take nodes w₀) (slice from to nb))
 
-module _ (lists : ℕ → List ℕ) (nb w₀ : List ℕ) (nodes from to tail : ℕ) where
-  pub push-first : from ≤ to → nodes ≤ tail → tail + (to - from) ≤ length w₀ → Pushing lists nb w₀ nodes from to tail w₀ tail from
-  push-first a b r = record { upto = a; room = r; same = refl; behind = b; kept = refl; queue = refl; count = refl }
+module _ (lists : ℕ → List ℕ) (nb w₀ : List ℕ) (base nodes from to tail : ℕ) where
+  pub push-first : from ≤ to → nodes ≤ tail → tail + (to - from) ≤ base → Pushing lists nb w₀ base nodes from to tail w₀ tail from
+  push-first a b r = record { upto = a; room = r; same = refl; behind = b; kept = refl; still = refl; queue = refl; count = refl }
 
-  module _ (w : List ℕ) (end i : ℕ) (inv : Pushing lists nb w₀ nodes from to tail w end i) where
+  module _ (w : List ℕ) (end i : ℕ) (inv : Pushing lists nb w₀ base nodes from to tail w end i) where
     -- the group of a node, as the loop reads it
     read : (u : ℕ) → u < nodes → getD w u 0 ≡ getD (take nodes w₀) u 0
     read u h = sym (getD-take nodes w u 0 h) ∙ ap (λ l. getD l u 0) (inv .kept)
 
-    module _ (h : i < to) (k : to ≤ length nb) (node : getD nb i 0 < nodes) where
-      pub push-takes : getD w (getD nb i 0) 0 ≡ 0 → Pushing lists nb w₀ nodes from to tail (set w end (getD nb i 0)) (end + 1) (i + 1)
+    module _ (fits : base ≤ length w₀) (h : i < to) (k : to ≤ length nb) (node : getD nb i 0 < nodes) where
+      pub push-takes : getD w (getD nb i 0) 0 ≡ 0 → Pushing lists nb w₀ base nodes from to tail (set w end (getD nb i 0)) (end + 1) (i + 1)
       push-takes z =
           let z' : getD (take nodes w₀) (getD nb i 0) 0 ≡ 0 = sym (read (getD nb i 0) node) ∙ z in
           record {
             upto = omega arith;
-            room = simp length-set (omega arith);
+            room = omega arith;
             same = simp length-set (inv .same);
             behind = omega arith;
             kept = take-set-le nodes w end (getD nb i 0) (inv .behind) ∙ inv .kept;
-            queue = free-slice-push lists (take nodes w₀) nb i to h k w end (omega arith) z' ∙ inv .queue;
+            still = drop-set-lt base w end (getD nb i 0) (omega arith) ∙ inv .still;
+            queue = free-slice-push lists (take nodes w₀) nb i to h k w end (omega (arith, inv .same)) z' ∙ inv .queue;
             count = omega (arith, ap length (free-slice-takes lists (take nodes w₀) nb i to h k z'));
           }
 
-      pub push-skips : (getD w (getD nb i 0) 0 ≡ 0 → ⊥) → Pushing lists nb w₀ nodes from to tail w end (i + 1)
+      pub push-skips : (getD w (getD nb i 0) 0 ≡ 0 → ⊥) → Pushing lists nb w₀ base nodes from to tail w end (i + 1)
       push-skips z =
           let skip = free-slice-skips lists (take nodes w₀) nb i to h k (λ e. z (read (getD nb i 0) node ∙ e)) in
           record {
@@ -50,6 +52,7 @@ module _ (lists : ℕ → List ℕ) (nb w₀ : List ℕ) (nodes from to tail : �
             same = inv .same;
             behind = inv .behind;
             kept = inv .kept;
+            still = inv .still;
             queue = rw (← skip) (inv .queue);
             count = rw (← skip) (inv .count);
           }

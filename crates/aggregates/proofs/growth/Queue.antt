@@ -12,8 +12,9 @@ use Rattle.aggregates.specs.Growth.{Pushes}
 use Rattle.aggregates.proofs.growth.Free.{All, all-append, all-free, all-slice, free-short, spare, degree, spare-set, spare-within, offset-within}
 use Rattle.aggregates.proofs.growth.Growing.{grow-full, grow-ends, grow-skips, grow-takes}
 
-pub record Queue (offsets nb : List ℕ) (n : ℕ) (w₀ : List ℕ) (seed g size : ℕ) (w : List ℕ) (head tail room : ℕ) : Type 0 where
+pub record Queue (offsets nb : List ℕ) (base n : ℕ) (w₀ : List ℕ) (seed g size : ℕ) (w : List ℕ) (head tail room : ℕ) : Type 0 where
   pub same : length w ≡ length w₀
+  pub still : drop base w ≡ drop base w₀
   pub behind : n ≤ head
   pub order : head ≤ tail
   pub space : tail + spare (degree offsets) 0 (take n w) ≤ n + (length nb + 1)
@@ -28,12 +29,13 @@ one-waits n w x h = rw (add-one n, take-suc-set w n x h) (drop-at (take n w) (x 
 below-queue : (n : ℕ) (w : List ℕ) (v x head tail : ℕ) → v < n → n ≤ head → head ≤ tail → slice head tail (set w v x) ≡ slice head tail w
 below-queue n w v x head tail h k o = ap (drop head) (take-set-lt tail w v x (omega arith)) ∙ drop-set-lt head (take tail w) v x (omega arith)
 
-module _ (offsets nb : List ℕ) (n : ℕ) (w₀ : List ℕ) (seed g size : ℕ) (ok : Lists n offsets nb) (pos : 0 < g) (big : n + (length nb + 1) ≤ length w₀) where
-  pub queue-first : seed < n → Queue offsets nb n (set w₀ n seed) seed g size (set w₀ n seed) n (n + 1) size
+module _ (offsets nb : List ℕ) (base n : ℕ) (w₀ : List ℕ) (seed g size : ℕ) (ok : Lists n offsets nb) (pos : 0 < g) (big : n + (length nb + 1) ≤ base) (fits : base ≤ length w₀) where
+  pub queue-first : seed < n → Queue offsets nb base n (set w₀ n seed) seed g size (set w₀ n seed) n (n + 1) size
   queue-first h =
       let e = one-waits n w₀ seed (omega arith) in
       record {
         same = refl;
+        still = refl;
         behind = omega arith;
         order = omega arith;
         space = omega (arith, spare-within n offsets nb ok (take n (set w₀ n seed)) (length-take-le n (set w₀ n seed) (simp length-set (omega arith))));
@@ -41,7 +43,7 @@ module _ (offsets nb : List ℕ) (n : ℕ) (w₀ : List ℕ) (seed g size : ℕ)
         goes = ap (λ q. grow (listed offsets nb) noAnchor g size (take n (set w₀ n seed)) q) e;
       }
 
-  module _ (w : List ℕ) (head tail room : ℕ) (inv : Queue offsets nb n w₀ seed g size w head tail room) where
+  module _ (w : List ℕ) (head tail room : ℕ) (inv : Queue offsets nb base n w₀ seed g size w head tail room) where
     pub queue-full : room ≡ 0 → take n w ≡ grow (listed offsets nb) noAnchor g size (take n w₀) (seed ∷ [])
     queue-full z = sym (grow-full (listed offsets nb) g (take n w) (slice head tail w)) ∙ (rw z at (inv .goes))
 
@@ -53,14 +55,15 @@ module _ (offsets nb : List ℕ) (n : ℕ) (w₀ : List ℕ) (seed g size : ℕ)
 
     module _ (h : head < tail) where
       front : slice head tail w ≡ getD w head 0 ∷ slice (head + 1) tail w
-      front = rw add-one (slice-cons head tail w 0 h (omega arith))
+      front = rw add-one (slice-cons head tail w 0 h (omega (arith, inv .same)))
 
       pub next-node : getD w head 0 < n
       next-node = (rw front at (inv .nodes)) .0
 
-      pub queue-skips : (getD w (getD w head 0) 0 ≡ 0 → ⊥) → Queue offsets nb n w₀ seed g size w (head + 1) tail room
+      pub queue-skips : (getD w (getD w head 0) 0 ≡ 0 → ⊥) → Queue offsets nb base n w₀ seed g size w (head + 1) tail room
       queue-skips z = record {
         same = inv .same;
+        still = inv .still;
         behind = omega arith;
         order = omega arith;
         space = inv .space;
@@ -82,28 +85,33 @@ module _ (offsets nb : List ℕ) (n : ℕ) (w₀ : List ℕ) (seed g size : ℕ)
         spent : spare (degree offsets) 0 (take n (set w v g)) + degree offsets v ≡ spare (degree offsets) 0 (take n w)
         spent =
             let zv : 0 + v ≡ v = omega arith in
-            let l : length (take n w) ≡ n = length-take-le n w (omega arith) in
+            let l : length (take n w) ≡ n = length-take-le n w (omega (arith, inv .same)) in
             rw after (rw zv at (spare-set (degree offsets) 0 (take n w) v g (rw l node) free-now pos))
 
-        pub queue-asks : Pushes offsets nb (set w v g) n v tail
+        pub queue-asks : Pushes offsets nb (set w v g) base n v tail
         queue-asks = record {
           node = omega (arith, ok .long, node);
           rises = ok .rises v node;
           ends = offset-within n offsets nb ok (suc v) (omega (arith, node));
           behind = omega arith;
-          room = simp length-set (omega (arith, spent));
+          room = omega (arith, spent);
+          fits = simp length-set (omega (arith, inv .same));
           within = ok .within;
         }
+
+        -- the neighbour lists are as they were
+        pub queue-still : drop base (set w v g) ≡ drop base w₀
+        queue-still = drop-set-lt base w v g (omega (arith, node)) ∙ inv .still
 
         module _ (w' : List ℕ) (end : ℕ) (some : room ≡ 0 → ⊥)
             (new : end ≡ tail + length (free (listed offsets nb) noAnchor (take n (set w v g)) (listed offsets nb v)))
             (queue : take end w' ≡ take tail (set w v g) ++ free (listed offsets nb) noAnchor (take n (set w v g)) (listed offsets nb v))
-            (long : length w' ≡ length (set w v g)) where
+            (long : length w' ≡ length (set w v g)) (lists : drop base w' ≡ drop base (set w v g)) where
           added : List ℕ
           added = free (listed offsets nb) noAnchor (take n (set w v g)) (listed offsets nb v)
 
           tail-fits : tail ≤ length (set w v g)
-          tail-fits = simp length-set (omega arith)
+          tail-fits = simp length-set (omega (arith, inv .same))
 
           ids-kept : take n w' ≡ take n (set w v g)
           unfolding added
@@ -140,9 +148,10 @@ module _ (offsets nb : List ℕ) (n : ℕ) (w₀ : List ℕ) (seed g size : ℕ)
               rw (← r, vis) (rw front at (inv .goes)) in
               rw after (sym (grow-takes (listed offsets nb) g (room - 1) (take n w) v (slice (head + 1) tail w) free-now) ∙ g₁)
 
-          pub queue-takes : Queue offsets nb n w₀ seed g size w' (head + 1) end (room - 1)
+          pub queue-takes : Queue offsets nb base n w₀ seed g size w' (head + 1) end (room - 1)
           queue-takes = record {
             same = long ∙ (simp length-set (inv .same));
+            still = lists ∙ queue-still;
             behind = omega arith;
             order = omega (arith, new-is);
             space = rw ids-kept (omega (arith, spent, few, new-is, inv .space));

@@ -7,12 +7,12 @@ use native.Mathlib.Decide.{ℕ-discrete}
 use lib.ListN.{length, getD, take, drop, length-drop}
 use lib.Seq.{getD-take, take-take, length-take-le}
 use Rattle.definitions.specs.Groups.{groupsOf, nodesOf}
+use Rattle.laws.specs.Lists.{tab-cong}
 use Rattle.aggregates.specs.JoinChoice.{Zeros}
 use Rattle.aggregates.specs.JoinState.{All, Once, Joins, Rep, membersOf, stateOf}
 use Rattle.aggregates.specs.Stops.{all-imp}
 use Rattle.aggregates.proofs.joining.Laws.{all-both}
 use Rattle.aggregates.proofs.joining.Linking.{nodes-takes, nodes-passes, nodes-in}
-use Rattle.aggregates.proofs.joining.Moved.{tab-same}
 
 -- the nodes of a group have that group
 nodes-have : (o v : ℕ) (xs : List ℕ) → All (λ y. (v ≤ y) × (getD xs (y - v) 0 ≡ o)) (nodesOf o v xs)
@@ -34,7 +34,7 @@ nodes-once o v (x ∷ xs) = go (ℕ-discrete x o) (nodes-once o (suc v) xs) (all
     go (yes e) a later = rw (nodes-takes o v x xs e) (later, a)
     go (no d) a later = rw (nodes-passes o v x xs d) a
 
-module _ (n groups : ℕ) (offsets nb w : List ℕ) (asks : Joins n groups offsets nb w) where
+module _ (n groups base : ℕ) (offsets nb w : List ℕ) (asks : Joins n groups base offsets nb w) where
   -- after clearing
   module _ (w₁ : List ℕ) (long₁ : length w₁ ≡ length w) (front : take (3 * n + 1) w₁ ≡ take (3 * n + 1) w) where
     pub ids₁ : take n w₁ ≡ take n w
@@ -54,13 +54,13 @@ module _ (n groups : ℕ) (offsets nb w : List ℕ) (asks : Joins n groups offse
       chains₂ o h = chains o (omega (arith, asks .few)) ∙ ap (nodesOf o 0) (sym same)
 
       nodes₂ : length (take n w₂) ≡ n
-      nodes₂ = length-take-le n w₂ (omega (arith, asks .room, long₁, long₂))
+      nodes₂ = length-take-le n w₂ (omega (arith, asks .room, asks .fits, long₁, long₂))
 
       pub begun-rep : Rep n groups offsets nb (take n w₂) (drop n w₂)
       begun-rep = record {
         nodes = nodes₂;
         lists = asks .lists;
-        room = omega (arith, asks .room, length-drop n w₂, long₁, long₂);
+        room = omega (arith, asks .room, asks .fits, length-drop n w₂, long₁, long₂);
         few = asks .few;
         small = asks .small;
         grouped = λ v h. rw (ids₂, getD-take n w v 0 h) (asks .grouped v h);
@@ -75,4 +75,4 @@ module _ (n groups : ℕ) (offsets nb w : List ℕ) (asks : Joins n groups offse
 
       pub begun-state : stateOf n groups (take n w₂) (drop n w₂) ≡ groupsOf (take n w₂) groups
       unfolding stateOf groupsOf
-      begun-state = let e = tab-same (membersOf n (drop n w₂)) (λ g. nodesOf g 0 (take n w₂)) (suc groups) (λ o h. chains₂ o (omega arith)) in λ i. record { of = take n w₂; members = e i }
+      begun-state = let e = tab-cong (membersOf n (drop n w₂)) (λ g. nodesOf g 0 (take n w₂)) (suc groups) (λ o h. chains₂ o (omega arith)) in λ i. record { of = take n w₂; members = e i }

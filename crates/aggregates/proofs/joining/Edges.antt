@@ -40,23 +40,24 @@ front-kept u w l r e k q long up h =
 abbrev names : ℕ → List ℕ → List ℕ → List ℕ → ℕ → List ℕ → List ℕ
 names n offsets nb w₀ g vs = namedBy (listed offsets nb) g w₀ (at (3 * n + 1) w₀) vs
 
-pub record Gathering (n : ℕ) (offsets nb w₀ : List ℕ) (g : ℕ) (w : List ℕ) (left cur end : ℕ) : Type 0 where
+pub record Gathering (n base : ℕ) (offsets nb w₀ : List ℕ) (g : ℕ) (w : List ℕ) (left cur end : ℕ) : Type 0 where
   pub low : 5 * n + 3 ≤ end
   pub same : length w ≡ length w₀
+  pub still : drop base w ≡ drop base w₀
   pub kept : (k : ℕ) → k < 5 * n + 3 → getD w k 0 ≡ getD w₀ k 0
   pub nodes : All (λ v. v < n) (walk left (drop n w₀) cur)
-  pub room : end + total (degree offsets) (walk left (drop n w₀) cur) ≤ length w
+  pub room : end + total (degree offsets) (walk left (drop n w₀) cur) ≤ base
   pub list : take end w ++ names n offsets nb w₀ g (walk left (drop n w₀) cur) ≡ take (5 * n + 3) w₀ ++ names n offsets nb w₀ g (chainOf n w₀ g)
   pub count : end + length (names n offsets nb w₀ g (walk left (drop n w₀) cur)) ≡ 5 * n + 3 + length (names n offsets nb w₀ g (chainOf n w₀ g))
 
-module _ (n : ℕ) (offsets nb w₀ : List ℕ) (g : ℕ) (ok : Lists n offsets nb) (asks : Gathers n offsets w₀ g) where
-  pub gather-first : Gathering n offsets nb w₀ g w₀ (at (3 * n + 1) w₀ g) (at (2 * n) w₀ g) (5 * n + 3)
-  gather-first = record { low = omega arith; same = refl; kept = λ k l. refl; nodes = asks .nodes; room = asks .room; list = refl; count = refl }
+module _ (n base : ℕ) (offsets nb w₀ : List ℕ) (g : ℕ) (ok : Lists n offsets nb) (asks : Gathers n base offsets w₀ g) where
+  pub gather-first : Gathering n base offsets nb w₀ g w₀ (at (3 * n + 1) w₀ g) (at (2 * n) w₀ g) (5 * n + 3)
+  gather-first = record { low = omega arith; same = refl; still = refl; kept = λ k l. refl; nodes = asks .nodes; room = asks .room; list = refl; count = refl }
 
-  module _ (w : List ℕ) (left cur end : ℕ) (inv : Gathering n offsets nb w₀ g w left cur end) where
+  module _ (w : List ℕ) (left cur end : ℕ) (inv : Gathering n base offsets nb w₀ g w left cur end) where
     pub gather-last : left ≡ 0 → (end ≡ 5 * n + 3 + length (names n offsets nb w₀ g (chainOf n w₀ g))) × ((take end w ≡ take (5 * n + 3) w₀ ++ names n offsets nb w₀ g (chainOf n w₀ g)) × (end ≤ length w₀))
     unfolding walk namedBy
-    gather-last z = (omega (arith, rw z at (inv .count)), (sym (append-nil (take end w)) ∙ rw z at (inv .list), omega (arith, inv .room, inv .same)))
+    gather-last z = (omega (arith, rw z at (inv .count)), (sym (append-nil (take end w)) ∙ rw z at (inv .list), omega (arith, inv .room, asks .fits)))
 
     module _ (some : 0 < left) where
       left-is : left ≡ suc (left - 1)
@@ -69,13 +70,13 @@ module _ (n : ℕ) (offsets nb w₀ : List ℕ) (g : ℕ) (ok : Lists n offsets 
       unfolding walk
       gather-node = nodes' .0
 
-      room' : end + total (degree offsets) (walk (suc (left - 1)) (drop n w₀) cur) ≤ length w
+      room' : end + total (degree offsets) (walk (suc (left - 1)) (drop n w₀) cur) ≤ base
       room' = rw left-is at (inv .room)
 
       -- what `names_of` asks
-      pub gather-asks : (getD offsets cur 0 ≤ getD offsets (cur + 1) 0) × ((getD offsets (cur + 1) 0 ≤ length nb) × (end + (getD offsets (cur + 1) 0 - getD offsets cur 0) ≤ length w))
+      pub gather-asks : (getD offsets cur 0 ≤ getD offsets (cur + 1) 0) × ((getD offsets (cur + 1) 0 ≤ length nb) × ((end + (getD offsets (cur + 1) 0 - getD offsets cur 0) ≤ base) × (base ≤ length w)))
       unfolding walk total
-      gather-asks = rw (add-one cur) (ok .rises cur gather-node, (offset-within n offsets nb ok (suc cur) gather-node, omega (arith, room')))
+      gather-asks = rw (add-one cur) (ok .rises cur gather-node, (offset-within n offsets nb ok (suc cur) gather-node, (omega (arith, room'), omega (arith, inv .same, asks .fits))))
 
       pub gather-reads : Reads (3 * n + 1) end nb w
       gather-reads k h =
@@ -85,7 +86,7 @@ module _ (n : ℕ) (offsets nb w₀ : List ℕ) (g : ℕ) (ok : Lists n offsets 
       module _ (w' : List ℕ) (end' : ℕ)
           (new : end' ≡ end + length (othersBy g w (at (3 * n + 1) w) (slice (getD offsets cur 0) (getD offsets (cur + 1) 0) nb)))
           (queue : take end' w' ≡ take end w ++ othersBy g w (at (3 * n + 1) w) (slice (getD offsets cur 0) (getD offsets (cur + 1) 0) nb))
-          (long : length w' ≡ length w) where
+          (long : length w' ≡ length w) (lists : drop base w' ≡ drop base w) where
         some-names : List ℕ
         some-names = othersBy g w₀ (at (3 * n + 1) w₀) (slice (getD offsets cur 0) (getD offsets (suc cur) 0) nb)
 
@@ -99,12 +100,12 @@ module _ (n : ℕ) (offsets nb w₀ : List ℕ) (g : ℕ) (ok : Lists n offsets 
             (λ k h. let v = ok .within k h in (inv .kept (getD nb k 0) (omega arith), inv .kept (3 * n + 1 + getD w₀ (getD nb k 0) 0) (omega (arith, asks .sizes (getD nb k 0) v))))))
 
         kept' : (k : ℕ) → k < end → getD w' k 0 ≡ getD w k 0
-        kept' k h = front-kept w' w (othersBy g w (at (3 * n + 1) w) (slice (getD offsets cur 0) (getD offsets (cur + 1) 0) nb)) end' end k queue (omega (arith, inv .room)) (omega (arith, new)) h
+        kept' k h = front-kept w' w (othersBy g w (at (3 * n + 1) w) (slice (getD offsets cur 0) (getD offsets (cur + 1) 0) nb)) end' end k queue (omega (arith, inv .room, inv .same, asks .fits)) (omega (arith, new)) h
 
         pub next-is : getD w' (n + cur) 0 ≡ getD (drop n w₀) cur 0
         next-is = kept' (n + cur) (omega (arith, inv .low, gather-node)) ∙ inv .kept (n + cur) (omega (arith, gather-node)) ∙ sym (getD-drop n w₀ cur 0)
 
-        pub gather-step : Gathering n offsets nb w₀ g w' (left - 1) (getD w' (n + cur) 0) end'
+        pub gather-step : Gathering n base offsets nb w₀ g w' (left - 1) (getD w' (n + cur) 0) end'
         unfolding walk total namedBy listed some-names
         gather-step =
             let e : end' ≡ end + length some-names = rw alike at new in
@@ -116,6 +117,7 @@ module _ (n : ℕ) (offsets nb w₀ : List ℕ) (g : ℕ) (ok : Lists n offsets 
             rw next-is (record {
               low = omega (arith, inv .low);
               same = long ∙ inv .same;
+              still = lists ∙ inv .still;
               kept = λ k l. kept' k (omega (arith, inv .low)) ∙ inv .kept k l;
               nodes = nodes' .1;
               room = omega (arith, room');

@@ -1,13 +1,13 @@
 -- The loop of `link`.
 use mathlib.Core.Path.{_≡_, refl, ap, sym, _∙_}
 use mathlib.Core.List.{List, [], _∷_}
-use Prim.Native.Nat.{ℕ, suc, _+_, _-_, _*_, _≤_, _<_}
+use Prim.Native.Nat.{ℕ, suc, _+_, _*_, _≤_, _<_}
 use native.Mathlib.Omega.{arith}
 use native.Mathlib.Numerals.{add-one}
 use native.Mathlib.Decide.{ℕ-discrete}
 use borrow.Author.Tests.{eq-eqb, ne-eqb}
 use lib.ListN.{length, getD, set, take, drop, length-set, length-drop}
-use lib.Seq.{drop-cons, drop-length, getD-set-same, getD-set-other, getD-drop, getD-take, length-take-le}
+use lib.Seq.{drop-cons, drop-length, getD-set-same, getD-set-other, getD-drop, getD-take, length-take-le, ext-getD}
 use Rattle.definitions.specs.Groups.{nodesOf}
 use Rattle.aggregates.specs.JoinChoice.{at, Zeros}
 use Rattle.aggregates.specs.JoinState.{All, walk, membersOf}
@@ -164,5 +164,12 @@ module _ (n : ℕ) (w₀ : List ℕ) (long : 5 * n + 3 ≤ length w₀) (low : (
               (link-step n (take n w₀) (drop n w₀) nodes room low' (drop n w) v (inv .back) u o is-u (is-o ∙ links-group u h));
         }
 
-  pub links-last : (w : List ℕ) → Zeros (3 * n + 1) (5 * n + 3) w₀ → Links n w₀ w 0 → (take n w ≡ take n w₀) × (((o : ℕ) → o ≤ n → membersOf n (drop n w) o ≡ nodesOf o 0 (take n w₀)) × Zeros (3 * n + 2) (4 * n + 3) (drop n w))
-  links-last w z inv = (inv .front, (inv .back .chains, λ k l m. inv .back .kept k l ∙ (rw (getD-drop n w₀ k 0) (z (n + k) (omega arith) (omega arith)))))
+  -- behind the counts nothing is stored
+  links-behind : (w : List ℕ) → Links n w₀ w 0 → drop (5 * n + 3) w ≡ drop (5 * n + 3) w₀
+  links-behind w inv = ext-getD 0 (drop (5 * n + 3) w) (drop (5 * n + 3) w₀) (omega (arith, length-drop (5 * n + 3) w, length-drop (5 * n + 3) w₀, inv .same)) (λ i h.
+      let e : 5 * n + 3 + i ≡ n + (4 * n + 3 + i) = omega arith in
+      getD-drop (5 * n + 3) w i 0 ∙ ap (λ k. getD w k 0) e ∙ sym (getD-drop n w (4 * n + 3 + i) 0) ∙ inv .back .kept (4 * n + 3 + i) (omega arith)
+      ∙ getD-drop n w₀ (4 * n + 3 + i) 0 ∙ ap (λ k. getD w₀ k 0) (sym e) ∙ sym (getD-drop (5 * n + 3) w₀ i 0))
+
+  pub links-last : (w : List ℕ) → Zeros (3 * n + 1) (5 * n + 3) w₀ → Links n w₀ w 0 → (take n w ≡ take n w₀) × (((o : ℕ) → o ≤ n → membersOf n (drop n w) o ≡ nodesOf o 0 (take n w₀)) × (Zeros (3 * n + 2) (4 * n + 3) (drop n w) × (drop (5 * n + 3) w ≡ drop (5 * n + 3) w₀)))
+  links-last w z inv = (inv .front, (inv .back .chains, (λ k l m. inv .back .kept k l ∙ (rw (getD-drop n w₀ k 0) (z (n + k) (omega arith) (omega arith))), links-behind w inv)))

@@ -1,16 +1,17 @@
 -- What `move_group` does to the groups that the lists stand for: it is the definition's `joined`.
 use mathlib.Core.Path.{_≡_, refl, ap, sym, _∙_}
 use mathlib.Core.List.{List, [], _∷_, _++_}
-use Prim.Native.Nat.{ℕ, zero, suc, _+_, _-_, _*_, _≤_, _<_}
+use Prim.Native.Nat.{ℕ, suc, _+_, _-_, _*_, _≤_, _<_}
 use native.Mathlib.Omega.{arith}
 use native.Mathlib.Decide.{ℕ-discrete}
 use lib.ListN.{length, getD, set, length-set}
 use lib.Seq.{getD-set-same, getD-set-other, ext-getD}
 use Rattle.definitions.specs.Lists.{tab}
 use Rattle.definitions.specs.Groups.{Joining, relabelled, joined}
+use Rattle.laws.specs.Lists.{getD-tab, length-tab}
 use Rattle.aggregates.specs.JoinChoice.{at}
 use Rattle.aggregates.specs.JoinState.{All, Once, walk, hop, membersOf, stateOf, moved, Rep}
-use Rattle.aggregates.specs.Stops.{all-append, all-imp, length-tab}
+use Rattle.aggregates.specs.Stops.{all-append, all-imp}
 use Rattle.aggregates.proofs.joining.Laws.{all-both}
 use Rattle.aggregates.proofs.joining.Counting.{after-set}
 use Rattle.aggregates.proofs.joining.Chains.{walk-same, walk-suc, splice, once-append}
@@ -35,17 +36,6 @@ relabel-in : (b : ℕ) (vs ids : List ℕ) → All (λ v. v < length ids) vs →
 unfolding relabelled
 relabel-in b [] ids a = tt
 relabel-in b (v ∷ vs) ids a = (relabel-keeps (λ x. x ≡ b) b vs (set ids v b) v (rw length-set (a .1)) refl (getD-set-same ids v b 0 (a .0)), relabel-in b vs (set ids v b) (rw length-set (a .1)))
-
-pub getD-tab : (f : ℕ → List ℕ) (n i : ℕ) → i < n → getD (tab f n) i [] ≡ f i
-unfolding tab
-getD-tab f zero i h = absurd (omega arith)
-getD-tab f (suc n) zero h = refl
-getD-tab f (suc n) (suc i) h = getD-tab (λ k. f (suc k)) n i (omega arith)
-
-pub tab-same : (f g : ℕ → List ℕ) (n : ℕ) → ((i : ℕ) → i < n → f i ≡ g i) → tab f n ≡ tab g n
-unfolding tab
-tab-same f g zero e = refl
-tab-same f g (suc n) e = rw (e 0 (omega arith), tab-same (λ k. f (suc k)) (λ k. g (suc k)) n (λ i h. e (suc i) (omega arith))) refl
 
 all-last : (P : ℕ → Type 0) (l : List ℕ) (x : ℕ) → All P (l ++ (x ∷ [])) → P x
 all-last P [] x a = a .0
@@ -151,8 +141,8 @@ module _ (n groups : ℕ) (offsets nb ids w : List ℕ) (rep : Rep n groups offs
   unfolding stateOf joined
   moved-state j is =
       let M = tab (membersOf n w) (suc groups) in
-      let at-g : getD M g [] ≡ membersOf n w g = getD-tab (membersOf n w) (suc groups) g (omega arith) in
-      let at-b : getD M b [] ≡ membersOf n w b = getD-tab (membersOf n w) (suc groups) b (omega arith) in
+      let at-g : getD M g [] ≡ membersOf n w g = getD-tab (membersOf n w) (suc groups) g [] (omega arith) in
+      let at-b : getD M b [] ≡ membersOf n w b = getD-tab (membersOf n w) (suc groups) b [] (omega arith) in
       let lists : tab (membersOf n w') (suc groups) ≡ set (set M b (getD M g [] ++ getD M b [])) g [] =
       rw (at-g, at-b) (ext-getD [] (tab (membersOf n w') (suc groups)) (set (set M b (membersOf n w g ++ membersOf n w b)) g [])
       (length-tab (membersOf n w') (suc groups) ∙ sym (simp length-set (length-tab (membersOf n w) (suc groups))))
@@ -164,7 +154,7 @@ module _ (n groups : ℕ) (offsets nb ids w : List ℕ) (rep : Rep n groups offs
       each i h =
           let M = tab (membersOf n w) (suc groups) in
           let M1 = set M b (membersOf n w g ++ membersOf n w b) in
-          go i h M M1 (getD-tab (membersOf n w') (suc groups) i h) (getD-tab (membersOf n w) (suc groups) i h) (length-tab (membersOf n w) (suc groups)) refl (ℕ-discrete i g) (ℕ-discrete i b)
+          go i h M M1 (getD-tab (membersOf n w') (suc groups) i [] h) (getD-tab (membersOf n w) (suc groups) i [] h) (length-tab (membersOf n w) (suc groups)) refl (ℕ-discrete i g) (ℕ-discrete i b)
         where
           go : (i : ℕ) → i < suc groups → (M M1 : List (List ℕ)) → getD (tab (membersOf n w') (suc groups)) i [] ≡ membersOf n w' i → getD M i [] ≡ membersOf n w i → length M ≡ suc groups →
               M1 ≡ set M b (membersOf n w g ++ membersOf n w b) → Dec (i ≡ g) → Dec (i ≡ b) → getD (tab (membersOf n w') (suc groups)) i [] ≡ getD (set M1 g []) i []

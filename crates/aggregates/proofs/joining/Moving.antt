@@ -4,7 +4,7 @@ use mathlib.Core.List.{List}
 use Prim.Native.Nat.{ℕ, suc, _+_, _-_, _*_, _≤_, _<_}
 use native.Mathlib.Omega.{arith}
 use lib.ListN.{length, getD, set, take, drop, length-set}
-use lib.Seq.{length-take-le, getD-set-other, getD-drop, drop-set-lt, take-set-lt}
+use lib.Seq.{length-take-le, getD-set-other, getD-drop, drop-drop, drop-set-lt, take-set-lt}
 use Rattle.definitions.specs.Groups.{relabelled}
 use Rattle.aggregates.specs.JoinChoice.{at}
 use Rattle.aggregates.specs.JoinState.{All, Moves, chainOf, hop, moved, walk}
@@ -84,6 +84,22 @@ module _ (nodes first n b : ℕ) (w₀ : List ℕ) (long : nodes ≤ length w₀
 module _ (n : ℕ) (w : List ℕ) (g b : ℕ) where
   pub move-last : Moves n w g b → hop (at (3 * n + 1) w g - 1) (drop n w) (at (2 * n) w g) < n
   move-last asks = hop-low (λ v. v < n) (at (3 * n + 1) w g) (drop n w) (at (2 * n) w g) (asks .some) (asks .nodes)
+
+  -- they lie before the names
+  pub move-still : (base : ℕ) (w₂ : List ℕ) → Moves n w g b → 5 * n + 3 ≤ base → drop n w₂ ≡ moved n g b (drop n w) → drop base w₂ ≡ drop base w
+  unfolding moved
+  move-still base w₂ asks h e =
+      let k = base - n in
+      let q : n + k ≡ base = omega arith in
+      let v = drop n w in
+      let last : hop (at (2 * n + 1) v g - 1) v (at n v g) < n = rw (counts-are n w g, heads-are n w g) at (move-last asks) in
+      let v₁ = set v (hop (at (2 * n + 1) v g - 1) v (at n v g)) (at n v b) in
+      let v₂ = set v₁ (n + b) (at n v g) in
+      let v₃ = set v₂ (2 * n + 1 + b) (at (2 * n + 1) v g + at (2 * n + 1) v b) in
+      let m : drop k (set v₃ (2 * n + 1 + g) 0) ≡ drop k v =
+      drop-set-lt k v₃ (2 * n + 1 + g) 0 (omega (arith, asks .own)) ∙ drop-set-lt k v₂ (2 * n + 1 + b) (at (2 * n + 1) v g + at (2 * n + 1) v b) (omega (arith, asks .own))
+      ∙ drop-set-lt k v₁ (n + b) (at n v g) (omega (arith, asks .own)) ∙ drop-set-lt k v (hop (at (2 * n + 1) v g - 1) v (at n v g)) (at n v b) (omega arith) in
+      ap (λ x. drop x w₂) (sym q) ∙ sym (drop-drop k n w₂) ∙ ap (drop k) e ∙ m ∙ drop-drop k n w ∙ ap (λ x. drop x w) q
 
   module _ (u : List ℕ) where
     abbrev last : ℕ

@@ -6,8 +6,9 @@ use native.Mathlib.Numerals.{add-one}
 use native.Mathlib.Omega.{arith}
 use lib.ListN.{length, take, drop, length-append}
 use Rattle.definitions.specs.Groups.{Groups, Joining, groupsOf, listed, noAnchor, takerOf, replay, roundFrom, joiningsFrom}
+use Rattle.laws.specs.Lists.{length-tab}
 use Rattle.aggregates.specs.JoinState.{Rep, joinedIds, membersOf, stateOf, turnOf}
-use Rattle.aggregates.specs.Stops.{alive, alive-most, length-tab, replay-append, round-lowers, round-stays, round-joins, rounds-end, rounds-go}
+use Rattle.aggregates.specs.Stops.{alive, alive-most, replay-append, round-lowers, round-stays, round-joins, rounds-end, rounds-go}
 use Rattle.aggregates.proofs.joining.Turns.{turn-stays, turn-joins, turn-small}
 use Rattle.aggregates.proofs.joining.Whole.{Turned, stateIn}
 
@@ -25,11 +26,12 @@ no-joining [] e = refl
 no-joining (j ∷ js) e = absurd (omega arith)
 
 -- within a round that began with the list w₀
-pub record InRound (n groups : ℕ) (offsets nb w₀ : List ℕ) (floor : ℕ) (w : List ℕ) (joins g : ℕ) : Type 0 where
+pub record InRound (n groups base : ℕ) (offsets nb w₀ : List ℕ) (floor : ℕ) (w : List ℕ) (joins g : ℕ) : Type 0 where
   pub lo : 1 ≤ g
   pub hi : g ≤ suc groups
   pub few : joins < g
   pub same : length w ≡ length w₀
+  pub still : drop base w ≡ drop base w₀
   pub rep : Rep n groups offsets nb (take n w) (drop n w)
   pub made : List Joining
   pub count : joins ≡ length made
@@ -37,8 +39,9 @@ pub record InRound (n groups : ℕ) (offsets nb w₀ : List ℕ) (floor : ℕ) (
   pub goes : made ++ roundFrom (listed offsets nb) noAnchor floor (suc groups - g) g (stateIn n groups w) ≡ roundFrom (listed offsets nb) noAnchor floor groups 1 (stateIn n groups w₀)
 
 -- between rounds, of which the first began with the list w₀
-pub record Between (n groups : ℕ) (offsets nb w₀ : List ℕ) (floor : ℕ) (w : List ℕ) : Type 0 where
+pub record Between (n groups base : ℕ) (offsets nb w₀ : List ℕ) (floor : ℕ) (w : List ℕ) : Type 0 where
   pub same : length w ≡ length w₀
+  pub still : drop base w ≡ drop base w₀
   pub rep : Rep n groups offsets nb (take n w) (drop n w)
   pub fuel : ℕ
   pub enough : alive (stateIn n groups w .members) ≤ fuel
@@ -46,11 +49,12 @@ pub record Between (n groups : ℕ) (offsets nb w₀ : List ℕ) (floor : ℕ) (
   pub state : stateIn n groups w ≡ replay made (stateIn n groups w₀)
   pub goes : made ++ joiningsFrom (listed offsets nb) noAnchor floor groups fuel (stateIn n groups w) ≡ joiningsFrom (listed offsets nb) noAnchor floor groups (suc groups) (stateIn n groups w₀)
 
-module _ (n groups : ℕ) (offsets nb w₀ : List ℕ) (floor : ℕ) where
-  pub first-round : Rep n groups offsets nb (take n w₀) (drop n w₀) → Between n groups offsets nb w₀ floor w₀
+module _ (n groups base : ℕ) (offsets nb w₀ : List ℕ) (floor : ℕ) where
+  pub first-round : Rep n groups offsets nb (take n w₀) (drop n w₀) → Between n groups base offsets nb w₀ floor w₀
   unfolding stateOf replay
   first-round r = record {
     same = refl;
+    still = refl;
     rep = r;
     fuel = suc groups;
     enough = omega (arith, alive-most (stateIn n groups w₀ .members), length-tab (membersOf n (drop n w₀)) (suc groups));
@@ -59,13 +63,14 @@ module _ (n groups : ℕ) (offsets nb w₀ : List ℕ) (floor : ℕ) where
     goes = refl;
   }
 
-  pub first-turn : Rep n groups offsets nb (take n w₀) (drop n w₀) → InRound n groups offsets nb w₀ floor w₀ 0 1
+  pub first-turn : Rep n groups offsets nb (take n w₀) (drop n w₀) → InRound n groups base offsets nb w₀ floor w₀ 0 1
   unfolding replay
   first-turn r = let e : suc groups - 1 ≡ groups = omega arith in record {
     lo = omega arith;
     hi = omega arith;
     few = omega arith;
     same = refl;
+    still = refl;
     rep = r;
     made = [];
     count = refl;
@@ -73,8 +78,8 @@ module _ (n groups : ℕ) (offsets nb w₀ : List ℕ) (floor : ℕ) where
     goes = rw e refl;
   }
 
-  pub next-turn : (w w' : List ℕ) (joins g r : ℕ) → InRound n groups offsets nb w₀ floor w joins g → g ≤ groups → Turned n groups offsets nb floor g w w' r → length w' ≡ length w → InRound n groups offsets nb w₀ floor w' (joins + r) (g + 1)
-  next-turn w w' joins g r inv h t long =
+  pub next-turn : (w w' : List ℕ) (joins g r : ℕ) → InRound n groups base offsets nb w₀ floor w joins g → g ≤ groups → Turned n groups offsets nb floor g w w' r → length w' ≡ length w → drop base w' ≡ drop base w → InRound n groups base offsets nb w₀ floor w' (joins + r) (g + 1)
+  next-turn w w' joins g r inv h t long lists =
       let js = turnOf (listed offsets nb) floor (stateIn n groups w) g in
       let left : suc groups - g ≡ suc (suc groups - suc g) = omega arith in
       let begun : inv .made ++ roundFrom (listed offsets nb) noAnchor floor (suc (suc groups - suc g)) g (stateIn n groups w) ≡ roundFrom (listed offsets nb) noAnchor floor groups 1 (stateIn n groups w₀) = rw left at (inv .goes) in
@@ -83,6 +88,7 @@ module _ (n groups : ℕ) (offsets nb w₀ : List ℕ) (floor : ℕ) where
         hi = omega arith;
         few = omega (arith, t .0, turn-small (listed offsets nb) floor (stateIn n groups w) g, inv .few);
         same = long ∙ inv .same;
+        still = lists ∙ inv .still;
         rep = t .1 .1;
         made = inv .made ++ js;
         count = omega (arith, inv .count, t .0, length-append (inv .made) js);
@@ -93,7 +99,7 @@ module _ (n groups : ℕ) (offsets nb w₀ : List ℕ) (floor : ℕ) where
       }
 
   -- what a whole round did
-  module _ (w w' : List ℕ) (joins g : ℕ) (out : Between n groups offsets nb w₀ floor w) (inv : InRound n groups offsets nb w floor w' joins g) (over : groups < g) where
+  module _ (w w' : List ℕ) (joins g : ℕ) (out : Between n groups base offsets nb w₀ floor w) (inv : InRound n groups base offsets nb w floor w' joins g) (over : groups < g) where
     whole : inv .made ≡ roundFrom (listed offsets nb) noAnchor floor groups 1 (stateIn n groups w)
     unfolding roundFrom
     whole = let none : suc groups - g ≡ 0 = omega (arith, inv .hi) in sym (append-nil (inv .made)) ∙ (rw none at (inv .goes))
@@ -106,7 +112,7 @@ module _ (n groups : ℕ) (offsets nb w₀ : List ℕ) (floor : ℕ) where
     pub round-less : (joins ≡ 0 → ⊥) → alive (stateIn n groups w' .members) < alive (stateIn n groups w .members)
     round-less z = omega (arith, lowers)
 
-    pub next-round : (joins ≡ 0 → ⊥) → Between n groups offsets nb w₀ floor w'
+    pub next-round : (joins ≡ 0 → ⊥) → Between n groups base offsets nb w₀ floor w'
     next-round z =
         let js = inv .made in
         let f : out .fuel ≡ suc (out .fuel - 1) = omega (arith, lowers, out .enough) in
@@ -114,6 +120,7 @@ module _ (n groups : ℕ) (offsets nb w₀ : List ℕ) (floor : ℕ) where
         let begun : out .made ++ joiningsFrom (listed offsets nb) noAnchor floor groups (suc (out .fuel - 1)) (stateIn n groups w) ≡ joiningsFrom (listed offsets nb) noAnchor floor groups (suc groups) (stateIn n groups w₀) = rw f at (out .goes) in
         record {
           same = inv .same ∙ out .same;
+          still = inv .still ∙ out .still;
           rep = inv .rep;
           fuel = out .fuel - 1;
           enough = omega (arith, lowers, out .enough);

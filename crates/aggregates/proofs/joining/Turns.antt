@@ -9,15 +9,16 @@ use lib.Dec.{eqb}
 use lib.ListN.{length, getD, length-append, replicate, length-replicate, getD-replicate}
 use lib.Seq.{slice, length-slice}
 use Rattle.definitions.specs.Groups.{Groups, Joining, nodesIn, sizeIn, edgesTo, chosen, named, listed, noAnchor, takerOf}
+use Rattle.laws.specs.Tests.{both-false}
+use Rattle.laws.specs.Lists.{getD-tab, tab-cong}
 use Rattle.aggregates.specs.JoinChoice.{at, othersBy, namedBy, named-is}
 use Rattle.aggregates.specs.JoinState.{All, Once, walk, total, moved, membersOf, stateOf, turnOf, Rep}
-use Rattle.aggregates.specs.Stops.{Other, all-append, all-imp, by-test, chosen-keeps, or-false}
+use Rattle.aggregates.specs.Stops.{Other, all-append, all-imp, by-test, chosen-keeps}
 use Rattle.aggregates.proofs.joining.Laws.{spare, degree, spare-within, all-part, offset-within}
 use Rattle.aggregates.proofs.joining.Together.{chosen-cong}
 use Rattle.aggregates.proofs.joining.Counting.{better-keeps}
 use Rattle.aggregates.proofs.joining.Chains.{walk-same, length-walk, total-within, once-append}
 use Rattle.aggregates.proofs.joining.Edges.{others-cong, others-short}
-use Rattle.aggregates.proofs.joining.Moved.{getD-tab, tab-same}
 
 module _ (lists : ℕ → List ℕ) (floor : ℕ) (s : Groups) (g : ℕ) where
   pub turn-stays : takerOf lists noAnchor floor s g ≡ 0 → turnOf lists floor s g ≡ []
@@ -71,7 +72,7 @@ others-ok g ids sizes P (w ∷ ws) a =
     by-test (eqb o g || eqb (sizes o) 0)
     (λ e. rw (othersBy, e) (others-ok g ids sizes P ws (a .1)))
     (λ e.
-    let z = or-false (eqb o g) (eqb (sizes o) 0) e in
+    let z = both-false (eqb o g) (eqb (sizes o) 0) e in
     rw (othersBy, e) ((a .0, (omega (arith, eqb-false (sizes o) 0 (z .1)), eqb-false o g (z .0))), others-ok g ids sizes P ws (a .1)))
 
 module _ (lists : ℕ → List ℕ) (g : ℕ) where
@@ -95,7 +96,7 @@ module _ (n groups : ℕ) (offsets nb ids w : List ℕ) (rep : Rep n groups offs
 
   members-are : (o : ℕ) → o ≤ groups → nodesIn S o ≡ membersOf n w o
   unfolding stateOf
-  members-are o h = getD-tab (membersOf n w) (suc groups) o (omega arith)
+  members-are o h = getD-tab (membersOf n w) (suc groups) o [] (omega arith)
 
   size-is : (o : ℕ) → o ≤ groups → sizeIn S o ≡ at (2 * n + 1) w o
   unfolding membersOf
@@ -197,7 +198,7 @@ module _ (n groups : ℕ) (offsets nb ids w w₁ : List ℕ) (rep : Rep n groups
 
   pub state-still : stateOf n groups ids w₁ ≡ stateOf n groups ids w
   unfolding stateOf
-  state-still = let e = tab-same (membersOf n w₁) (membersOf n w) (suc groups) (λ o h. chain-still o (omega arith)) in λ i. record { of = ids; members = e i }
+  state-still = let e = tab-cong (membersOf n w₁) (membersOf n w) (suc groups) (λ o h. chain-still o (omega arith)) in λ i. record { of = ids; members = e i }
 
   pub rep-still : Rep n groups offsets nb ids w₁
   rep-still = record {

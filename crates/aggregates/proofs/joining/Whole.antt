@@ -46,12 +46,13 @@ module _ (n groups : ℕ) (offsets nb w : List ℕ) (rep : Rep n groups offsets 
     group-low : (v : ℕ) → v < n → getD w v 0 ≤ groups
     group-low v h = rw (getD-take n w v 0 h) at (rep .grouped v h)
 
-    pub asks-gather : Gathers n offsets w g
-    asks-gather = record {
+    pub asks-gather : (base : ℕ) → 5 * n + length nb + 3 ≤ base → base ≤ length w → Gathers n base offsets w g
+    asks-gather base inside fits = record {
       own = omega (arith, rep .few);
       sizes = λ v h. omega (arith, group-low v h, rep .few);
       nodes = rw (chain-is n w g) (low-members n groups offsets nb (take n w) (drop n w) rep g hg);
-      room = rw (chain-is n w g) (omega (arith, room, edges-within n groups offsets nb (take n w) (drop n w) rep g hg));
+      room = rw (chain-is n w g) (omega (arith, edges-within n groups offsets nb (take n w) (drop n w) rep g hg));
+      fits = fits;
     }
 
     abbrev named : List ℕ

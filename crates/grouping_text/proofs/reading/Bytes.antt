@@ -1,6 +1,6 @@
 -- Bytes, and a text one byte further.
-use mathlib.Core.Path.{_≡_, refl, sym}
-use mathlib.Core.Bool.{Bool, true, false, _&&_, true≢false}
+use mathlib.Core.Path.{_≡_}
+use mathlib.Core.Bool.{true, false}
 use mathlib.Core.List.{List, [], _∷_}
 use Prim.Native.Nat.{ℕ, _+_, _-_, _*_, _≤_, _<_}
 use native.Mathlib.Numerals.{add-one}
@@ -12,6 +12,7 @@ use lib.Seq.{drop-cons}
 use Rattle.definitions.specs.Refusal.{refused, done}
 use Rattle.definitions.specs.Text.{isBlank, isDigit, trimmed}
 use Rattle.definitions.specs.declared.Refusal.the-variants.{NeighbourOffsets}
+use Rattle.laws.specs.Tests.{both-true}
 use Rattle.grouping_text.specs.Capped.{cap, digitsC, firstC, numberC}
 
 module _ (b : ℕ) where
@@ -39,14 +40,9 @@ module _ (b : ℕ) where
   unfolding isDigit
   digit-is h = rw (le-leb 48 b h)
 
-and-both : (a b : Bool) → (a && b) ≡ true → (a ≡ true) × (b ≡ true)
-and-both true true e = (refl, refl)
-and-both true false e = absurd (true≢false (sym e))
-and-both false b e = absurd (true≢false (sym e))
-
 pub digit-range : (b : ℕ) → isDigit b ≡ true → (48 ≤ b) × (b ≤ 57)
 unfolding isDigit
-digit-range b e = let p = and-both (leb 48 b) (leb b 57) e in (leb-true 48 b (p .0), leb-true b 57 (p .1))
+digit-range b e = let p = both-true (leb 48 b) (leb b 57) e in (leb-true 48 b (p .0), leb-true b 57 (p .1))
 
 pub text-over : (text : List ℕ) (i : ℕ) → length text ≤ i → drop i text ≡ []
 text-over text i h = drop-of-length-le text {i = i} h

@@ -1,104 +1,84 @@
--- `check` makes the tests of the call in their order.
-use mathlib.Core.Path.{_≡_, ap, sym, _∙_}
-use mathlib.Core.Bool.{true, not}
-use Prim.Native.Nat.{_+_, _*_}
+-- `check`: the neighbour lists, then the room.
+use mathlib.Core.Path.{_≡_, sym, _∙_}
+use Prim.Native.Nat.{_+_, _*_, _≤_}
 use native.Mathlib.Omega.{arith}
-use lib.Dec.{ltb}
 use lib.ListN.{length}
-use borrow.Author.Tests.{le-leb, lt-leb, lt-ltb, le-ltb}
+use borrow.Author.Tests.{le-leb, lt-leb}
 use Rattle.definitions.specs.Matrix.{maxRows, maxEntries}
-use Rattle.definitions.specs.Groups.{maxGroup}
+use Rattle.definitions.specs.Groups.{graphGrouping, listed, noAnchor}
+use Rattle.definitions.specs.Answers.{answerOf}
+use Rattle.definitions.specs.declared.Answer.the-variants.{Accepted}
+use Rattle.aggregates.specs.Within.{listsCall}
 use Rattle.aggregates.proofs.checks.Scan.{both, not-one, not-two}
-use Rattle.aggregates.proofs.checks.Order.{large, sized, proper, inside, first-1, first-11, first-27, first-16, first-28, first-13, none-found}
+use Rattle.aggregates.proofs.checks.Order.{roomy, call-is, room-refused, room-short, room-enough, accepted-few}
 use borrow.Author.Needs.{needs}
 use Rattle.aggregates.proofs.checks.check.Statement.{statement}
 use Rattle.aggregates.proofs.checks.check.Tie as tie
 use Rattle.aggregates.proofs.checks.check.Reads as reads
 use Rattle.aggregates.proofs.checks.check.Lts as lts
-use Rattle.aggregates.proofs.checks.neighbour_outside.Reads as neighbour-outside-reads
-use Rattle.aggregates.proofs.checks.offsets_fit.Reads as offsets-fit-reads
+use Rattle.aggregates.proofs.checks.check_lists.Reads as check-lists-reads
 
--- what is known where a test has passed
-large-ok : (c : tie.Else2) → large (c .before .before .before .before .args .nodes) (c .before .before .before .before .args .size) (c .before .before .before .before .args .offsets .now) (c .before .before .before .before .args .neighbours .now) (c .before .before .before .before .args .room) (c .before .before .before .before .args .work) ≡ true
-large-ok c = let a = c .before .before .before .before .args in both _ _ (le-leb (a .nodes) maxRows (c .before .if1 .left)) (le-leb (length (a .neighbours .now)) maxEntries (c .if2 .left))
+check-lists-requires : tie.Need-check-lists-requires
+check-lists-requires c κs = search needs
 
-sized-ok : (c : tie.Else4) → sized (c .before .before .before .before .before .before .args .nodes) (c .before .before .before .before .before .before .args .size) (c .before .before .before .before .before .before .args .offsets .now) (c .before .before .before .before .before .before .args .neighbours .now) (c .before .before .before .before .before .before .args .room) (c .before .before .before .before .before .before .args .work) ≡ true
-sized-ok c = let a = c .before .before .before .before .before .before .args in both _ _ (le-leb 1 (a .size) (omega (arith, c .before .if3 .left))) (le-leb (a .size) maxGroup (c .if4 .left))
+enum-known-lists : tie.Need-enum-known-lists
+enum-known-lists c = search needs
 
-proper-ok : (c : tie.Then5) → proper (c .before .before .before .before .before .before .before .before .args .nodes) (c .before .before .before .before .before .before .before .before .args .size) (c .before .before .before .before .before .before .before .before .args .offsets .now) (c .before .before .before .before .before .before .before .before .args .neighbours .now) (c .before .before .before .before .before .before .before .before .args .room) (c .before .before .before .before .before .before .before .before .args .work) ≡ true
-proper-ok c = let a = c .before .before .before .before .before .before .before .before .args in sym (c .before .offsets-fit .ensures) ∙ c .if5 .taken
+enum-told : tie.Need-enum-told
+enum-told c = search needs
 
-some-ok : (c : tie.Else6) → ltb 0 (c .before .before .before .before .before .before .before .before .before .args .nodes) ≡ true
-some-ok c = let a = c .before .before .before .before .before .before .before .before .before .args in lt-ltb 0 (a .nodes) (omega (arith, c .if6 .left))
+-- the lists have passed
+listed-ok : (c : tie.After-enum-told) → Accepted ≡ answerOf (listsCall (c .before .before .before .before .before .args .nodes) (c .before .before .before .before .before .args .size) (c .before .before .before .before .before .args .offsets .now) (c .before .before .before .before .before .args .neighbours .now))
+listed-ok c = sym (c .enum-told .given .1) ∙ c .before .before .check-lists .ensures
 
-inside-ok : (c : tie.Else7) → inside (c .before .before .before .before .before .before .before .before .before .before .before .args .nodes) (c .before .before .before .before .before .before .before .before .before .before .before .args .size) (c .before .before .before .before .before .before .before .before .before .before .before .args .offsets .now) (c .before .before .before .before .before .before .before .before .before .before .before .args .neighbours .now) (c .before .before .before .before .before .before .before .before .before .before .before .args .room) (c .before .before .before .before .before .before .before .before .before .before .before .args .work) ≡ true
-inside-ok c = let a = c .before .before .before .before .before .before .before .before .before .before .before .args in ap not (sym (c .before .neighbour-outside .ensures) ∙ c .if7 .left)
+few : (c : tie.After-enum-told) → (c .before .before .before .before .before .args .nodes ≤ maxRows) × (length (c .before .before .before .before .before .args .neighbours .now) ≤ maxEntries)
+few c = let a = c .before .before .before .before .before .args in accepted-few (a .nodes) (a .size) (a .offsets .now) (a .neighbours .now) (listed-ok c)
 
 returns : tie.Need-returns
-returns c = let a = c .before .before .before .args in first-1 (a .nodes) (a .size) (a .offsets .now) (a .neighbours .now) (a .room) (a .work) (not-one _ _ (lt-leb (a .nodes) maxRows (c .if1 .taken)))
+returns c =
+    let a = c .before .before .before .before .before .before .args in
+    rw (call-is (a .nodes) (a .size) (a .offsets .now) (a .neighbours .now) (a .room) (a .work)) (room-short (listsCall (a .nodes) (a .size) (a .offsets .now) (a .neighbours .now)) (roomy (a .nodes) (a .size) (a .offsets .now) (a .neighbours .now) (a .room) (a .work)) (graphGrouping (listed (a .offsets .now) (a .neighbours .now)) noAnchor (a .nodes) (a .size)) (listed-ok (c .before)) (not-one _ _ (lt-leb (a .nodes) (a .room) (c .if1 .taken))))
+
+mul-if2 : tie.Need-mul-if2
+mul-if2 c = omega (arith, few (c .before))
+
+mul-if2-2 : tie.Need-mul-if2-2
+mul-if2-2 c = omega (arith, few (c .before))
+
+add-if2 : tie.Need-add-if2
+add-if2 c = omega (arith, few (c .before))
+
+add-if2-2 : tie.Need-add-if2-2
+add-if2-2 c = omega (arith, few (c .before))
 
 returns-2 : tie.Need-returns-2
-returns-2 c = let a = c .before .before .before .before .args in first-1 (a .nodes) (a .size) (a .offsets .now) (a .neighbours .now) (a .room) (a .work) (not-two _ _ (le-leb (a .nodes) maxRows (c .before .if1 .left)) (lt-leb (length (a .neighbours .now)) maxEntries (c .if2 .taken)))
+returns-2 c =
+    let a = c .before .before .before .before .before .before .before .args in
+    rw (call-is (a .nodes) (a .size) (a .offsets .now) (a .neighbours .now) (a .room) (a .work)) (room-short (listsCall (a .nodes) (a .size) (a .offsets .now) (a .neighbours .now)) (roomy (a .nodes) (a .size) (a .offsets .now) (a .neighbours .now) (a .room) (a .work)) (graphGrouping (listed (a .offsets .now) (a .neighbours .now)) noAnchor (a .nodes) (a .size)) (listed-ok (c .before .before)) (not-two _ _ (le-leb (a .nodes) (a .room) (c .before .if1 .left)) (lt-leb (8 * a .nodes + 4 * length (a .neighbours .now) + 16) (a .work) (c .if2 .taken))))
 
 returns-3 : tie.Need-returns-3
-returns-3 c = let a = c .before .before .before .before .before .args in first-11 (a .nodes) (a .size) (a .offsets .now) (a .neighbours .now) (a .room) (a .work) (large-ok (c .before)) (not-one _ _ (lt-leb 1 (a .size) (omega (arith, c .if3 .taken))))
+returns-3 c =
+    let a = c .before .before .before .before .before .before .args in
+    let k = c .before .before .before .check-lists in
+    rw (call-is (a .nodes) (a .size) (a .offsets .now) (a .neighbours .now) (a .room) (a .work)) (room-refused (listsCall (a .nodes) (a .size) (a .offsets .now) (a .neighbours .now)) (roomy (a .nodes) (a .size) (a .offsets .now) (a .neighbours .now) (a .room) (a .work)) (graphGrouping (listed (a .offsets .now) (a .neighbours .now)) noAnchor (a .nodes) (a .size)) (c .before .lists .given .0 .0) (sym (c .before .lists .given .1) ∙ k .ensures))
 
 returns-4 : tie.Need-returns-4
-returns-4 c = let a = c .before .before .before .before .before .before .args in first-11 (a .nodes) (a .size) (a .offsets .now) (a .neighbours .now) (a .room) (a .work) (large-ok (c .before .before)) (not-two _ _ (le-leb 1 (a .size) (omega (arith, c .before .if3 .left))) (lt-leb (a .size) maxGroup (c .if4 .taken)))
-
-offsets-fit-requires : tie.Need-offsets-fit-requires
-offsets-fit-requires c κs = search needs
-
-returns-5 : tie.Need-returns-5
-returns-5 c = let a = c .before .before .before .before .before .before .before .before .args in first-27 (a .nodes) (a .size) (a .offsets .now) (a .neighbours .now) (a .room) (a .work) (large-ok (c .before .before .before .before)) (sized-ok (c .before .before)) (sym (c .before .offsets-fit .ensures) ∙ c .if5 .left)
-
-returns-6 : tie.Need-returns-6
-returns-6 c = let a = c .before .before .before .before .before .before .before .before .before .args in first-16 (a .nodes) (a .size) (a .offsets .now) (a .neighbours .now) (a .room) (a .work) (large-ok (c .before .before .before .before .before)) (sized-ok (c .before .before .before)) (proper-ok (c .before)) (le-ltb 0 (a .nodes) (omega (arith, c .if6 .taken)))
-
-neighbour-outside-requires : tie.Need-neighbour-outside-requires
-neighbour-outside-requires c κs = search needs
-
-returns-7 : tie.Need-returns-7
-returns-7 c = let a = c .before .before .before .before .before .before .before .before .before .before .before .args in first-28 (a .nodes) (a .size) (a .offsets .now) (a .neighbours .now) (a .room) (a .work) (large-ok (c .before .before .before .before .before .before .before)) (sized-ok (c .before .before .before .before .before)) (proper-ok (c .before .before .before)) (some-ok (c .before .before)) (ap not (sym (c .before .neighbour-outside .ensures) ∙ c .if7 .taken))
-
-returns-8 : tie.Need-returns-8
-returns-8 c = let a = c .before .before .before .before .before .before .before .before .before .before .before .before .args in first-13 (a .nodes) (a .size) (a .offsets .now) (a .neighbours .now) (a .room) (a .work) (large-ok (c .before .before .before .before .before .before .before .before)) (sized-ok (c .before .before .before .before .before .before)) (proper-ok (c .before .before .before .before)) (some-ok (c .before .before .before)) (inside-ok (c .before)) (not-one _ _ (lt-leb (a .nodes) (a .room) (c .if8 .taken)))
-
-mul-if9 : tie.Need-mul-if9
-mul-if9 c = search needs
-
-mul-if9-2 : tie.Need-mul-if9-2
-mul-if9-2 c = search needs
-
-add-if9 : tie.Need-add-if9
-add-if9 c = search needs
-
-add-if9-2 : tie.Need-add-if9-2
-add-if9-2 c = search needs
-
-returns-9 : tie.Need-returns-9
-returns-9 c = let a = c .before .before .before .before .before .before .before .before .before .before .before .before .before .args in first-13 (a .nodes) (a .size) (a .offsets .now) (a .neighbours .now) (a .room) (a .work) (large-ok (c .before .before .before .before .before .before .before .before .before)) (sized-ok (c .before .before .before .before .before .before .before)) (proper-ok (c .before .before .before .before .before)) (some-ok (c .before .before .before .before)) (inside-ok (c .before .before)) (not-two _ _ (le-leb (a .nodes) (a .room) (c .before .if8 .left)) (lt-leb (8 * a .nodes + 4 * length (a .neighbours .now) + 16) (a .work) (c .if9 .taken)))
-
-returns-10 : tie.Need-returns-10
-returns-10 c = let a = c .before .before .before .before .before .before .before .before .before .before .before .before .before .args in none-found (a .nodes) (a .size) (a .offsets .now) (a .neighbours .now) (a .room) (a .work) (large-ok (c .before .before .before .before .before .before .before .before .before)) (sized-ok (c .before .before .before .before .before .before .before)) (proper-ok (c .before .before .before .before .before)) (some-ok (c .before .before .before .before)) (inside-ok (c .before .before)) (both _ _ (le-leb (a .nodes) (a .room) (c .before .if8 .left)) (le-leb (8 * a .nodes + 4 * length (a .neighbours .now) + 16) (a .work) (c .if9 .left)))
+returns-4 c =
+    let a = c .before .before .before .before .before .before .before .args in
+    rw (call-is (a .nodes) (a .size) (a .offsets .now) (a .neighbours .now) (a .room) (a .work)) (room-enough (listsCall (a .nodes) (a .size) (a .offsets .now) (a .neighbours .now)) (roomy (a .nodes) (a .size) (a .offsets .now) (a .neighbours .now) (a .room) (a .work)) (graphGrouping (listed (a .offsets .now) (a .neighbours .now)) noAnchor (a .nodes) (a .size)) (listed-ok (c .before .before)) (both _ _ (le-leb (a .nodes) (a .room) (c .before .if1 .left)) (le-leb (8 * a .nodes + 4 * length (a .neighbours .now) + 16) (a .work) (c .if2 .left))))
 
 pub check-spec : {M : Type 1} → statement M
 check-spec =
     tie.close
     (tie.spec
+    check-lists-requires
+    enum-known-lists
+    enum-told
     returns
+    mul-if2
+    mul-if2-2
+    add-if2
+    add-if2-2
     returns-2
     returns-3
-    returns-4
-    offsets-fit-requires
-    returns-5
-    returns-6
-    neighbour-outside-requires
-    returns-7
-    returns-8
-    mul-if9
-    mul-if9-2
-    add-if9
-    add-if9-2
-    returns-9
-    returns-10)
+    returns-4)

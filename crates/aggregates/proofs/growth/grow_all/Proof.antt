@@ -1,7 +1,14 @@
 -- `grow_all` goes through the nodes.
+use mathlib.Core.Path.{_≡_, sym}
+use mathlib.Core.List.{[], _∷_}
 use mathlib.Core.Logic.{⊎-elim}
-use Prim.Native.Nat.{_-_}
+use Prim.Native.Nat.{_+_, _-_, _≤_}
 use native.Mathlib.Omega.{arith}
+use lib.ListN.{length, take}
+use Rattle.definitions.specs.Groups.{grow, listed, noAnchor}
+use Rattle.aggregates.specs.Lists.{Lists}
+use Rattle.aggregates.specs.Stored.{offsetsAt, neighboursAt}
+use Rattle.aggregates.proofs.stored.Elements.{base-fits, lists-still}
 use Rattle.aggregates.proofs.growth.Seeding.{Seeding, seed-first, seed-passes, seed-grows, seed-last}
 use borrow.Author.Needs.{needs}
 use Rattle.aggregates.proofs.growth.grow_all.Statement.{statement}
@@ -11,21 +18,25 @@ use Rattle.aggregates.proofs.growth.grow_all.Lts as lts
 use Rattle.aggregates.proofs.growth.grow_group.Reads as grow-group-reads
 
 abbrev Inv-loop : tie.InvT-loop
-Inv-loop offsets neighbours w₀ nodes size g₀ v₀ w g v = Seeding offsets neighbours nodes w₀ size w g v
+Inv-loop w₀ base nodes size g₀ v₀ w g v = Seeding (offsetsAt base nodes w₀) (neighboursAt base nodes w₀) base nodes w₀ size w g v
 
 abbrev μ-loop : tie.MeasureT-loop
-μ-loop offsets neighbours w₀ nodes size g₀ v₀ w g v = nodes - v
+μ-loop w₀ base nodes size g₀ v₀ w g v = nodes - v
 
 loop-holds : tie.Need-loop-holds Inv-loop μ-loop
 loop-holds c =
-    let a = c .before .before .before .args in
-    seed-first (a .offsets .now) (a .neighbours .now) (a .nodes) (a .w .now) (a .size)
+    let a = c .before .args in
+    seed-first (offsetsAt (a .base) (a .nodes) (a .w .now)) (neighboursAt (a .base) (a .nodes) (a .w .now)) (a .base) (a .nodes) (a .w .now) (a .size)
+
+-- all below `base` is within the list
+fits : (c : tie.At-loop Inv-loop μ-loop) → c .before .before .args .base ≤ length (c .loop .w)
+fits c = let s = c .before .before in let a = s .args in omega (arith, c .loop .inv .same, base-fits (a .base) (a .nodes) (a .w .now) (s .pre .0))
 
 mul-if1 : tie.Need-mul-if1 Inv-loop μ-loop
-mul-if1 c = search needs
+mul-if1 c = omega (arith, fits (c .before), c .before .before .before .pre .1 .0)
 
 slice-read-if1 : tie.Need-slice-read-if1 Inv-loop μ-loop
-slice-read-if1 c = search needs
+slice-read-if1 c = omega (arith, fits (c .before .before), c .before .before .before .before .pre .1 .0)
 
 add-g : tie.Need-add-g Inv-loop μ-loop
 add-g c = search needs
@@ -35,9 +46,13 @@ cast-grow-group c = search needs
 
 grow-group-requires : tie.Need-grow-group-requires Inv-loop μ-loop
 grow-group-requires c κs =
-    let s = c .before .before .before .before .before .before .before .before in
+    let s = c .before .before .before .before .before .before in
+    let a = s .args in
     let l = c .before .before .before .before .loop in
-    (s .pre .0, omega (arith, l .inv .same, s .pre .1 .0))
+    let still = l .inv .still in (
+      lists-still (a .base) (a .nodes) (l .w) (a .w .now) still (λ o n. Lists (a .nodes) o n) (s .pre .0),
+      (omega arith, (omega arith, lists-still (a .base) (a .nodes) (l .w) (a .w .now) still (λ o n. a .nodes + (length n + 1) ≤ a .base) (s .pre .1 .0 .1))),
+    )
 
 add-v : tie.Need-add-v Inv-loop μ-loop
 add-v c = search needs
@@ -47,12 +62,15 @@ loop-less c = omega arith
 
 loop-again : tie.Need-loop-again Inv-loop μ-loop
 loop-again c =
-    let s = c .before .before .before .before .before .before .before in
+    let s = c .before .before .before .before .before in
     let a = s .args in
     let l = c .before .before .before .loop in
     ⊎-elim
-    (λ x. rw (x .5, x .6) (seed-grows (a .offsets .now) (a .neighbours .now) (a .nodes) (a .w .now) (a .size) (l .w) (l .g) (l .v) (l .inv) (omega arith) (x .2 .last .1 .1 .0) (x .0 .taken) (x .2 .ensures) (x .2 .kept .1 .1 .0)))
-    (λ x. rw (x .1, x .2) (seed-passes (a .offsets .now) (a .neighbours .now) (a .nodes) (a .w .now) (a .size) (l .w) (l .g) (l .v) (l .inv) (omega arith) (x .0 .left)))
+    (λ x.
+    let f = x .2 in
+    let grows = lists-still (a .base) (a .nodes) (a .w .now) (l .w) (sym (l .inv .still)) (λ o n. take (a .nodes) (f .last .0) ≡ grow (listed o n) noAnchor (l .g + 1) (a .size) (take (a .nodes) (l .w)) (l .v ∷ [])) (f .ensures .0) in
+    rw (x .5, x .6) (seed-grows (offsetsAt (a .base) (a .nodes) (a .w .now)) (neighboursAt (a .base) (a .nodes) (a .w .now)) (a .base) (a .nodes) (a .w .now) (a .size) (l .w) (l .g) (l .v) (l .inv) (omega arith) (f .last .0) (x .0 .taken) grows (f .kept .0) (f .ensures .1)))
+    (λ x. rw (x .1, x .2) (seed-passes (offsetsAt (a .base) (a .nodes) (a .w .now)) (neighboursAt (a .base) (a .nodes) (a .w .now)) (a .base) (a .nodes) (a .w .now) (a .size) (l .w) (l .g) (l .v) (l .inv) (omega arith) (x .0 .left)))
     (c .if1 .came)
 
 same-length : tie.Need-same-length Inv-loop μ-loop
@@ -60,10 +78,10 @@ same-length c = c .before .loop .inv .same
 
 returns : tie.Need-returns Inv-loop μ-loop
 returns c =
-    let s = c .before .before .before .before .before in
+    let s = c .before .before .before in
     let a = s .args in
     let l = c .before .loop in
-    (seed-last (a .offsets .now) (a .neighbours .now) (a .nodes) (a .w .now) (a .size) (l .w) (l .g) (l .v) (l .inv) (omega arith) (s .pre .1 .1), omega (arith, l .inv .few, l .inv .upto))
+    (seed-last (offsetsAt (a .base) (a .nodes) (a .w .now)) (neighboursAt (a .base) (a .nodes) (a .w .now)) (a .base) (a .nodes) (a .w .now) (a .size) (l .w) (l .g) (l .v) (l .inv) (omega arith) (s .pre .1 .1), (omega (arith, l .inv .few, l .inv .upto), l .inv .still))
 
 pub grow-all-spec : {M : Type 1} → statement M
 grow-all-spec =

@@ -1,78 +1,118 @@
 -- `join_rounds`: rounds until one joins nothing. The measure of the rounds is the number of groups that have members.
-use mathlib.Core.Path.{_∙_}
-use Prim.Native.Nat.{suc, _-_}
+use mathlib.Core.Path.{_≡_, sym, _∙_}
+use Prim.Native.Nat.{suc, _+_, _-_, _*_, _≤_}
 use native.Mathlib.Omega.{arith}
-use Rattle.definitions.specs.Groups.{listed}
+use lib.ListN.{length, take, drop}
+use Rattle.aggregates.specs.JoinState.{Rep}
+use Rattle.aggregates.specs.Stored.{offsetsAt, neighboursAt, listsAt}
+use Rattle.aggregates.proofs.stored.Elements.{lists-still}
 use Rattle.aggregates.specs.Stops.{alive}
 use Rattle.aggregates.proofs.joining.Turns.{turn-small}
-use Rattle.aggregates.proofs.joining.Whole.{stateIn}
+use Rattle.aggregates.proofs.joining.Whole.{stateIn, Turned}
 use Rattle.aggregates.proofs.joining.Rounds.{InRound, Between, first-round, first-turn, next-turn, round-less, next-round, last-round}
 use Rattle.aggregates.proofs.joining.join_rounds.Statement.{statement}
 use Rattle.aggregates.proofs.joining.join_rounds.Tie as tie
 
 abbrev Inv-loop : tie.InvT-loop
-Inv-loop offsets neighbours w₀ nodes groups floor joins₀ g₀ w joins g = InRound nodes groups offsets neighbours w₀ floor w joins g
+Inv-loop w₀ base nodes groups floor joins₀ g₀ w joins g = InRound nodes groups base (offsetsAt base nodes w₀) (neighboursAt base nodes w₀) w₀ floor w joins g
 
 abbrev μ-loop : tie.MeasureT-loop
-μ-loop offsets neighbours w₀ nodes groups floor joins₀ g₀ w joins g = suc groups - g
+μ-loop w₀ base nodes groups floor joins₀ g₀ w joins g = suc groups - g
 
 abbrev Inv-rounds : tie.InvT-rounds
-Inv-rounds offsets neighbours w₀ nodes groups floor w = Between nodes groups offsets neighbours w₀ floor w
+Inv-rounds w₀ base nodes groups floor w = Between nodes groups base (offsetsAt base nodes w₀) (neighboursAt base nodes w₀) w₀ floor w
 
 abbrev μ-rounds : tie.MeasureT-rounds
-μ-rounds offsets neighbours w₀ nodes groups floor w = alive (stateIn nodes groups w .members)
+μ-rounds w₀ base nodes groups floor w = alive (stateIn nodes groups w .members)
 
 rounds-holds : tie.Need-rounds-holds Inv-loop μ-loop Inv-rounds μ-rounds
-rounds-holds c = let a = c .before .before .before .args in first-round (a .nodes) (a .groups) (a .offsets .now) (a .neighbours .now) (a .w .now) (a .floor) (c .before .before .before .pre .0)
+rounds-holds c = let a = c .before .args in first-round (a .nodes) (a .groups) (a .base) (offsetsAt (a .base) (a .nodes) (a .w .now)) (neighboursAt (a .base) (a .nodes) (a .w .now)) (a .w .now) (a .floor) (c .before .pre .0)
 
 loop-holds : tie.Need-loop-holds Inv-loop μ-loop Inv-rounds μ-rounds
-loop-holds c = let a = c .before .before .before .before .args in first-turn (a .nodes) (a .groups) (a .offsets .now) (a .neighbours .now) (c .rounds .w) (a .floor) (c .rounds .inv .rep)
+loop-holds c =
+    let a = c .before .before .args in
+    let r = c .rounds in
+    first-turn (a .nodes) (a .groups) (a .base) (offsetsAt (a .base) (a .nodes) (r .w)) (neighboursAt (a .base) (a .nodes) (r .w)) (r .w) (a .floor)
+    (lists-still (a .base) (a .nodes) (r .w) (a .w .now) (r .inv .still) (λ o n. Rep (a .nodes) (a .groups) o n (take (a .nodes) (r .w)) (drop (a .nodes) (r .w))) (r .inv .rep))
+
+-- the neighbour lists are as they were when the rounds began
+still : (c : tie.At-loop Inv-loop μ-loop Inv-rounds μ-rounds) → drop (c .before .before .before .args .base) (c .loop .w) ≡ drop (c .before .before .before .args .base) (c .before .before .before .args .w .now)
+still c = c .loop .inv .still ∙ c .before .rounds .inv .still
 
 join-one-requires : tie.Need-join-one-requires Inv-loop μ-loop Inv-rounds μ-rounds
-join-one-requires c κs = (c .before .before .loop .inv .rep, omega arith)
+join-one-requires c κs =
+    let s = c .before .before .before .before .before in
+    let a = s .args in
+    let l = c .before .before .loop in
+    let r = c .before .before .before .rounds in (
+      lists-still (a .base) (a .nodes) (l .w) (r .w) (l .inv .still) (λ o n. Rep (a .nodes) (a .groups) o n (take (a .nodes) (l .w)) (drop (a .nodes) (l .w))) (l .inv .rep),
+      (omega arith, lists-still (a .base) (a .nodes) (l .w) (a .w .now) (still (c .before .before)) (λ o n. 5 * a .nodes + length n + 3 ≤ a .base) (s .pre .1 .0)),
+    )
+
+-- a turn, by the lists as they were when the round began
+turned : (c : tie.After-join-one Inv-loop μ-loop Inv-rounds μ-rounds) →
+    Turned (c .before .before .before .before .before .before .args .nodes) (c .before .before .before .before .before .before .args .groups) (offsetsAt (c .before .before .before .before .before .before .args .base) (c .before .before .before .before .before .before .args .nodes) (c .before .before .before .before .rounds .w)) (neighboursAt (c .before .before .before .before .before .before .args .base) (c .before .before .before .before .before .before .args .nodes) (c .before .before .before .before .rounds .w)) (c .before .before .before .before .before .before .args .floor) (c .before .before .before .loop .g) (c .before .before .before .loop .w) (c .join-one .last .0) (c .join-one .result)
+turned c =
+    let a = c .before .before .before .before .before .before .args in
+    let l = c .before .before .before .loop in
+    let r = c .before .before .before .before .rounds in
+    let j = c .join-one in
+    lists-still (a .base) (a .nodes) (r .w) (l .w) (sym (l .inv .still)) (λ o n. Turned (a .nodes) (a .groups) o n (a .floor) (l .g) (l .w) (j .last .0) (j .result)) (j .ensures .0, (j .ensures .1 .0, j .ensures .1 .1 .0))
 
 add-joins : tie.Need-add-joins Inv-loop μ-loop Inv-rounds μ-rounds
 add-joins c =
-    let a = c .before .before .before .before .before .before .before .before .before .before .args in
+    let s = c .before .before .before .before .before .before .before .before in
+    let a = s .args in
     let l = c .before .before .before .before .before .loop in
-    omega (arith, c .before .before .join-one .ensures .0, turn-small (listed (a .offsets .now) (a .neighbours .now)) (a .floor) (stateIn (a .nodes) (a .groups) (l .w)) (l .g), l .inv .few, l .inv .hi, c .before .before .before .before .before .before .before .before .before .before .pre .0 .few, c .before .before .before .before .before .before .before .before .before .before .pre .0 .small)
+    let r = c .before .before .before .before .before .before .rounds in
+    omega (arith, turned (c .before .before) .0, turn-small (listsAt (a .base) (a .nodes) (r .w)) (a .floor) (stateIn (a .nodes) (a .groups) (l .w)) (l .g), l .inv .few, l .inv .hi, s .pre .0 .few, s .pre .0 .small)
 
 add-g : tie.Need-add-g Inv-loop μ-loop Inv-rounds μ-rounds
-add-g c = omega (arith, c .before .before .before .before .before .loop .inv .hi, c .before .before .before .before .before .before .before .before .before .before .pre .0 .few, c .before .before .before .before .before .before .before .before .before .before .pre .0 .small)
+add-g c = omega (arith, c .before .before .before .before .before .loop .inv .hi, c .before .before .before .before .before .before .before .before .pre .0 .few, c .before .before .before .before .before .before .before .before .pre .0 .small)
 
 loop-less : tie.Need-loop-less Inv-loop μ-loop Inv-rounds μ-rounds
 loop-less c = omega arith
 
 loop-again : tie.Need-loop-again Inv-loop μ-loop Inv-rounds μ-rounds
 loop-again c =
-    let a = c .before .before .before .before .before .before .before .before .before .before .args in
+    let a = c .before .before .before .before .before .before .before .before .args in
     let l = c .before .before .before .before .before .loop in
+    let r = c .before .before .before .before .before .before .rounds in
     let j = c .before .before .join-one in
-    next-turn (a .nodes) (a .groups) (a .offsets .now) (a .neighbours .now) (c .before .before .before .before .before .before .rounds .w) (a .floor) (l .w) (j .last .1 .1 .0) (l .joins) (l .g) (j .result) (l .inv) (omega arith) (j .ensures) (j .kept .1 .1 .0)
+    next-turn (a .nodes) (a .groups) (a .base) (offsetsAt (a .base) (a .nodes) (r .w)) (neighboursAt (a .base) (a .nodes) (r .w)) (r .w) (a .floor) (l .w) (j .last .0) (l .joins) (l .g) (j .result) (l .inv) (omega arith) (turned (c .before .before)) (j .kept .0) (j .ensures .1 .1 .1)
+
+-- the round, by the lists as they were when the rounds began
+round : (c : tie.At-loop Inv-loop μ-loop Inv-rounds μ-rounds) →
+    InRound (c .before .before .before .args .nodes) (c .before .before .before .args .groups) (c .before .before .before .args .base) (offsetsAt (c .before .before .before .args .base) (c .before .before .before .args .nodes) (c .before .before .before .args .w .now)) (neighboursAt (c .before .before .before .args .base) (c .before .before .before .args .nodes) (c .before .before .before .args .w .now)) (c .before .rounds .w) (c .before .before .before .args .floor) (c .loop .w) (c .loop .joins) (c .loop .g)
+round c =
+    let a = c .before .before .before .args in
+    let l = c .loop in
+    let r = c .before .rounds in
+    lists-still (a .base) (a .nodes) (a .w .now) (r .w) (sym (r .inv .still)) (λ o n. InRound (a .nodes) (a .groups) (a .base) o n (r .w) (a .floor) (l .w) (l .joins) (l .g)) (l .inv)
 
 rounds-less : tie.Need-rounds-less Inv-loop μ-loop Inv-rounds μ-rounds
 rounds-less c =
-    let a = c .before .before .before .before .before .before .before .args in
+    let a = c .before .before .before .before .before .args in
     let l = c .before .before .loop in
     let r = c .before .before .before .rounds in
-    round-less (a .nodes) (a .groups) (a .offsets .now) (a .neighbours .now) (a .w .now) (a .floor) (r .w) (l .w) (l .joins) (l .g) (r .inv) (l .inv) (omega arith) (λ z. omega (arith, c .if1 .left))
+    round-less (a .nodes) (a .groups) (a .base) (offsetsAt (a .base) (a .nodes) (a .w .now)) (neighboursAt (a .base) (a .nodes) (a .w .now)) (a .w .now) (a .floor) (r .w) (l .w) (l .joins) (l .g) (r .inv) (round (c .before .before)) (omega arith) (λ z. omega (arith, c .if1 .left))
 
 rounds-again : tie.Need-rounds-again Inv-loop μ-loop Inv-rounds μ-rounds
 rounds-again c =
-    let a = c .before .before .before .before .before .before .before .args in
+    let a = c .before .before .before .before .before .args in
     let l = c .before .before .loop in
     let r = c .before .before .before .rounds in
-    next-round (a .nodes) (a .groups) (a .offsets .now) (a .neighbours .now) (a .w .now) (a .floor) (r .w) (l .w) (l .joins) (l .g) (r .inv) (l .inv) (omega arith) (λ z. omega (arith, c .if1 .left))
+    next-round (a .nodes) (a .groups) (a .base) (offsetsAt (a .base) (a .nodes) (a .w .now)) (neighboursAt (a .base) (a .nodes) (a .w .now)) (a .w .now) (a .floor) (r .w) (l .w) (l .joins) (l .g) (r .inv) (round (c .before .before)) (omega arith) (λ z. omega (arith, c .if1 .left))
 
 same-length : tie.Need-same-length Inv-loop μ-loop Inv-rounds μ-rounds
 same-length c = c .before .before .loop .inv .same ∙ c .before .before .before .rounds .inv .same
 
 returns : tie.Need-returns Inv-loop μ-loop Inv-rounds μ-rounds
 returns c =
-    let a = c .before .before .before .before .before .before .before .args in
+    let a = c .before .before .before .before .before .args in
     let l = c .before .before .loop in
     let r = c .before .before .before .rounds in
-    last-round (a .nodes) (a .groups) (a .offsets .now) (a .neighbours .now) (a .w .now) (a .floor) (r .w) (l .w) (l .joins) (l .g) (r .inv) (l .inv) (omega arith) (omega (arith, c .if1 .taken)) (c .before .before .before .before .before .before .before .pre .1)
+    last-round (a .nodes) (a .groups) (a .base) (offsetsAt (a .base) (a .nodes) (a .w .now)) (neighboursAt (a .base) (a .nodes) (a .w .now)) (a .w .now) (a .floor) (r .w) (l .w) (l .joins) (l .g) (r .inv) (round (c .before .before)) (omega arith) (omega (arith, c .if1 .taken)) (c .before .before .before .before .before .pre .1 .1)
 
 pub join-rounds-spec : {M : Type 1} → statement M
 join-rounds-spec =

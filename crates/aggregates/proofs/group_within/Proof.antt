@@ -1,0 +1,64 @@
+-- `group_within`: the checks, then the stages.
+use mathlib.Core.Path.{sym, _∙_}
+use Rattle.definitions.specs.Groups.{graphGrouping, noAnchor}
+use Rattle.aggregates.specs.Stored.{listsAt}
+use Rattle.aggregates.specs.Within.{withinCall}
+use Rattle.aggregates.proofs.checks.Order.{within-call, within-fits}
+use Rattle.aggregates.proofs.Answered.{refused-answer, refused-left, accepted-answer, accepted-left}
+use borrow.Author.Needs.{needs}
+use Rattle.aggregates.proofs.group_within.Statement.{statement}
+use Rattle.aggregates.proofs.group_within.Tie as tie
+use Rattle.aggregates.proofs.group_within.Reads as reads
+use Rattle.aggregates.proofs.group_within.Lts as lts
+use Rattle.aggregates.proofs.build.Reads as build-reads
+use Rattle.aggregates.proofs.checks.check_within.Reads as check-within-reads
+
+check-within-requires : tie.Need-check-within-requires
+check-within-requires c κs = search needs
+
+enum-known-answer : tie.Need-enum-known-answer
+enum-known-answer c = search needs
+
+enum-told : tie.Need-enum-told
+enum-told c = search needs
+
+build-requires : tie.Need-build-requires
+build-requires c κs =
+    let a = c .before .before .before .before .before .before .args in
+    within-fits (a .nodes) (a .size) (a .base) (a .work .now) (sym (c .before .enum-told .given .1) ∙ c .before .before .before .check-within .ensures)
+
+returns : tie.Need-returns
+returns c =
+    let a = c .before .before .before .before .before .before .args in
+    let k = c .before .before .before .check-within in
+    let r = c .before .answer .given .0 .0 in
+    let e = c .before .answer .given .1 in
+    (refused-answer (withinCall (a .nodes) (a .size) (a .base) (a .work .now)) (k .result) r (k .ensures) e, refused-left (withinCall (a .nodes) (a .size) (a .base) (a .work .now)) (k .result) r (k .ensures) e (a .work .now))
+
+same-length : tie.Need-same-length
+same-length c = search needs
+
+same-length-2 : tie.Need-same-length-2
+same-length-2 c = search needs
+
+returns-2 : tie.Need-returns-2
+returns-2 c =
+    let a = c .before .before .before .before .before .before .before .before .before .args in
+    let k = c .before .before .before .before .before .before .check-within in
+    let f = c .before .before .build in
+    let call = within-call (a .nodes) (a .size) (a .base) (a .work .now) (sym (c .before .before .before .before .enum-told .given .1) ∙ k .ensures) in
+    let g = (graphGrouping (listsAt (a .base) (a .nodes) (a .work .now)) noAnchor (a .nodes) (a .size)) in
+    (accepted-answer (withinCall (a .nodes) (a .size) (a .base) (a .work .now)) g call (f .result) (f .ensures .0), accepted-left (withinCall (a .nodes) (a .size) (a .base) (a .work .now)) g call (a .work .now) (f .last .1 .1 .1 .0) (f .ensures .1 .0))
+
+pub group-within-spec : {M : Type 1} → statement M
+group-within-spec =
+    tie.close
+    (tie.spec
+    check-within-requires
+    enum-known-answer
+    enum-told
+    build-requires
+    same-length
+    returns
+    same-length-2
+    returns-2)
