@@ -5,17 +5,17 @@ use mathlib.Core.List.{List, [], _∷_, _++_, flatMap, append-assoc}
 use Prim.Native.Nat.{ℕ, zero, suc, _+_, _-_, _*_, _<_, _≤_}
 use native.Mathlib.Omega.{arith}
 use lib.Dec.{T, leb, eqb}
-use lib.ListN.{length, getD, length-append, List·getD-append}
-use lib.Seq.{take-at, slice}
+use lib.ListN.{length, getD, drop, length-append, List·getD-append}
+use lib.Seq.{take-at, drop-at, slice}
 use borrow.Author.Tests.{le-leb, lt-ltb, eq-eqb}
-use Rattle.definitions.specs.Lists.{part, pointersFrom, joinedLists, any, falls}
+use Rattle.definitions.specs.Lists.{pointersFrom, joinedLists, any, falls}
 use Rattle.definitions.specs.Refusal.{done}
 use Rattle.definitions.specs.Matrix.{maxRows, maxEntries}
-use Rattle.definitions.specs.Groups.{graphGrouping, groupingCall, listed, noAnchor, maxGroup}
+use Rattle.definitions.specs.Groups.{graphGrouping, listed, noAnchor, maxGroup}
 use Rattle.laws.specs.Csr.{pointers-length, pointers-first, pointers-last, pointers-rise, slice-mid}
-use Rattle.separation.specs.Layout.{part-mid}
 use Rattle.csr32.specs.Calls.{goes-on, passed}
-use Rattle.two_level_grouping.specs.Calls.{neighboursEnd, groupingIn}
+use Rattle.aggregates.specs.Stored.{offsetsIn, neighboursIn, offsetsAt, neighboursAt, roomFor}
+use Rattle.aggregates.specs.Within.{listsCall, withinCall}
 
 -- ---- what a node lists
 
@@ -41,52 +41,49 @@ pub listed-back : (lists : List (List ℕ)) → listed (pointersFrom 0 lists) (j
 unfolding listed
 listed-back lists = fun-ext (λ v. listed-from 0 [] lists v refl)
 
--- ---- the checks of the grouping pass
+-- ---- the lists that stand behind the room
 
-module _ (nodes size room : ℕ) (lists : List (List ℕ)) (l : length lists ≡ nodes) where
+module _ (nodes base : ℕ) (lists : List (List ℕ)) (l : length lists ≡ nodes) (rest w : List ℕ) (e : drop base w ≡ pointersFrom 0 lists ++ (joinedLists lists ++ rest)) where
+  many : length (pointersFrom 0 lists) ≡ suc nodes
+  many = pointers-length 0 lists ∙ ap suc l
+
+  last-is : getD (pointersFrom 0 lists) nodes 0 ≡ length (joinedLists lists)
+  last-is = rw (← l) (pointers-last 0 0 lists ∙ zero-plus (length (joinedLists lists)))
+    where
+      zero-plus : (x : ℕ) → 0 + x ≡ x
+      zero-plus x = omega arith
+
+  offsets-read : offsetsAt base nodes w ≡ pointersFrom 0 lists
+  unfolding offsetsIn
+  offsets-read = rw e (take-at (pointersFrom 0 lists) (joinedLists lists ++ rest) (suc nodes) many)
+
+  count-read : getD (drop base w) nodes 0 ≡ length (joinedLists lists)
+  count-read = rw (e, List·getD-append (pointersFrom 0 lists) (joinedLists lists ++ rest) 0 nodes (rw many (omega arith))) last-is
+
+  neighbours-read : neighboursAt base nodes w ≡ joinedLists lists
+  unfolding neighboursIn
+  neighbours-read = rw (count-read, e, drop-at (pointersFrom 0 lists) (joinedLists lists ++ rest) (suc nodes) many) (take-at (joinedLists lists) rest (length (joinedLists lists)) refl)
+
+  -- ---- the checks of the grouping pass
+
   offsets-pass : (eqb (length (pointersFrom 0 lists)) (nodes + 1) && eqb (getD (pointersFrom 0 lists) 0 1) 0 && not (falls (pointersFrom 0 lists)) && eqb (getD (pointersFrom 0 lists) nodes 0) (length (joinedLists lists))) ≡ true
   offsets-pass =
-      let p : length (pointersFrom 0 lists) ≡ nodes + 1 = pointers-length 0 lists ∙ rw l (omega arith) in
-      let last : getD (pointersFrom 0 lists) nodes 0 ≡ length (joinedLists lists) = rw (← l) (pointers-last 0 0 lists ∙ zero-plus (length (joinedLists lists))) in
-      rw (eq-eqb (length (pointersFrom 0 lists)) (nodes + 1) p, eq-eqb (getD (pointersFrom 0 lists) 0 1) 0 (pointers-first 0 1 lists), is-true (not (falls (pointersFrom 0 lists))) (pointers-rise 0 lists), eq-eqb (getD (pointersFrom 0 lists) nodes 0) (length (joinedLists lists)) last)
-    where
-      zero-plus : (x : ℕ) → 0 + x ≡ x
-      zero-plus x = omega arith
+      rw (eq-eqb (length (pointersFrom 0 lists)) (nodes + 1) (many ∙ omega arith), eq-eqb (getD (pointersFrom 0 lists) 0 1) 0 (pointers-first 0 1 lists), is-true (not (falls (pointersFrom 0 lists))) (pointers-rise 0 lists), eq-eqb (getD (pointersFrom 0 lists) nodes 0) (length (joinedLists lists)) last-is)
 
-  pub grouping-passes : nodes ≤ maxRows → length (joinedLists lists) ≤ maxEntries → 1 ≤ size → size ≤ maxGroup → 0 < nodes → any (λ w. leb nodes w) (joinedLists lists) ≡ false
-      → 8 * nodes + 4 * length (joinedLists lists) + 16 ≤ room
-      → groupingCall nodes size (pointersFrom 0 lists) (joinedLists lists) nodes room ≡ done (graphGrouping (λ v. getD lists v []) noAnchor nodes size)
-  unfolding groupingCall
-  grouping-passes h1 h2 h3 h4 h5 h6 h7 =
-      goes-on _ tt _ (passed _ _ (rw (le-leb nodes maxRows h1, le-leb (length (joinedLists lists)) maxEntries h2)))
-      ∙ goes-on _ tt _ (passed _ _ (rw (le-leb 1 size h3, le-leb size maxGroup h4)))
-      ∙ goes-on _ tt _ (passed _ _ offsets-pass)
-      ∙ goes-on _ tt _ (passed _ _ (lt-ltb 0 nodes h5))
-      ∙ goes-on _ tt _ (passed _ _ (ap not h6))
-      ∙ goes-on _ tt _ (passed _ _ (rw (le-leb nodes nodes (omega arith), le-leb (8 * nodes + 4 * length (joinedLists lists) + 16) room h7)))
-      ∙ ap (λ f. done (graphGrouping f noAnchor nodes size)) (listed-back lists)
+  module _ (size : ℕ) (h1 : nodes ≤ maxRows) (h2 : length (joinedLists lists) ≤ maxEntries) (h3 : 1 ≤ size) (h4 : size ≤ maxGroup) (h5 : 0 < nodes) (h6 : any (λ w. leb nodes w) (joinedLists lists) ≡ false) where
+    lists-pass : listsCall nodes size (pointersFrom 0 lists) (joinedLists lists) ≡ done tt
+    unfolding listsCall
+    lists-pass =
+        goes-on _ tt _ (passed _ _ (rw (le-leb nodes maxRows h1, le-leb (length (joinedLists lists)) maxEntries h2)))
+        ∙ goes-on _ tt _ (passed _ _ (rw (le-leb 1 size h3, le-leb size maxGroup h4)))
+        ∙ goes-on _ tt _ (passed _ _ offsets-pass)
+        ∙ goes-on _ tt _ (passed _ _ (lt-ltb 0 nodes h5))
+        ∙ passed _ _ (ap not h6)
 
--- ---- the two parts of a list that begins with them
-
-module _ (nodes : ℕ) (lists : List (List ℕ)) (l : length lists ≡ nodes) (rest ids : List ℕ) (e : ids ≡ pointersFrom 0 lists ++ (joinedLists lists ++ rest)) where
-  many : length (pointersFrom 0 lists) ≡ nodes + 1
-  many = pointers-length 0 lists ∙ rw l (omega arith)
-
-  pub offsets-read : part 0 (nodes + 1) ids ≡ pointersFrom 0 lists
-  offsets-read = let z : nodes + 1 - 0 ≡ nodes + 1 = omega arith in rw (z, e) (take-at (pointersFrom 0 lists) (joinedLists lists ++ rest) (nodes + 1) many)
-
-  pub count-read : getD ids nodes 0 ≡ length (joinedLists lists)
-  count-read =
-      rw (e, List·getD-append (pointersFrom 0 lists) (joinedLists lists ++ rest) 0 nodes (rw many (omega arith)), ← l) (pointers-last 0 0 lists ∙ zero-plus (length (joinedLists lists)))
-    where
-      zero-plus : (x : ℕ) → 0 + x ≡ x
-      zero-plus x = omega arith
-
-  pub neighbours-read : part (nodes + 1) (neighboursEnd nodes ids) ids ≡ joinedLists lists
-  neighbours-read = rw count-read (rw e (part-mid (pointersFrom 0 lists) (joinedLists lists) rest (nodes + 1) (nodes + 1 + length (joinedLists lists)) many refl))
-
-  pub neighbours-end : neighboursEnd nodes ids ≤ length ids
-  neighbours-end = rw (count-read, e) (rw (length-append (pointersFrom 0 lists) (joinedLists lists ++ rest), length-append (joinedLists lists) rest, many) (omega arith))
-
-  pub grouping-read : (size room : ℕ) → groupingIn nodes size ids room ≡ groupingCall nodes size (pointersFrom 0 lists) (joinedLists lists) nodes room
-  grouping-read size room = rw (offsets-read, neighbours-read)
+    pub grouping-passes : roomFor nodes (length (joinedLists lists)) ≤ base → withinCall nodes size base w ≡ done (graphGrouping (λ v. getD lists v []) noAnchor nodes size)
+    unfolding withinCall
+    grouping-passes h7 =
+        rw (offsets-read, neighbours-read)
+        (goes-on _ tt _ lists-pass
+        ∙ goes-on _ tt _ (passed _ _ (le-leb (roomFor nodes (length (joinedLists lists))) base h7))
+        ∙ ap (λ f. done (graphGrouping f noAnchor nodes size)) (listed-back lists))

@@ -1,4 +1,4 @@
--- Groups that stand at the front of the work list go over to the list of the neighbours.
+-- Groups that stand at the front of the work list go over to the list of the groups.
 use mathlib.Core.Path.{_≡_, ap, _∙_}
 use mathlib.Core.List.{List, [], _++_, append-nil}
 use Prim.Native.Nat.{ℕ, zero, suc, _+_, _-_, _≤_}
@@ -38,11 +38,11 @@ pub put-length : {A : Type 0} (a : ℕ) (s y : List A) → a ≤ length s → le
 put-length a s y h e = same-len-mid a (length s - a) s y e
 
 -- the groups of an accepted call, copied from the work list over zeros
-pub handed : (call : Outcome Grouping) (lists work work1 ids1 ids2 : List ℕ) (nodes : ℕ) → nodes ≤ length lists → work1 ≡ groupingLeft call work → ids1 ≡ replicate (length lists) 0
-    → ids2 ≡ copied (part 0 nodes work1) ids1 → (g : Grouping) → call ≡ done g → length (g .ids) ≡ nodes → ids2 ≡ padded 0 (length lists) (g .ids)
+pub handed : (call : Outcome Grouping) (lent work work1 ids1 ids2 : List ℕ) (nodes : ℕ) → nodes ≤ length lent → work1 ≡ groupingLeft call work → ids1 ≡ replicate (length lent) 0
+    → ids2 ≡ copied (part 0 nodes work1) ids1 → (g : Grouping) → call ≡ done g → length (g .ids) ≡ nodes → ids2 ≡ padded 0 (length lent) (g .ids)
 unfolding groupingLeft resultLeft
-handed call lists work work1 ids1 ids2 nodes h ew ei e2 g eg l =
+handed call lent work work1 ids1 ids2 nodes h ew ei e2 g eg l =
     let z : nodes - 0 ≡ nodes = omega arith in
     let w : work1 ≡ padded 0 (length work) (g .ids) = ew ∙ rw eg in
     let t : part 0 nodes work1 ≡ g .ids = rw (z, w) (taken-back 0 (g .ids) nodes (length work) l) in
-    rw (e2, t, ei) (copied-zeros 0 (g .ids) (length lists) (omega arith))
+    rw (e2, t, ei) (copied-zeros 0 (g .ids) (length lent) (omega arith))

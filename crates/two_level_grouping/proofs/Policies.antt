@@ -1,6 +1,6 @@
 -- The grouping call: its checks in their order, then the policy asked for.
 use mathlib.Core.Path.{_≡_, refl, sym, _∙_, subst}
-use mathlib.Core.Bool.{Bool, true, false, _&&_}
+use mathlib.Core.Bool.{Bool, true, false}
 use mathlib.Core.List.{List}
 use Prim.Native.Nat.{ℕ, _+_, _-_, _/_, _≤_}
 use native.Mathlib.Omega.{arith}
@@ -24,13 +24,9 @@ use Rattle.definitions.specs.declared.TwoLevelAggregation.the-variants.{Contigu
 use Rattle.definitions.specs.declared.Refusal.{Refusal}
 use Rattle.definitions.specs.declared.Refusal.the-variants.{ListTooShort}
 use Rattle.csr32.specs.Calls.{accepted-done, refused-is, goes-on, stops, passed, failed, result-kept, work-kept}
+use Rattle.laws.specs.Tests.{three-true}
 use Rattle.two_level_grouping.specs.Front.{Front, front-of, front-rows, front-kept}
 use Rattle.two_level_grouping.specs.Calls.{hasRoom, aggregateCall, idsLeft, Settled, Ready, listsOf}
-
-three : (b c d : Bool) → (b && c && d) ≡ true → (b ≡ true) × (c ≡ true) × (d ≡ true)
-three true true d e = (refl, refl, e)
-three true false d e = (cc, cc, cc)
-three false c d e = (cc, cc, cc)
 
 module _ (a : Matrix) (o : Options) where
   abbrev n : ℕ
@@ -95,7 +91,7 @@ module _ (a : Matrix) (o : Options) where
           pub ready-of : Ready a o (length ids) (length work) (length floats)
           unfolding hasRoom
           ready-of =
-              let p = three _ _ _ (sym et ∙ f) in
+              let p = three-true _ _ _ (sym et ∙ f) in
               record { front = front-holds; ids = leb-true _ _ (p .0); work = leb-true _ _ (p .1); floats = leb-true _ _ (p .2) }
 
           pub went : (r : GroupingAnswer) (ids' work' : List ℕ) (floats' : List Float) → Settled (groupingOf (o .aggregation) a o) ids work floats r ids' work' floats'

@@ -4,13 +4,13 @@ use mathlib.Core.Path.{_≡_}
 use mathlib.Core.Bool.{Bool, _&&_}
 use mathlib.Core.List.{List}
 use lib.Dec.{leb}
-use lib.ListN.{length, getD, replicate}
+use lib.ListN.{length, replicate}
 use lib.Ieee.{Float}
 use Rattle.definitions.specs.Numbers.{zeroᶠ}
 use Rattle.definitions.specs.Refusal.{Outcome, done, require, _>>=_, resultLeft, workLeft}
 use Rattle.definitions.specs.Matrix.{Matrix}
-use Rattle.definitions.specs.Lists.{part, padded}
-use Rattle.definitions.specs.Groups.{Grouping, groupingCall}
+use Rattle.definitions.specs.Lists.{padded}
+use Rattle.definitions.specs.Groups.{Grouping}
 use Rattle.definitions.specs.Answers.{groupingAnswer}
 use Rattle.definitions.specs.Neighbours.{neighbourLists}
 use Rattle.definitions.specs.Setup.{frontOf, nodeCount, groupingOf, graphOf}
@@ -18,11 +18,12 @@ use Rattle.definitions.specs.declared.Options.{Options}
 use Rattle.definitions.specs.declared.TwoLevelAggregation.{TwoLevelAggregation}
 use Rattle.definitions.specs.declared.GroupingAnswer.{GroupingAnswer}
 use Rattle.definitions.specs.declared.Refusal.the-variants.{ListTooShort}
+use Rattle.aggregates.specs.Within.{withinCall}
 use Rattle.two_level_grouping.specs.Front.{Front}
 
--- whether the lists are long enough: the neighbour lists go to the first, the grouping's work to the second, the strengths to the third
+-- whether the lists are long enough: the groups go to the first, the neighbour lists and the grouping's room to the second, the strengths to the third
 unfoldable pub hasRoom : ℕ → ℕ → ℕ → ℕ → ℕ → Bool
-hasRoom nodes entries room workRoom floatRoom = leb (nodes + 1 + entries) room && leb (8 * nodes + 4 * entries + 16) workRoom && leb (3 * nodes) floatRoom
+hasRoom nodes entries room workRoom floatRoom = leb nodes room && leb (8 * nodes + 4 * entries + 16) workRoom && leb (3 * nodes) floatRoom
 
 -- 1 to 12, 13 for these lists, 16
 unfoldable pub aggregateCall : Matrix → Options → ℕ → ℕ → ℕ → Outcome Grouping
@@ -35,17 +36,10 @@ aggregateCall a o room workRoom floatRoom = do
 unfoldable pub idsLeft : Outcome Grouping → List ℕ → List ℕ
 idsLeft call lent = resultLeft 0 (call >>= (λ g. done (g .ids))) lent
 
--- the grouping of nodes whose offsets and neighbours stand end to end at the front of a list
-abbrev pub neighboursEnd : ℕ → List ℕ → ℕ
-neighboursEnd nodes lists = nodes + 1 + getD lists nodes 0
-
-abbrev pub groupingIn : ℕ → ℕ → List ℕ → ℕ → Outcome Grouping
-groupingIn nodes size lists room = groupingCall nodes size (part 0 (nodes + 1) lists) (part (nodes + 1) (neighboursEnd nodes lists) lists) nodes room
-
--- what is left of that list and of the work list
-pub record Grouped (nodes size : ℕ) (lists work : List ℕ) (r : GroupingAnswer) (lists' work' : List ℕ) : Type 0 where
-  pub answer : r ≡ groupingAnswer (groupingIn nodes size lists (length work))
-  pub ids : (g : Grouping) → groupingIn nodes size lists (length work) ≡ done g → length (g .ids) ≡ nodes → lists' ≡ padded 0 (length lists) (g .ids)
+-- what the grouping of lists that stand from `base` on leaves of the list for the groups and of the work list
+pub record Grouped (nodes size base : ℕ) (lent work : List ℕ) (r : GroupingAnswer) (lent' work' : List ℕ) : Type 0 where
+  pub answer : r ≡ groupingAnswer (withinCall nodes size base work)
+  pub ids : (g : Grouping) → withinCall nodes size base work ≡ done g → length (g .ids) ≡ nodes → lent' ≡ padded 0 (length lent) (g .ids)
   pub zeros : work' ≡ replicate (length work) 0
 
 -- what a grouping call answers and leaves: the groups with zeros after them, and work lists of zeros
@@ -58,7 +52,7 @@ pub record Settled (call : Outcome Grouping) (lent work : List ℕ) (wide : List
 -- what the grouping by the nodes' lists asks of a matrix that has passed 1 to 12
 pub record Ready (a : Matrix) (o : Options) (room workRoom floatRoom : ℕ) : Type 0 where
   pub front : Front a o
-  pub ids : nodeCount a o + 1 + length (a .values) ≤ room
+  pub ids : nodeCount a o ≤ room
   pub work : 8 * nodeCount a o + 4 * length (a .values) + 16 ≤ workRoom
   pub floats : 3 * nodeCount a o ≤ floatRoom
 

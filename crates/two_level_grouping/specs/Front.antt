@@ -1,7 +1,7 @@
 -- Causes 9 to 12, which setup asks after those of the matrix, and what all of 1 to 12 leave.
 use Prim.Native.Nat.{ℕ, _*_, _%_, _≤_}
 use mathlib.Core.Path.{_≡_, refl, sym, _∙_}
-use mathlib.Core.Bool.{Bool, true, false, _&&_}
+use mathlib.Core.Bool.{true, _&&_}
 use native.Mathlib.Omega.{arith}
 use native.Mathlib.Nat.{div-add-mod'}
 use lib.Dec.{leb, eqb}
@@ -17,6 +17,8 @@ use Rattle.definitions.specs.declared.Refusal.the-variants.{NotSquare, BlockSiz
 use Rattle.csr32.specs.Rows.{Rows, rows-of}
 use Rattle.csr32.specs.Calls.{Keeps, keeps-require, keeps-then, keeps-refused}
 use Rattle.csr32.specs.Valid.{valid-keeps}
+use Rattle.laws.specs.Tests.{both-true}
+use Rattle.laws.specs.Outcomes.{last-true}
 
 -- 9 to 12
 unfoldable pub shapeOf : ℕ → ℕ → ℕ → ℕ → Checked
@@ -45,15 +47,6 @@ unfolding _>>=_
 then-done (done tt) next x e = (refl, e)
 then-done (refused r) next x e = (cc, cc)
 
-passed-test : (b : Bool) (r : Refusal) → require b r ≡ done tt → b ≡ true
-unfolding require
-passed-test true r e = refl
-passed-test false r e = cc
-
-both-true : (b c : Bool) → (b && c) ≡ true → (b ≡ true) × (c ≡ true)
-both-true true c e = (refl, e)
-both-true false c e = (cc, cc)
-
 pub front-of : (a : Matrix) (o : Options) → frontOf a o ≡ done tt → Front a o
 unfolding shapeOf
 front-of a o e =
@@ -61,16 +54,16 @@ front-of a o e =
     let p9 = then-done _ _ _ (p .1) in
     let p10 = then-done _ _ _ (p9 .1) in
     let p11 = then-done _ _ _ (p10 .1) in
-    let b = both-true _ _ (passed-test _ _ (p10 .0)) in
-    let g = both-true _ _ (passed-test _ _ (p11 .0)) in
+    let b = both-true _ _ (last-true _ _ (p10 .0)) in
+    let g = both-true _ _ (last-true _ _ (p11 .0)) in
     record {
       valid = p .0;
-      square = eqb-true _ _ (passed-test _ _ (p9 .0));
+      square = eqb-true _ _ (last-true _ _ (p9 .0));
       least = leb-true _ _ (b .0);
       most = leb-true _ _ (b .1);
       some = leb-true _ _ (g .0);
       fewest = leb-true _ _ (g .1);
-      whole = eqb-true _ _ (passed-test _ _ (p11 .1));
+      whole = eqb-true _ _ (last-true _ _ (p11 .1));
     }
 
 -- the nodes' rows are all of them

@@ -17,7 +17,7 @@ ghost use Rattle.definitions.specs.Groups.{graphGrouping, noAnchor};
 ghost use Rattle.definitions.specs.Setup.{frontOf, groupingOf, graphOf};
 ghost use Rattle.definitions.specs.Answers.{answerOf, groupingAnswer};
 ghost use Rattle.two_level_grouping.specs.Front.{shapeOf, Front};
-ghost use Rattle.two_level_grouping.specs.Calls.{hasRoom, aggregateCall, idsLeft, neighboursEnd, Grouped, Settled, Ready, listsOf};
+ghost use Rattle.two_level_grouping.specs.Calls.{hasRoom, aggregateCall, idsLeft, Grouped, Settled, Ready, listsOf};
 
 // Causes 9 to 12, in this order.
 fn shape(rows: usize, cols: usize, block: u64, group: u64) -> Answer
@@ -67,7 +67,7 @@ fn has_room(nodes: usize, entries: usize, room: usize, work_room: usize, float_r
     requires { ⌜ (nodes ≤ 1_048_576) × (entries ≤ 16_777_216) ⌝ }
     ensures { λ r. ⌜ r ≡ hasRoom nodes entries room «work_room» «float_room» ⌝ }
 {
-    if room < nodes + 1 + entries {
+    if room < nodes {
         return false;
     }
     if work_room < 8 * nodes + 4 * entries + 16 {
@@ -90,22 +90,26 @@ fn contiguous(nodes: usize, size: usize, ids: &mut [u32]) -> u64
     ((nodes + (size - 1)) / size) as u64
 }
 
-// The groups that the neighbour lists give: the lists stand in `ids`, whose place the groups take.
-fn by_lists(nodes: usize, size: usize, ids: &mut [u32], work: &mut [u32]) -> GroupingAnswer
-    requires { ⌜ (neighboursEnd nodes (now ids) ≤ length (now ids)) × ((nodes < length (now ids)) × (nodes ≤ length (now work))) ⌝ }
-    ensures { λ r. ⌜ Grouped nodes size (now (ids .entry)) (now (work .entry)) r (now (ids .exit)) (now (work .exit)) ⌝ }
+// The groups that the neighbour lists in work[base..] give, to `ids`; the work list is cleared.
+fn by_lists(
+    nodes: usize,
+    size: usize,
+    base: usize,
+    ids: &mut [u32],
+    work: &mut [u32],
+) -> GroupingAnswer
+    requires { ⌜ (nodes ≤ length (now ids)) × (nodes ≤ length (now work)) ⌝ }
+    ensures { λ r. ⌜ Grouped nodes size base (now (ids .entry)) (now (work .entry)) r (now (ids .exit)) (now (work .exit)) ⌝ }
 {
-    let start = nodes + 1;
-    let end = start + ids[nodes] as usize;
     let zero = 0;
-    let answer = aggregates::group_in(nodes, size, &ids[zero..start], &ids[start..end], work);
+    let answer = aggregates::group_within(nodes, size, base, work);
     numbers::zero_ints(ids);
     numbers::copy_ints(&work[zero..nodes], ids);
     numbers::zero_ints(work);
     answer
 }
 
-// Graph and StrongGraph: cause 16, then the groups by the nodes' lists.
+// Graph and StrongGraph: cause 16, then the groups by the nodes' lists, which stand behind the grouping's room in the work list.
 fn by_graph(
     rows: usize,
     cols: usize,
@@ -130,7 +134,8 @@ fn by_graph(
         return GroupingAnswer::Refused(Refusal::NoNode);
     }
     let zero = 0;
-    let need = nodes + 1 + values.len();
+    let base = 6 * nodes + values.len() + 16;
+    let need = base + nodes + 1 + values.len();
     adjacency::neighbours(
         rows,
         cols,
@@ -139,11 +144,11 @@ fn by_graph(
         values,
         size,
         aggregation,
-        &mut ids[zero..need],
-        work_ints,
+        base,
+        &mut work_ints[zero..need],
         work_floats,
     );
-    by_lists(nodes, options.group as usize, ids, work_ints)
+    by_lists(nodes, options.group as usize, base, ids, work_ints)
 }
 
 // The groups by the policy asked for, of a matrix that has passed causes 1 to 12.

@@ -1,9 +1,9 @@
 -- The stages put together: what each makes of the next one's promise.
 use mathlib.Core.Path.{_≡_, refl, ap, sym, _∙_, subst}
-use mathlib.Core.List.{List, [], _++_, flatMap}
-use Prim.Native.Nat.{ℕ, _+_, _-_, _*_, _/_, _≤_}
+use mathlib.Core.List.{List, [], _∷_, _++_, flatMap}
+use Prim.Native.Nat.{ℕ, zero, suc, _+_, _-_, _*_, _/_, _≤_}
 use native.Mathlib.Omega.{arith}
-use lib.ListN.{length, take, replicate, length-append}
+use lib.ListN.{length, take, drop, replicate, length-append, take-append-drop}
 use lib.Ieee.{Float}
 use Rattle.definitions.specs.Lists.{padded}
 use Rattle.definitions.specs.Numbers.{zeroᶠ, largest}
@@ -20,7 +20,7 @@ use Rattle.definitions.specs.declared.SetupAnswer.the-variants.{Refused as NoSe
 use Rattle.definitions.specs.declared.TwoLevelBasis.{TwoLevelBasis}
 use Rattle.definitions.specs.declared.TwoLevelBasis.the-variants.{PiecewiseConstant, JacobiSmoothed}
 use Rattle.laws.specs.Lists.{length-square}
-use Rattle.separation.specs.Outcomes.{bind-done, done-inj}
+use Rattle.laws.specs.Outcomes.{bind-done, done-inj}
 use Rattle.two_level_setup.specs.Stages.{recordOf, fromTransfer, fromRoom, constant-splits}
 use native.Mathlib.Nat.{mul-le-mul, div-le-self}
 use Rattle.two_level_grouping.specs.Front.{Front, front-rows}
@@ -122,6 +122,31 @@ fit-same a o i i' f f' wi wi' wf wf' p q r s w = subst (λ x. Fit a o x) (room-s
 
 pub smoothed-only : (b : TwoLevelBasis) (n : ℕ) → b ≡ JacobiSmoothed → b ≡ PiecewiseConstant → n ≡ 0
 smoothed-only b n p q = absurd (let z : _≡_ {A = ℕ} 0 1 = cc in omega arith)
+
+-- ---- the front of lists of zeros, lent
+
+take-replicate : {A : Type 0} (z : A) (k n : ℕ) → take k (replicate n z) ≡ replicate (length (take k (replicate n z))) z
+take-replicate z zero n = refl
+take-replicate z (suc k) zero = refl
+take-replicate z (suc k) (suc n) = ap (λ s. z ∷ s) (take-replicate z k n)
+
+taken-zeros : {A : Type 0} (z : A) (k : ℕ) (s : List A) → s ≡ replicate (length s) z → take k s ≡ replicate (length (take k s)) z
+taken-zeros z k s e = subst (λ (l : List _). take k l ≡ replicate (length (take k l)) z) (sym e) (take-replicate z k (length s))
+
+put-zeros : {A : Type 0} (z : A) (k : ℕ) (s y : List A) → s ≡ replicate (length s) z → y ≡ replicate (length (take k s)) z → y ++ drop k s ≡ replicate (length s) z
+put-zeros z k s y e f = ap (λ l. l ++ drop k s) (f ∙ sym (taken-zeros z k s e)) ∙ take-append-drop k s ∙ e
+
+pub part-left : (a : Matrix) (o : Options) (groups n m : ℕ) (ints : List ℕ) (floats : List Float) (workInts : List ℕ) (workFloats : List Float) (r : SetupAnswer) (ints' : List ℕ) (floats' : List Float) (yi : List ℕ) (yf : List Float)
+    → RoomStage a o groups (lentOf ints floats (take n workInts) (take m workFloats)) r (lentOf ints' floats' yi yf)
+    → RoomStage a o groups (lentOf ints floats workInts workFloats) r (lentOf ints' floats' (yi ++ drop n workInts) (yf ++ drop m workFloats))
+part-left a o groups n m ints floats workInts workFloats r ints' floats' yi yf k factors g fl i cl =
+    let l = k factors g fl i (record { ints = taken-zeros 0 n workInts (cl .ints); floats = taken-zeros zeroᶠ m workFloats (cl .floats) }) in
+    record {
+      answer = l .answer;
+      left = λ b e.
+          let h = l .left b e in
+          record { ints = h .ints; floats = h .floats; workInts = put-zeros 0 n workInts yi (cl .ints) (h .workInts); workFloats = put-zeros zeroᶠ m workFloats yf (cl .floats) (h .workFloats) };
+    }
 
 -- ---- what numbers are at most
 

@@ -29,7 +29,7 @@ use Rattle.definitions.specs.declared.TwoLevelAggregation.the-variants.{Contigu
 use Rattle.definitions.specs.declared.Refusal.{Refusal}
 use Rattle.definitions.specs.declared.Refusal.the-variants.{NotSquare, BlockSize, ListTooShort}
 use Rattle.definitions.specs.Separation.{followsGraph}
-use Rattle.separation.specs.Outcomes.{done-inj}
+use Rattle.laws.specs.Outcomes.{done-inj}
 use Rattle.separation.specs.GroupsApart.{grouping-length}
 use Rattle.separation.specs.Columns.{ids-length, ids-below}
 use Rattle.separation.specs.Layout.{factors-length}
@@ -121,7 +121,7 @@ module _ (a : Matrix) (o : Options) (ints : List ℕ) (floats : List Float) (wor
   aggregate-passes =
       goes-on (frontOf a o) tt _ (front-again a o (f .front))
       ∙ goes-on _ tt _ (passed _ ListTooShort (rw (
-        le-leb (nodeCount a o + 1 + length (a .values)) (length ints) (omega (arith, f .ints)),
+        le-leb (nodeCount a o) (length ints) (omega (arith, f .ints)),
         le-leb (8 * nodeCount a o + 4 * length (a .values) + 16) (length workInts) (omega (arith, f .workInts, div-le-self (a .rows) (o .block))),
         le-leb (3 * nodeCount a o) (length workFloats) (omega (arith, f .workFloats, div-le-self (a .rows) (o .block))),
       )))

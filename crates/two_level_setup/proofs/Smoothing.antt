@@ -29,10 +29,9 @@ use Rattle.definitions.specs.declared.SetupAnswer.the-variants.{Refused as NoSe
 use Rattle.definitions.specs.declared.TwoLevelBasis.the-variants.{JacobiSmoothed}
 use Rattle.definitions.specs.declared.Refusal.{Refusal}
 use Rattle.definitions.specs.declared.Refusal.the-variants.{NotSquare, BlockSize, NotMultiple, ListTooShort, CoarseTooLarge, WrongLength, SetupMisfit, MissingDiagonal}
-use Rattle.laws.specs.Lists.{Each, each-tab, each-keep, length-tab}
+use Rattle.laws.specs.Lists.{Each, each-tab, each-keep, length-tab, part-mid}
 use Rattle.laws.specs.Csr.{columnsOf, numbersOf, pointers-length, columns-length, values-length}
 use Rattle.laws.specs.Counting.{rows-within}
-use Rattle.separation.specs.Layout.{part-mid}
 use Rattle.separation.specs.Fitting.{row-short, entries-short}
 use Rattle.csr32.specs.Calls.{goes-on, stops, passed, refused-is}
 use Rattle.numbers.specs.Copied.{copied}
@@ -143,7 +142,7 @@ module _ (a : Matrix) (o : Options) (groups : ℕ) (ints : List ℕ) (floats : L
       goes-on (validOf a) tt _ (front .valid)
       ∙ goes-on _ tt _ (passed _ NotSquare (eq-eqb (a .cols) (a .rows) (front .square)))
       ∙ goes-on _ tt _ (passed _ (WrongLength (a .rows) (length d)) (eq-eqb (length d) (a .rows) l))
-      ∙ goes-on _ tt _ (passed _ ListTooShort (le-leb (3 * a .rows) (length workFloats) (omega (arith, w .fit .workFloats))))
+      ∙ goes-on _ tt _ (passed _ ListTooShort (le-leb (3 * a .rows) (length workFloats) (omega (arith, w .workFloats))))
 
   module _ (x : EstimateAnswer) (ex : x ≡ estimateAnswer (estimateCall a read (length workFloats))) where
     no-estimate : (p : Outcome Estimate) (r : Refusal) → NoEstimate r ≡ estimateAnswer p → p ≡ refused r

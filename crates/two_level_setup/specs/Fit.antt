@@ -26,13 +26,46 @@ pub record Fit (a : Matrix) (o : Options) (room : Lengths) : Type 0 where
   pub workFloats : 8 * a .rows + 2 * length (a .values) ≤ room .workFloats
 
 -- 17 and 18, for a number of groups
-pub record Wide (a : Matrix) (o : Options) (groups : ℕ) (room : Lengths) : Type 0 where
+pub record Ample (a : Matrix) (o : Options) (groups : ℕ) (room : Lengths) : Type 0 where
   pub fit : Fit a o room
   pub few : groups ≤ nodeCount a o
   pub small : groups * o .block ≤ maxCoarse
   pub floats : a .rows * o .block + a .rows + length (a .values) + groups * o .block * (groups * o .block) ≤ room .floats
   pub workInts : 8 * a .rows + 4 * length (a .values) + 16 + 4 * (groups * o .block) ≤ room .workInts
   pub workFloats : 8 * a .rows + 2 * length (a .values) + (groups * o .block * (groups * o .block) + 4 * (groups * o .block)) ≤ room .workFloats
+
+-- how much of the work lists the stages behind the groups need
+abbrev pub intsNeeded : ℕ → ℕ → ℕ → ℕ
+intsNeeded rows entries c = 2 * rows + entries + 1 + 2 * c
+
+abbrev pub floatsNeeded : ℕ → ℕ → ℕ → ℕ
+floatsNeeded rows entries c = 3 * rows + entries + (c * c + c)
+
+-- of Fit, what these stages need
+pub record Lasting (a : Matrix) (o : Options) (room : Lengths) : Type 0 where
+  pub front : Front a o
+  pub ints : nodeCount a o + 2 * a .rows + length (a .values) + 1 ≤ room .ints
+  pub floats : a .rows * o .block + a .rows + length (a .values) ≤ room .floats
+
+pub record Wide (a : Matrix) (o : Options) (groups : ℕ) (room : Lengths) : Type 0 where
+  pub fit : Lasting a o room
+  pub few : groups ≤ nodeCount a o
+  pub small : groups * o .block ≤ maxCoarse
+  pub floats : a .rows * o .block + a .rows + length (a .values) + groups * o .block * (groups * o .block) ≤ room .floats
+  pub workInts : intsNeeded (a .rows) (length (a .values)) (groups * o .block) ≤ room .workInts
+  pub workFloats : floatsNeeded (a .rows) (length (a .values)) (groups * o .block) ≤ room .workFloats
+
+-- what is lent of ample lists
+pub wide-part : (a : Matrix) (o : Options) (groups : ℕ) (room : Lengths) (wi wf : ℕ) → Ample a o groups room → intsNeeded (a .rows) (length (a .values)) (groups * o .block) ≤ wi → floatsNeeded (a .rows) (length (a .values)) (groups * o .block) ≤ wf
+    → Wide a o groups (roomOf (room .ints) (room .floats) wi wf)
+wide-part a o groups room wi wf w hi hf = record {
+  fit = record { front = w .fit .front; ints = w .fit .ints; floats = w .fit .floats };
+  few = w .few;
+  small = w .small;
+  floats = w .floats;
+  workInts = hi;
+  workFloats = hf;
+}
 
 four : (b c d e : Bool) → (b && c && d && e) ≡ true → (b ≡ true) × (c ≡ true) × (d ≡ true) × (e ≡ true)
 four true true true e p = (refl, refl, refl, p)
@@ -49,10 +82,10 @@ pub fit-of : (a : Matrix) (o : Options) (room : Lengths) → Front a o → cover
 unfolding entryNeeds
 fit-of a o room f e = let p = covered room (entryNeeds a o) e in record { front = f; ints = p .0; floats = p .1; workInts = p .2; workFloats = p .3 }
 
-pub wide-of : (a : Matrix) (o : Options) (groups : ℕ) (room : Lengths) → Fit a o room → groups ≤ nodeCount a o → groups * o .block ≤ maxCoarse
-    → covers room (coarseNeeds (groups * o .block) (entryNeeds a o)) ≡ true → Wide a o groups room
+pub ample-of : (a : Matrix) (o : Options) (groups : ℕ) (room : Lengths) → Fit a o room → groups ≤ nodeCount a o → groups * o .block ≤ maxCoarse
+    → covers room (coarseNeeds (groups * o .block) (entryNeeds a o)) ≡ true → Ample a o groups room
 unfolding entryNeeds coarseNeeds
-wide-of a o groups room f h s e =
+ample-of a o groups room f h s e =
     let p = covered room (coarseNeeds (groups * o .block) (entryNeeds a o)) e in record { fit = f; few = h; small = s; floats = p .1; workInts = p .2; workFloats = p .3 }
 
 -- what 1 to 12 leave tells that they pass

@@ -13,7 +13,7 @@ ghost use lib.ListN.{length, replicate};
 ghost use Rattle.definitions.specs.Numbers.{zeroᶠ};
 ghost use Rattle.definitions.specs.Matrix.{csr};
 ghost use Rattle.definitions.specs.Setup.{covers};
-ghost use Rattle.two_level_setup.specs.Fit.{Fit, Wide, roomOf};
+ghost use Rattle.two_level_setup.specs.Fit.{Fit, Ample, Wide, roomOf};
 ghost use Rattle.two_level_setup.specs.Contracts.{lentOf, RoomStage, GroupStage, FactorsStage, BlocksStage};
 
 // Whether four lists are as long as asked.
@@ -91,6 +91,42 @@ fn room_stage(
     }
 }
 
+// The same in the front of the work lists, as far as it needs them: what each stage clears again. The rest is zero already.
+fn part_stage(
+    rows: usize,
+    cols: usize,
+    row_ptr: &[u32],
+    col_idx: &[u32],
+    values: &[f64],
+    options: Options,
+    groups: u64,
+    ints: &mut [u32],
+    floats: &mut [f64],
+    work_ints: &mut [u32],
+    work_floats: &mut [f64],
+) -> SetupAnswer
+    requires { ⌜ Ample (csr rows cols (now «row_ptr») (now «col_idx») (now values)) options groups (roomOf (length (now ints)) (length (now floats)) (length (now «work_ints»)) (length (now «work_floats»))) ⌝ }
+    ensures { λ r. ⌜ RoomStage (csr rows cols (now («row_ptr» .entry)) (now («col_idx» .entry)) (now (values .entry))) options groups (lentOf (now (ints .entry)) (now (floats .entry)) (now («work_ints» .entry)) (now («work_floats» .entry))) r (lentOf (now (ints .exit)) (now (floats .exit)) (now («work_ints» .exit)) (now («work_floats» .exit))) ⌝ }
+{
+    let c = (groups * options.block) as usize;
+    let entries = values.len();
+    let few = 2 * rows + entries + 1 + 2 * c;
+    let part = 3 * rows + entries + (c * c + c);
+    room_stage(
+        rows,
+        cols,
+        row_ptr,
+        col_idx,
+        values,
+        options,
+        groups,
+        ints,
+        floats,
+        &mut work_ints[..few],
+        &mut work_floats[..part],
+    )
+}
+
 // Causes 17 and 18.
 fn group_stage(
     rows: usize,
@@ -127,7 +163,7 @@ fn group_stage(
         work_ints.len(),
         work_floats.len(),
     ) {
-        room_stage(
+        part_stage(
             rows,
             cols,
             row_ptr,

@@ -4,12 +4,6 @@ use borrow.Author.Needs.{needs}
 use Rattle.two_level_grouping.proofs.has_room.Statement.{statement}
 use Rattle.two_level_grouping.proofs.has_room.Tie as tie
 
-add-if1 : tie.Need-add-if1
-add-if1 c = search needs
-
-add-if1-2 : tie.Need-add-if1-2
-add-if1-2 c = search needs
-
 returns : tie.Need-returns
 returns c = search (short-first, short-second, third)
 
@@ -38,8 +32,6 @@ pub has-room-spec : {M : Type 1} → statement M
 has-room-spec =
     tie.close
     (tie.spec
-    add-if1
-    add-if1-2
     returns
     mul-if2
     mul-if2-2

@@ -1,7 +1,7 @@
 -- 17, then 18, then the next stage.
 use Rattle.two_level_setup.proofs.Settling.{too-large, no-room, has-room}
 use Rattle.two_level_setup.proofs.Building.{bounds, groups-most, square-most}
-use Rattle.two_level_setup.specs.Fit.{wide-of, roomOf}
+use Rattle.two_level_setup.specs.Fit.{ample-of, roomOf}
 use Rattle.definitions.specs.Setup.{entryNeeds, coarseNeeds}
 use Rattle.two_level_setup.specs.Contracts.{lentOf}
 use Rattle.definitions.specs.Matrix.{csr}
@@ -113,11 +113,11 @@ add-long-enough-11 c = let a = c .before .before .before .before .before .before
 long-enough-requires : tie.Need-long-enough-requires
 long-enough-requires c κs = search needs
 
-room-stage-requires : tie.Need-room-stage-requires
+part-stage-requires : tie.Need-part-stage-requires
 unfolding entryNeeds coarseNeeds
-room-stage-requires c κs = let a = c .before .before .before .before .before .before .before .before .before .before .before .before .before .before .before .args in
+part-stage-requires c κs = let a = c .before .before .before .before .before .before .before .before .before .before .before .before .before .before .before .args in
     let p = c .before .before .before .before .before .before .before .before .before .before .before .before .before .before .before .pre in
-    wide-of (csr (a .rows) (a .cols) (a .row-ptr .now) (a .col-idx .now) (a .values .now)) (a .options) (a .groups) (roomOf (length (a .ints .now)) (length (a .floats .now)) (length (a .work-ints .now)) (length (a .work-floats .now))) (p .0) (p .1) (c .before .before .before .before .before .before .if1 .left) (sym (c .before .before .before .before .before .long-enough .ensures) ∙ c .before .before .before .before .if2 .taken)
+    ample-of (csr (a .rows) (a .cols) (a .row-ptr .now) (a .col-idx .now) (a .values .now)) (a .options) (a .groups) (roomOf (length (a .ints .now)) (length (a .floats .now)) (length (a .work-ints .now)) (length (a .work-floats .now))) (p .0) (p .1) (c .before .before .before .before .before .before .if1 .left) (sym (c .before .before .before .before .before .long-enough .ensures) ∙ c .before .before .before .before .if2 .taken)
 
 same-length : tie.Need-same-length
 same-length c = search needs
@@ -134,7 +134,7 @@ same-length-4 c = search needs
 returns-2 : tie.Need-returns-2
 unfolding entryNeeds coarseNeeds
 returns-2 c = let a = c .before .before .before .before .before .before .before .before .before .before .before .before .before .before .before .before .before .before .before .before .before .before .before .before .args in
-    has-room (csr (a .rows) (a .cols) (a .row-ptr .now) (a .col-idx .now) (a .values .now)) (a .options) (a .groups) (lentOf (a .ints .now) (a .floats .now) (a .work-ints .now) (a .work-floats .now)) _ _ (c .before .before .before .before .before .before .before .before .before .before .before .before .before .before .before .if1 .left) (c .before .before .before .before .before .before .before .before .before .before .before .before .before .before .long-enough .result) (c .before .before .before .before .before .before .before .before .before .before .before .before .before .before .long-enough .ensures) (c .before .before .before .before .before .before .before .before .before .before .before .before .before .if2 .taken) (c .before .before .before .before .before .before .before .before .room-stage .ensures)
+    has-room (csr (a .rows) (a .cols) (a .row-ptr .now) (a .col-idx .now) (a .values .now)) (a .options) (a .groups) (lentOf (a .ints .now) (a .floats .now) (a .work-ints .now) (a .work-floats .now)) _ _ (c .before .before .before .before .before .before .before .before .before .before .before .before .before .before .before .if1 .left) (c .before .before .before .before .before .before .before .before .before .before .before .before .before .before .long-enough .result) (c .before .before .before .before .before .before .before .before .before .before .before .before .before .before .long-enough .ensures) (c .before .before .before .before .before .before .before .before .before .before .before .before .before .if2 .taken) (c .before .before .before .before .before .before .before .before .part-stage .ensures)
 
 returns-3 : tie.Need-returns-3
 unfolding entryNeeds coarseNeeds
@@ -171,7 +171,7 @@ group-stage-spec =
     add-long-enough-10
     add-long-enough-11
     long-enough-requires
-    room-stage-requires
+    part-stage-requires
     same-length
     same-length-2
     same-length-3
