@@ -1,23 +1,14 @@
 // An answer as its number; the list receives its values.
 use crate::answers;
+use crate::record;
 use definitions::Answer;
 use definitions::EstimateAnswer;
 use definitions::GroupingAnswer;
+use definitions::SetupAnswer;
+use float_bits::bits_of;
 ghost use mathlib.Core.Path.{_≡_};
-ghost use lib.Ieee.{binary64, toBits};
 ghost use Rattle.definitions.specs.Answers.{answerNumber};
-ghost use Rattle.yelomawin.specs.Boundary.{received, answerValues, groupingNumber, groupingValues, estimateNumber, estimateValues};
-
-// A float's bits; every NaN as 7FF8000000000000.
-pub fn bits(x: f64) -> u64
-    ensures { λ r. ⌜ r ≡ toBits binary64 x ⌝ }
-{
-    if x != x {
-        0x7ff8_0000_0000_0000
-    } else {
-        f64::to_bits(x)
-    }
-}
+ghost use Rattle.yelomawin.specs.Boundary.{received, answerValues, groupingNumber, groupingValues, estimateNumber, estimateValues, setupNumber, setupValues};
 
 pub fn number(answer: Answer) -> u64
     ensures { λ r. ⌜ r ≡ answerNumber answer ⌝ }
@@ -60,9 +51,22 @@ pub fn estimate(answer: EstimateAnswer, list: &mut [u64]) -> u64
 {
     match answer {
         EstimateAnswer::Estimated { rho, damping } => {
-            answers::receive(list, bits(rho), bits(damping));
+            answers::receive(list, bits_of(rho), bits_of(damping));
             0
         }
         EstimateAnswer::Refused(cause) => answers::refuse(cause, list),
+    }
+}
+
+pub fn setup(answer: SetupAnswer, list: &mut [u64]) -> u64
+    ensures { λ r. ⌜ r ≡ setupNumber answer ⌝ }
+    ensures { λ _. ⌜ now (list .exit) ≡ received (setupValues answer) (now (list .entry)) ⌝ }
+{
+    match answer {
+        SetupAnswer::Built(s) => {
+            record::receive_record(list, s);
+            0
+        }
+        SetupAnswer::Refused(cause) => answers::refuse(cause, list),
     }
 }

@@ -8,11 +8,11 @@ use Rattle.yelomawin.proofs.told.estimate.Tie as tie
 enum-known-answer : tie.Need-enum-known-answer
 enum-known-answer c = search needs
 
-bits-requires : tie.Need-bits-requires
-bits-requires c κs = search needs
+bits-of-requires : tie.Need-bits-of-requires
+bits-of-requires c κs = search needs
 
-bits-requires-2 : tie.Need-bits-requires-2
-bits-requires-2 c κs = search needs
+bits-of-requires-2 : tie.Need-bits-of-requires-2
+bits-of-requires-2 c κs = search needs
 
 receive-requires : tie.Need-receive-requires
 receive-requires c κs = search needs
@@ -28,7 +28,7 @@ same-length c = search needs
 
 returns : tie.Need-returns
 unfolding estimateNumber estimateValues
-returns c = rw (c .before .before .before .before .before .before .before .answer .given .1) (refl, rw (c .before .before .receive .ensures, c .before .before .before .bits2 .ensures, c .before .before .before .before .bits .ensures))
+returns c = rw (c .before .before .before .before .before .before .before .answer .given .1) (refl, rw (c .before .before .receive .ensures, c .before .before .before .bits-of2 .ensures, c .before .before .before .before .bits-of .ensures))
 
 same-length-2 : tie.Need-same-length-2
 same-length-2 c = search needs
@@ -42,8 +42,8 @@ estimate-spec =
     tie.close
     (tie.spec
     enum-known-answer
-    bits-requires
-    bits-requires-2
+    bits-of-requires
+    bits-of-requires-2
     receive-requires
     enum-known-answer-2
     refuse-requires

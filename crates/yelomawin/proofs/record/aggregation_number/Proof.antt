@@ -1,0 +1,30 @@
+-- By the cases of the policy.
+use Rattle.yelomawin.specs.Boundary.{aggregationNumber}
+use borrow.Author.Needs.{needs}
+use Rattle.yelomawin.proofs.record.aggregation_number.Statement.{statement}
+use Rattle.yelomawin.proofs.record.aggregation_number.Tie as tie
+
+enum-told : tie.Need-enum-told
+enum-told c = search needs
+
+enum-told-2 : tie.Need-enum-told-2
+enum-told-2 c = search needs
+
+enum-told-3 : tie.Need-enum-told-3
+enum-told-3 c = search needs
+
+returns : tie.Need-returns
+unfolding aggregationNumber
+returns c = rw (c .enum-told .given .1)
+
+returns-2 : tie.Need-returns-2
+unfolding aggregationNumber
+returns-2 c = rw (c .enum-told2 .given .1)
+
+returns-3 : tie.Need-returns-3
+unfolding aggregationNumber
+returns-3 c = rw (c .enum-told3 .given .1)
+
+pub aggregation-number-spec : {M : Type 1} → statement M
+aggregation-number-spec =
+    tie.close (tie.spec enum-told enum-told-2 enum-told-3 returns returns-2 returns-3)

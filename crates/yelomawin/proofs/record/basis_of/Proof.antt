@@ -1,0 +1,16 @@
+-- By the number.
+use Rattle.yelomawin.specs.Boundary.{basisOf}
+use Rattle.yelomawin.proofs.Policies.{last-basis}
+use borrow.Author.Needs.{needs}
+use Rattle.yelomawin.proofs.record.basis_of.Statement.{statement}
+use Rattle.yelomawin.proofs.record.basis_of.Tie as tie
+
+returns : tie.Need-returns
+unfolding basisOf
+returns c = rw (c .if1 .taken)
+
+returns-2 : tie.Need-returns-2
+returns-2 c = last-basis (c .before .args .n) (c .if1 .left)
+
+pub basis-of-spec : {M : Type 1} → statement M
+basis-of-spec = tie.close (tie.spec returns returns-2)

@@ -1,0 +1,35 @@
+-- The length, then the policies.
+use mathlib.Core.Path.{_∙_}
+use Rattle.yelomawin.proofs.Policies.{short, policies-decide}
+use borrow.Author.Needs.{needs}
+use Rattle.yelomawin.proofs.record.is_record.Statement.{statement}
+use Rattle.yelomawin.proofs.record.is_record.Tie as tie
+
+shared-slice-read-are-policies : tie.Need-shared-slice-read-are-policies
+shared-slice-read-are-policies c = search needs
+
+shared-slice-read-are-policies-2 : tie.Need-shared-slice-read-are-policies-2
+shared-slice-read-are-policies-2 c = search needs
+
+shared-slice-read-are-policies-3 : tie.Need-shared-slice-read-are-policies-3
+shared-slice-read-are-policies-3 c = search needs
+
+are-policies-requires : tie.Need-are-policies-requires
+are-policies-requires c κs = search needs
+
+returns : tie.Need-returns
+returns c = c .are-policies .ensures ∙ policies-decide _ (c .before .before .before .before .if1 .taken)
+
+returns-2 : tie.Need-returns-2
+returns-2 c = short _ (c .if1 .left)
+
+pub is-record-spec : {M : Type 1} → statement M
+is-record-spec =
+    tie.close
+    (tie.spec
+    shared-slice-read-are-policies
+    shared-slice-read-are-policies-2
+    shared-slice-read-are-policies-3
+    are-policies-requires
+    returns
+    returns-2)

@@ -1,0 +1,59 @@
+-- The record that the numbers make; what the call answers, as its number and values.
+use mathlib.Core.Path.{refl, sym, _∙_}
+use Rattle.yelomawin.specs.Boundary.{whether}
+use Rattle.yelomawin.proofs.Receiving.{none-told}
+use Rattle.yelomawin.proofs.Policies.{long}
+use borrow.Author.Needs.{needs}
+use Rattle.yelomawin.proofs.yelomawin_apply.Statement.{statement}
+use Rattle.yelomawin.proofs.yelomawin_apply.Tie as tie
+
+is-record-requires : tie.Need-is-record-requires
+is-record-requires c κs = search needs
+
+record-of-requires : tie.Need-record-of-requires
+record-of-requires c κs = long _ (sym (c .before .is-record .ensures) ∙ c .if1 .taken)
+
+apply-requires : tie.Need-apply-requires
+apply-requires c κs = search needs
+
+plain-requires : tie.Need-plain-requires
+plain-requires c κs = search needs
+
+receive-requires : tie.Need-receive-requires
+receive-requires c κs = search needs
+
+same-length : tie.Need-same-length
+same-length c = search needs
+
+same-length-2 : tie.Need-same-length-2
+same-length-2 c = search needs
+
+same-length-3 : tie.Need-same-length-3
+same-length-3 c = search needs
+
+returns : tie.Need-returns
+unfolding whether
+returns c = let g = c .before .before .before .before .before .before .before .before .apply .ensures in let t = c .before .before .plain .ensures in rw (sym (c .before .before .before .before .before .before .before .before .before .before .before .before .before .is-record .ensures) ∙ c .before .before .before .before .before .before .before .before .before .before .before .before .if1 .taken, ← (c .before .before .before .before .before .before .before .before .before .before .before .record-of .ensures), ← (g .0)) (t .0, (g .1, (g .2, t .1)))
+
+same-length-4 : tie.Need-same-length-4
+same-length-4 c = search needs
+
+returns-2 : tie.Need-returns-2
+unfolding whether
+returns-2 c = rw (sym (c .before .before .before .before .before .is-record .ensures) ∙ c .before .before .before .before .if1 .left) (refl, (refl, (refl, c .before .before .receive .ensures ∙ none-told _)))
+
+pub yelomawin-apply-spec : {M : Type 1} → statement M
+yelomawin-apply-spec =
+    tie.close
+    (tie.spec
+    is-record-requires
+    record-of-requires
+    apply-requires
+    plain-requires
+    receive-requires
+    same-length
+    same-length-2
+    same-length-3
+    returns
+    same-length-4
+    returns-2)
