@@ -1,0 +1,60 @@
+-- A list that a loop fills from the front by index, and the bytes of one number in a list.
+use Prim.Native.Nat.{ℕ, zero, suc, _+_, _*_, _-_, _/_, _%_, _<_, _≤_}
+use mathlib.Core.Path.{_≡_, refl, sym, ap, _∙_}
+use mathlib.Core.Bool.{Bool, true, false, _&&_}
+use mathlib.Core.List.{List, [], _∷_, _++_, append-assoc}
+use native.Mathlib.Nat.{add-suc, suc-add, add-zero, mul-div-cancel}
+use native.Mathlib.Numerals.{add-one}
+use native.Mathlib.Omega.{arith}
+use borrow.Author.Tests.{eqb-true, leb-true}
+use lib.Dec.{leb, eqb}
+use lib.ListN.{length, getD, set, take, drop}
+use lib.Seq.{drop-cons, set-at}
+use Rattle.definitions.specs.Lists.{tab}
+use Rattle.laws.specs.Lists.{length-tab, tab-cong}
+use Rattle.byte_lists.specs.Bytes.{spelled, wordAt, over, readable, writable}
+use Rattle.byte_lists.specs.Laws.{piece}
+
+tab-snoc : {A : Type 0} (f : ℕ → A) (n : ℕ) → tab f (suc n) ≡ tab f n ++ (f n ∷ [])
+unfolding tab
+tab-snoc f zero = refl
+tab-snoc f (suc n) = ap (λ l. f zero ∷ l) (tab-snoc (λ i. f (suc i)) n)
+
+pub tab-none : {A : Type 0} (f : ℕ → A) (d : List A) → d ≡ tab f 0 ++ drop 0 d
+unfolding tab
+tab-none f d = refl
+
+pub tab-more : {A : Type 0} (f : ℕ → A) (i : ℕ) (s d : List A) (v : A) → i < length d → s ≡ tab f i ++ drop i d → v ≡ f i → set s i v ≡ tab f (i + 1) ++ drop (i + 1) d
+tab-more f i s d v l e g =
+    rw (e, g, add-one, drop-cons d i v l, set-at (tab f i) (getD d i v) (drop (suc i) d) (f i) i (length-tab f i), tab-snoc f i, append-assoc (tab f i) (f i ∷ []) (drop (suc i) d))
+
+-- the loop's end
+pub tab-over : {A : Type 0} (f : ℕ → A) (i n : ℕ) (s d : List A) → i ≡ n → s ≡ tab f i ++ drop i d → s ≡ over (tab f n) d
+unfolding over
+tab-over f i n s d e h = rw (length-tab f n, ← e) h
+
+-- ---- bytes of one number
+
+pub word4 : (b : List ℕ) (k : ℕ) → 4 * k + 4 ≤ length b → getD b (4 * k) 0 + getD b (4 * k + 1) 0 * 0x100 + getD b (4 * k + 2) 0 * 0x1_0000 + getD b (4 * k + 3) 0 * 0x100_0000 ≡ wordAt 4 b k
+unfolding wordAt spelled tab
+word4 b k h = rw (piece 4 (4 * k) b h) (omega (arith, ap (λ t. getD b t 0) (add-zero (4 * k))))
+
+pub word8 : (b : List ℕ) (k : ℕ) → 8 * k + 8 ≤ length b
+    → getD b (8 * k) 0 + getD b (8 * k + 1) 0 * 0x100 + getD b (8 * k + 2) 0 * 0x1_0000 + getD b (8 * k + 3) 0 * 0x100_0000 + getD b (8 * k + 4) 0 * 0x1_0000_0000 + getD b (8 * k + 5) 0 * 0x100_0000_0000 + getD b (8 * k + 6) 0 * 0x1_0000_0000_0000 + getD b (8 * k + 7) 0 * 0x100_0000_0000_0000 ≡ wordAt 8 b k
+unfolding wordAt spelled tab
+word8 b k h = rw (piece 8 (8 * k) b h) (omega (arith, ap (λ t. getD b t 0) (add-zero (8 * k))))
+
+-- ---- what a test that held tells
+
+both : (a b : Bool) → (a && b) ≡ true → b ≡ true
+both true b e = e
+both false true e = refl
+both false false e = e
+
+pub readable-room : (w bytes room : ℕ) → readable w bytes room ≡ true → bytes / w ≤ room
+unfolding readable
+readable-room w bytes room e = leb-true (bytes / w) room (both (eqb (bytes % w) 0) (leb (bytes / w) room) e)
+
+pub writable-room : (w list bytes : ℕ) → writable w list bytes ≡ true → list ≤ bytes / w
+unfolding writable
+writable-room w list bytes e = leb-true list (bytes / w) e

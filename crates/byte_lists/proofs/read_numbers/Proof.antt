@@ -1,0 +1,25 @@
+-- By the test.
+use mathlib.Core.Path.{refl, sym, _∙_}
+use Rattle.byte_lists.proofs.Filling.{readable-room}
+use borrow.Author.Needs.{needs}
+use Rattle.byte_lists.proofs.read_numbers.Statement.{statement}
+use Rattle.byte_lists.proofs.read_numbers.Tie as tie
+
+words-fit-requires : tie.Need-words-fit-requires
+words-fit-requires c κs = search needs
+
+fill-numbers-requires : tie.Need-fill-numbers-requires
+fill-numbers-requires c κs = readable-room 8 _ _ (sym (c .before .before .words-fit .ensures) ∙ c .before .if1 .taken)
+
+same-length : tie.Need-same-length
+same-length c = search needs
+
+returns : tie.Need-returns
+returns c = rw (sym (c .before .before .before .before .before .words-fit .ensures) ∙ c .before .before .before .before .if1 .taken) (refl, c .before .before .fill-numbers .ensures)
+
+returns-2 : tie.Need-returns-2
+returns-2 c = rw (sym (c .before .words-fit .ensures) ∙ c .if1 .left) (refl, refl)
+
+pub read-numbers-spec : {M : Type 1} → statement M
+read-numbers-spec =
+    tie.close (tie.spec words-fit-requires fill-numbers-requires same-length returns returns-2)

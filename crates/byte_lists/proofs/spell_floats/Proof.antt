@@ -1,0 +1,75 @@
+-- Byte i is that of number i / 8, at i % 8.
+use mathlib.Core.Path.{_≡_, refl, ap, _∙_}
+use mathlib.Core.List.{_++_}
+use Prim.Native.Nat.{ℕ, _+_, _*_, _-_, _/_, _%_, _<_, _≤_}
+use native.Mathlib.Omega.{arith}
+use lib.Ieee.{nan, binary64, toBits}
+use lib.ListN.{length, getD, drop, length-set}
+use Rattle.definitions.specs.Lists.{tab}
+use Rattle.byte_lists.specs.Bytes.{byteOf, bytesOfFloats}
+use Rattle.byte_lists.proofs.Filling.{tab-none, tab-more, tab-over}
+use borrow.Author.Needs.{needs}
+use Rattle.byte_lists.proofs.spell_floats.Statement.{statement}
+use Rattle.byte_lists.proofs.spell_floats.Tie as tie
+
+abbrev Inv-loop : tie.InvT-loop
+Inv-loop list bytes₀ n i₀ bytes i = (n ≡ length list * 8) × (i ≤ n) × (n ≤ length bytes₀) × (length bytes ≡ length bytes₀) × (bytes ≡ tab (λ j. byteOf (toBits binary64 (getD list (j / 8) nan)) (j % 8)) i ++ drop i bytes₀)
+
+abbrev μ-loop : tie.MeasureT-loop
+μ-loop list bytes₀ n i₀ bytes i = n - i
+
+mul-n : tie.Need-mul-n Inv-loop μ-loop
+mul-n c = search needs
+
+loop-holds : tie.Need-loop-holds Inv-loop μ-loop
+loop-holds c = (refl, omega arith, omega arith, refl, tab-none _ _)
+
+mul-bits-of : tie.Need-mul-bits-of Inv-loop μ-loop
+mul-bits-of c = search needs
+
+shared-slice-read-bits-of : tie.Need-shared-slice-read-bits-of Inv-loop μ-loop
+shared-slice-read-bits-of c = search needs
+
+bits-of-requires : tie.Need-bits-of-requires Inv-loop μ-loop
+bits-of-requires c κs = search needs
+
+byte-of-requires : tie.Need-byte-of-requires Inv-loop μ-loop
+byte-of-requires c κs = search needs
+
+slice-write-bytes : tie.Need-slice-write-bytes Inv-loop μ-loop
+slice-write-bytes c = search needs
+
+add-i : tie.Need-add-i Inv-loop μ-loop
+add-i c = search needs
+
+loop-less : tie.Need-loop-less Inv-loop μ-loop
+loop-less c = omega arith
+
+loop-again : tie.Need-loop-again Inv-loop μ-loop
+loop-again c = let l = c .before .before .before .before .loop in let a = c .before .before .before .before .before .before .before .args in let h : l .i < length (a .bytes .now) = omega arith in (refl, omega arith, omega arith, simp length-set (l .inv .3), tab-more (λ j. byteOf (toBits binary64 (getD (a .list .now) (j / 8) nan)) (j % 8)) (l .i) (l .bytes) (a .bytes .now) _ h (l .inv .4) (c .byte-of .ensures ∙ ap (λ (x : ℕ). byteOf x (l .i % 8)) (c .before .bits-of .ensures)))
+
+same-length : tie.Need-same-length Inv-loop μ-loop
+same-length c = search needs
+
+returns : tie.Need-returns Inv-loop μ-loop
+unfolding bytesOfFloats
+returns c = let l = c .before .loop in let a = c .before .before .before .before .args in let h : l .i ≡ length (a .list .now) * 8 = omega arith in tab-over (λ j. byteOf (toBits binary64 (getD (a .list .now) (j / 8) nan)) (j % 8)) (l .i) (length (a .list .now) * 8) (l .bytes) (a .bytes .now) h (l .inv .4)
+
+pub spell-floats-spec : {M : Type 1} → statement M
+spell-floats-spec =
+    tie.close
+    (tie.spec
+    Inv-loop
+    μ-loop
+    mul-n
+    loop-holds
+    mul-bits-of
+    shared-slice-read-bits-of
+    bits-of-requires
+    byte-of-requires
+    slice-write-bytes
+    add-i
+    loop-less
+    loop-again
+    same-length
+    returns)

@@ -1,0 +1,71 @@
+-- Byte i is that of number i / 8, at i % 8.
+use mathlib.Core.Path.{_≡_, refl, ap, _∙_}
+use mathlib.Core.List.{_++_}
+use Prim.Native.Nat.{ℕ, _+_, _*_, _-_, _/_, _%_, _<_, _≤_}
+use native.Mathlib.Omega.{arith}
+use lib.Ieee.{nan, binary64, toBits}
+use lib.ListN.{length, getD, drop, length-set}
+use Rattle.definitions.specs.Lists.{tab}
+use Rattle.byte_lists.specs.Bytes.{byteOf, bytesOf}
+use Rattle.byte_lists.proofs.Filling.{tab-none, tab-more, tab-over}
+use borrow.Author.Needs.{needs}
+use Rattle.byte_lists.proofs.spell_numbers.Statement.{statement}
+use Rattle.byte_lists.proofs.spell_numbers.Tie as tie
+
+abbrev Inv-loop : tie.InvT-loop
+Inv-loop list bytes₀ n i₀ bytes i = (n ≡ length list * 8) × (i ≤ n) × (n ≤ length bytes₀) × (length bytes ≡ length bytes₀) × (bytes ≡ tab (λ j. byteOf (getD list (j / 8) 0) (j % 8)) i ++ drop i bytes₀)
+
+abbrev μ-loop : tie.MeasureT-loop
+μ-loop list bytes₀ n i₀ bytes i = n - i
+
+mul-n : tie.Need-mul-n Inv-loop μ-loop
+mul-n c = search needs
+
+loop-holds : tie.Need-loop-holds Inv-loop μ-loop
+loop-holds c = (refl, omega arith, omega arith, refl, tab-none _ _)
+
+mul-x : tie.Need-mul-x Inv-loop μ-loop
+mul-x c = search needs
+
+shared-slice-read-x : tie.Need-shared-slice-read-x Inv-loop μ-loop
+shared-slice-read-x c = search needs
+
+byte-of-requires : tie.Need-byte-of-requires Inv-loop μ-loop
+byte-of-requires c κs = search needs
+
+slice-write-bytes : tie.Need-slice-write-bytes Inv-loop μ-loop
+slice-write-bytes c = search needs
+
+add-i : tie.Need-add-i Inv-loop μ-loop
+add-i c = search needs
+
+loop-less : tie.Need-loop-less Inv-loop μ-loop
+loop-less c = omega arith
+
+loop-again : tie.Need-loop-again Inv-loop μ-loop
+loop-again c = let l = c .before .before .before .loop in let a = c .before .before .before .before .before .before .args in let h : l .i < length (a .bytes .now) = omega arith in (refl, omega arith, omega arith, simp length-set (l .inv .3), tab-more (λ j. byteOf (getD (a .list .now) (j / 8) 0) (j % 8)) (l .i) (l .bytes) (a .bytes .now) _ h (l .inv .4) (c .byte-of .ensures))
+
+same-length : tie.Need-same-length Inv-loop μ-loop
+same-length c = search needs
+
+returns : tie.Need-returns Inv-loop μ-loop
+unfolding bytesOf
+returns c = let l = c .before .loop in let a = c .before .before .before .before .args in let h : l .i ≡ length (a .list .now) * 8 = omega arith in tab-over (λ j. byteOf (getD (a .list .now) (j / 8) 0) (j % 8)) (l .i) (length (a .list .now) * 8) (l .bytes) (a .bytes .now) h (l .inv .4)
+
+pub spell-numbers-spec : {M : Type 1} → statement M
+spell-numbers-spec =
+    tie.close
+    (tie.spec
+    Inv-loop
+    μ-loop
+    mul-n
+    loop-holds
+    mul-x
+    shared-slice-read-x
+    byte-of-requires
+    slice-write-bytes
+    add-i
+    loop-less
+    loop-again
+    same-length
+    returns)

@@ -1,0 +1,4 @@
+pub mod Bytes
+pub mod Laws
+pub mod RoundTrip
+pub mod Examples
