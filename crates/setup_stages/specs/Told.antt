@@ -1,0 +1,26 @@
+-- An answer as 0 or 1, and neighbour lists by a number.
+use Prim.Native.Nat.{ℕ, zero, suc}
+use Rattle.definitions.specs.declared.Answer.{Answer}
+use Rattle.definitions.specs.declared.Answer.the-variants.{Accepted, Refused}
+use Rattle.definitions.specs.declared.TwoLevelAggregation.{TwoLevelAggregation}
+use Rattle.definitions.specs.declared.TwoLevelAggregation.the-variants.{Graph, StrongGraph}
+use Rattle.transfer.specs.declared.TransferAnswer.{TransferAnswer}
+use Rattle.transfer.specs.declared.TransferAnswer.the-variants.{Count, Refused as NoTransfer}
+use Rattle.coarse_factor.specs.declared.FactorAnswer.{FactorAnswer}
+use Rattle.coarse_factor.specs.declared.FactorAnswer.the-variants.{Factored, Refused as NoFactor}
+
+unfoldable pub told : Answer → ℕ
+told Accepted = 0
+told (Refused r) = 1
+
+unfoldable pub toldTransfer : TransferAnswer → ℕ
+toldTransfer (Count n) = 0
+toldTransfer (NoTransfer r) = 1
+
+unfoldable pub toldFactor : FactorAnswer → ℕ
+toldFactor (Factored scale) = 0
+toldFactor (NoFactor r) = 1
+
+unfoldable pub listsBy : ℕ → TwoLevelAggregation
+listsBy zero = Graph
+listsBy (suc n) = StrongGraph

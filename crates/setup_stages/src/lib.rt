@@ -1,0 +1,204 @@
+// The stages of setup that have no entry point of their own, exported for the benchmarks. Each answers 0 where it is accepted, else 1.
+use coarse_factor::FactorAnswer;
+use definitions::Answer;
+use definitions::TwoLevelAggregation;
+use transfer::TransferAnswer;
+ghost use mathlib.Core.Path.{_≡_};
+ghost use lib.ListN.{length, take};
+ghost use Prim.Native.Nat.{_*_};
+ghost use Rattle.definitions.specs.Numbers.{zeroᶠ, largest};
+ghost use Rattle.definitions.specs.Refusal.{resultLeft, workLeft};
+ghost use Rattle.definitions.specs.Matrix.{csr};
+ghost use Rattle.definitions.specs.Answers.{answerOf};
+ghost use Rattle.adjacency.specs.Within.{neighboursWithin};
+ghost use Rattle.transfer.specs.Call.{smoothedTransferCall, transferAnswer, transferInts, transferFloats};
+ghost use Rattle.coarse_matrix.specs.Calls.{resultOrKept, workOrKept, constantCoarseCall, galerkinCoarseCall};
+ghost use Rattle.coarse_factor.specs.Calls.{coarseFactorCall, factorAnswer, coarseInverseCall};
+ghost use Rattle.setup_stages.specs.Told.{told as toldOf, toldTransfer, toldFactor, listsBy};
+
+fn told(answer: Answer) -> u64
+    ensures { λ r. ⌜ r ≡ toldOf answer ⌝ }
+{
+    match answer {
+        Answer::Accepted => 0,
+        Answer::Refused(_) => 1,
+    }
+}
+
+fn told_transfer(answer: TransferAnswer) -> u64
+    ensures { λ r. ⌜ r ≡ toldTransfer answer ⌝ }
+{
+    match answer {
+        TransferAnswer::Count(_) => 0,
+        TransferAnswer::Refused(_) => 1,
+    }
+}
+
+fn told_factor(answer: FactorAnswer) -> u64
+    ensures { λ r. ⌜ r ≡ toldFactor answer ⌝ }
+{
+    match answer {
+        FactorAnswer::Factored(_) => 0,
+        FactorAnswer::Refused(_) => 1,
+    }
+}
+
+// Which lists a number asks for: 0 Graph's, else StrongGraph's.
+fn lists_by(strong: u64) -> TwoLevelAggregation
+    ensures { λ r. ⌜ r ≡ listsBy strong ⌝ }
+{
+    if strong == 0 {
+        return TwoLevelAggregation::Graph;
+    }
+    TwoLevelAggregation::StrongGraph
+}
+
+#[no_mangle]
+pub extern "C" fn stage_neighbours(
+    rows: u64,
+    cols: u64,
+    row_ptr: &[u32],
+    col_idx: &[u32],
+    values: &[f64],
+    block_size: u64,
+    strong: u64,
+    base: u64,
+    ints: &mut [u32],
+    floats: &mut [f64],
+) -> u64
+    ensures { λ r. ⌜ r ≡ toldOf (answerOf (neighboursWithin (listsBy strong) (csr rows cols (now («row_ptr» .entry)) (now («col_idx» .entry)) (now (values .entry))) «block_size» base (length (now (ints .entry))) (length (now (floats .entry))))) ⌝ }
+    ensures { λ _. ⌜ now (ints .exit) ≡ resultLeft 0 (neighboursWithin (listsBy strong) (csr rows cols (now («row_ptr» .entry)) (now («col_idx» .entry)) (now (values .entry))) «block_size» base (length (now (ints .entry))) (length (now (floats .entry)))) (now (ints .entry)) ⌝ }
+    ensures { λ _. ⌜ now (floats .exit) ≡ workLeft zeroᶠ (neighboursWithin (listsBy strong) (csr rows cols (now («row_ptr» .entry)) (now («col_idx» .entry)) (now (values .entry))) «block_size» base (length (now (ints .entry))) (length (now (floats .entry)))) (now (floats .entry)) ⌝ }
+{
+    let which = lists_by(strong);
+    let a = adjacency::neighbours(
+        rows as usize,
+        cols as usize,
+        row_ptr,
+        col_idx,
+        values,
+        block_size as usize,
+        which,
+        base as usize,
+        ints,
+        floats,
+    );
+    told(a)
+}
+
+#[no_mangle]
+pub extern "C" fn stage_transfer(
+    rows: u64,
+    cols: u64,
+    row_ptr: &[u32],
+    col_idx: &[u32],
+    values: &[f64],
+    block_size: u64,
+    ids: &[u32],
+    groups: u64,
+    diagonal: &[f64],
+    damping: f64,
+    ints: &mut [u32],
+    floats: &mut [f64],
+) -> u64
+    ensures { λ r. ⌜ r ≡ toldTransfer (transferAnswer (smoothedTransferCall (csr rows cols (now («row_ptr» .entry)) (now («col_idx» .entry)) (now (values .entry))) «block_size» (now (ids .entry)) groups (now (diagonal .entry)) damping (length (now (ints .entry))) (length (now (floats .entry))))) ⌝ }
+    ensures { λ _. ⌜ now (ints .exit) ≡ transferInts (smoothedTransferCall (csr rows cols (now («row_ptr» .entry)) (now («col_idx» .entry)) (now (values .entry))) «block_size» (now (ids .entry)) groups (now (diagonal .entry)) damping (length (now (ints .entry))) (length (now (floats .entry)))) (now (ints .entry)) ⌝ }
+    ensures { λ _. ⌜ now (floats .exit) ≡ transferFloats (smoothedTransferCall (csr rows cols (now («row_ptr» .entry)) (now («col_idx» .entry)) (now (values .entry))) «block_size» (now (ids .entry)) groups (now (diagonal .entry)) damping (length (now (ints .entry))) (length (now (floats .entry)))) (now (floats .entry)) ⌝ }
+{
+    let a = transfer::smoothed_transfer(
+        rows as usize,
+        cols as usize,
+        row_ptr,
+        col_idx,
+        values,
+        block_size as usize,
+        ids,
+        groups as usize,
+        diagonal,
+        damping,
+        ints,
+        floats,
+    );
+    told_transfer(a)
+}
+
+#[no_mangle]
+pub extern "C" fn stage_constant_coarse(
+    rows: u64,
+    cols: u64,
+    row_ptr: &[u32],
+    col_idx: &[u32],
+    values: &[f64],
+    block_size: u64,
+    ids: &[u32],
+    groups: u64,
+    coarse: &mut [f64],
+) -> u64
+    ensures { λ r. ⌜ r ≡ toldOf (answerOf (constantCoarseCall (csr rows cols (now («row_ptr» .entry)) (now («col_idx» .entry)) (now (values .entry))) «block_size» (now (ids .entry)) groups (length (now (coarse .entry))))) ⌝ }
+    ensures { λ _. ⌜ now (coarse .exit) ≡ resultOrKept zeroᶠ (constantCoarseCall (csr rows cols (now («row_ptr» .entry)) (now («col_idx» .entry)) (now (values .entry))) «block_size» (now (ids .entry)) groups (length (now (coarse .entry)))) (now (coarse .entry)) ⌝ }
+{
+    let a = coarse_matrix::constant_coarse(
+        rows as usize,
+        cols as usize,
+        row_ptr,
+        col_idx,
+        values,
+        block_size as usize,
+        ids,
+        groups as usize,
+        coarse,
+    );
+    told(a)
+}
+
+#[no_mangle]
+pub extern "C" fn stage_galerkin_coarse(
+    rows: u64,
+    cols: u64,
+    row_ptr: &[u32],
+    col_idx: &[u32],
+    values: &[f64],
+    c: u64,
+    transfer_ptr: &[u32],
+    transfer_idx: &[u32],
+    weights: &[f64],
+    ints: &mut [u32],
+    floats: &mut [f64],
+) -> u64
+    ensures { λ r. ⌜ r ≡ toldOf (answerOf (galerkinCoarseCall (csr rows cols (now («row_ptr» .entry)) (now («col_idx» .entry)) (now (values .entry))) c (now («transfer_ptr» .entry)) (now («transfer_idx» .entry)) (now (weights .entry)) (length (now (ints .entry))) (length (now (floats .entry))))) ⌝ }
+    ensures { λ _. ⌜ now (ints .exit) ≡ workOrKept 0 (galerkinCoarseCall (csr rows cols (now («row_ptr» .entry)) (now («col_idx» .entry)) (now (values .entry))) c (now («transfer_ptr» .entry)) (now («transfer_idx» .entry)) (now (weights .entry)) (length (now (ints .entry))) (length (now (floats .entry)))) (now (ints .entry)) ⌝ }
+    ensures { λ _. ⌜ now (floats .exit) ≡ resultOrKept zeroᶠ (galerkinCoarseCall (csr rows cols (now («row_ptr» .entry)) (now («col_idx» .entry)) (now (values .entry))) c (now («transfer_ptr» .entry)) (now («transfer_idx» .entry)) (now (weights .entry)) (length (now (ints .entry))) (length (now (floats .entry)))) (now (floats .entry)) ⌝ }
+{
+    let a = coarse_matrix::galerkin_coarse(
+        rows as usize,
+        cols as usize,
+        row_ptr,
+        col_idx,
+        values,
+        c as usize,
+        transfer_ptr,
+        transfer_idx,
+        weights,
+        ints,
+        floats,
+    );
+    told(a)
+}
+
+#[no_mangle]
+pub extern "C" fn stage_coarse_factor(c: u64, m: &[f64], lower: &mut [f64]) -> u64
+    ensures { λ r. ⌜ r ≡ toldFactor (factorAnswer (largest (take (c * c) (now (m .entry)))) (coarseFactorCall c (now (m .entry)) (length (now (lower .entry))))) ⌝ }
+    ensures { λ _. ⌜ now (lower .exit) ≡ resultLeft zeroᶠ (coarseFactorCall c (now (m .entry)) (length (now (lower .entry)))) (now (lower .entry)) ⌝ }
+{
+    let a = coarse_factor::coarse_factor(c as usize, m, lower);
+    told_factor(a)
+}
+
+#[no_mangle]
+pub extern "C" fn stage_coarse_inverse(c: u64, lower: &[f64], inverse: &mut [f64]) -> u64
+    ensures { λ r. ⌜ r ≡ toldOf (answerOf (coarseInverseCall c (now (lower .entry)) (length (now (inverse .entry))))) ⌝ }
+    ensures { λ _. ⌜ now (inverse .exit) ≡ resultLeft zeroᶠ (coarseInverseCall c (now (lower .entry)) (length (now (inverse .entry)))) (now (inverse .entry)) ⌝ }
+{
+    let a = coarse_factor::coarse_inverse(c as usize, lower, inverse);
+    told(a)
+}
