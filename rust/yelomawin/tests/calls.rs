@@ -1,0 +1,161 @@
+//! Every call from safe code: results of document 01's examples, refusals, numbers far above the limits, lists used again.
+use yelomawin::*;
+
+const DIAG: ([u32; 3], [u32; 2], [f64; 2]) = ([0, 1, 2], [0, 1], [16.0, 4.0]);
+
+fn diag() -> Matrix<'static> {
+    Matrix { rows: 2, cols: 2, row_ptr: &DIAG.0, col_idx: &DIAG.1, values: &DIAG.2 }
+}
+
+fn options() -> Options {
+    Options {
+        block_size: 1,
+        group_size: 1,
+        aggregation: Aggregation::Graph,
+        basis: Basis::PiecewiseConstant,
+        coarse_policy: CoarsePolicy::Auto,
+    }
+}
+
+#[test]
+fn roots() {
+    assert_eq!(root(2.0).to_bits(), 0x3FF6_A09E_667F_3BCD);
+    assert_eq!(root(f64::MAX).to_bits(), 0x5FEF_FFFF_FFFF_FFFF);
+    assert!(root(-1.0).is_nan());
+}
+
+#[test]
+fn calls_on_a_matrix() {
+    assert_eq!(diag().validate(), Ok(()));
+    assert_eq!(diag().diagonal(), Ok(vec![16.0, 4.0]));
+    let e = diag().estimate(&[16.0, 4.0]).unwrap();
+    assert!((e.radius - 1.0).abs() < 1e-12 && (e.damping_factor - 4.0 / 3.0).abs() < 1e-12);
+    assert_eq!(diag().estimate(&[16.0]), Err(Refusal::WrongLength { expected: 2, actual: 1 }));
+    assert_eq!(diag().estimate(&[16.0, 0.0]), Err(Refusal::ZeroDiagonal { row: 1 }));
+    let bad = [16.0, f64::NAN];
+    assert_eq!(Matrix { values: &bad, ..diag() }.validate(), Err(Refusal::ValueNotFinite));
+    let empty = Matrix { row_ptr: &[0, 0, 0], col_idx: &[], values: &[], ..diag() };
+    assert_eq!(empty.diagonal(), Err(Refusal::MissingDiagonal { row: 0 }));
+    assert_eq!(BlockJacobi::build(&empty, 1).unwrap_err(), Refusal::BlockPivot { row: 0 });
+}
+
+#[test]
+fn numbers_above_the_limits_are_refused_and_nothing_overflows() {
+    for huge in [MOST_ROWS + 1, usize::MAX / 8, usize::MAX - 1, usize::MAX] {
+        for (rows, cols) in [(huge, 2), (2, huge), (huge, huge)] {
+            let a = Matrix { rows, cols, ..diag() };
+            assert_eq!(a.validate(), Err(Refusal::TooLarge));
+            assert_eq!(a.diagonal(), Err(Refusal::TooLarge));
+            assert_eq!(a.estimate(&[1.0]), Err(Refusal::TooLarge));
+            assert_eq!(BlockJacobi::build(&a, huge).unwrap_err(), Refusal::TooLarge);
+            assert_eq!(Setup::build(&a, &options()).unwrap_err(), Refusal::TooLarge);
+        }
+        for aggregation in [Aggregation::Contiguous, Aggregation::Graph] {
+            let o = Options { aggregation, ..options() };
+            assert_eq!(Setup::build(&diag(), &Options { block_size: huge, ..o }).unwrap_err(), Refusal::BlockSize);
+            assert_eq!(Setup::build(&diag(), &Options { group_size: huge, ..o }).unwrap_err(), Refusal::GroupSize);
+        }
+        assert_eq!(BlockJacobi::build(&diag(), huge).unwrap_err(), Refusal::BlockSize);
+        assert_eq!(group(huge, &[0, 0], &[]), Err(Refusal::GroupSize));
+    }
+    assert_eq!(Setup::build(&diag(), &Options { block_size: 0, ..options() }).unwrap_err(), Refusal::BlockSize);
+    assert_eq!(Setup::build(&diag(), &Options { group_size: 0, ..options() }).unwrap_err(), Refusal::GroupSize);
+    assert_eq!(BlockJacobi::build(&diag(), 0).unwrap_err(), Refusal::BlockSize);
+    let many = vec![0; MOST_ROWS + 2];
+    assert_eq!(group(1, &many, &[]), Err(Refusal::TooLarge));
+    assert_eq!(group(1, &[], &[]), Err(Refusal::NeighbourOffsets));
+    assert_eq!(group(1, &[0], &[]), Err(Refusal::NoNode));
+    assert_eq!(group(1, &[0, 1], &[1]), Err(Refusal::NeighbourOutside));
+}
+
+#[test]
+fn coarse_dimension_above_the_limit() {
+    let n = 2049;
+    let (row_ptr, col_idx): (Vec<u32>, Vec<u32>) = ((0..=n).collect(), (0..n).collect());
+    let values = vec![1.0; n as usize];
+    let a = Matrix { rows: n as usize, cols: n as usize, row_ptr: &row_ptr, col_idx: &col_idx, values: &values };
+    assert_eq!(Setup::build(&a, &options()).unwrap_err(), Refusal::CoarseTooLarge { dimension: 2049 });
+}
+
+#[test]
+fn setups_and_their_applies() {
+    let mut setup = Setup::build(&diag(), &options()).unwrap();
+    assert_eq!((setup.nodes(), setup.groups(), setup.coarse_dimension(), setup.transfers()), (2, 2, 2, 0));
+    assert_eq!(setup.group_of_node(), [0, 1]);
+    assert_eq!(setup.complexity(), (6, 2));
+    let mut z = [0.0; 2];
+    setup.apply(&[16.0, 40.0], &mut z).unwrap();
+    assert_eq!(z, [2.0, 20.0]);
+    assert_eq!(setup.apply(&[16.0], &mut z), Err(Refusal::WrongLength { expected: 2, actual: 1 }));
+    assert_eq!(setup.apply(&[16.0, 4.0], &mut z[..1]), Err(Refusal::WrongLength { expected: 2, actual: 1 }));
+    assert_eq!(z, [2.0, 20.0]);
+    let mut y = [0.0; 2];
+    setup.apply_in(&[16.0, 4.0], &mut y, &mut Vec::new()).unwrap();
+    assert_eq!(y, [2.0, 2.0]);
+}
+
+#[test]
+fn more_groups_than_likely() {
+    // 100 nodes that nothing links: each is a group, though groups of 10 are asked for.
+    let (row_ptr, col_idx): (Vec<u32>, Vec<u32>) = ((0..=100).collect(), (0..100).collect());
+    let values = vec![4.0; 100];
+    let a = Matrix { rows: 100, cols: 100, row_ptr: &row_ptr, col_idx: &col_idx, values: &values };
+    let mut setup = Setup::build(&a, &Options { group_size: 10, ..options() }).unwrap();
+    assert_eq!((setup.groups(), setup.coarse_dimension()), (100, 100));
+    let mut z = [0.0; 100];
+    setup.apply(&[1.0; 100], &mut z).unwrap();
+    assert_eq!(z, [0.5; 100]);
+}
+
+/// 300 nodes of two unknowns, a chain in each third.
+fn chains(scale: f64) -> (Vec<u32>, Vec<u32>, Vec<f64>) {
+    let (mut ptr, mut col, mut val) = (vec![0], vec![], vec![]);
+    for i in 0..600u32 {
+        let v = i / 2;
+        for w in [v.wrapping_sub(1), v, v + 1] {
+            if w < 300 && w / 100 == v / 100 {
+                col.push(2 * w + i % 2);
+                val.push(scale * if w == v { 4.0 } else { -1.0 });
+            }
+        }
+        ptr.push(col.len() as u32);
+    }
+    (ptr, col, val)
+}
+
+#[test]
+fn lists_used_again_change_no_bit() {
+    let mut w = Workspace::default();
+    let mut places = Vec::new();
+    for scale in [1.0, 3.0, 0.1] {
+        let (row_ptr, col_idx, values) = chains(scale);
+        let a = Matrix { rows: 600, cols: 600, row_ptr: &row_ptr, col_idx: &col_idx, values: &values };
+        for basis in [Basis::PiecewiseConstant, Basis::JacobiSmoothed] {
+            for coarse_policy in [CoarsePolicy::FactorSolve, CoarsePolicy::ExplicitInverse] {
+                // Groups of 30 in chains of 100: more groups than the guess after the setup of 2 rows below.
+                let o = Options { block_size: 2, group_size: 30, basis, coarse_policy, ..options() };
+                let mut fresh = Setup::build(&a, &o).unwrap();
+                let mut again = Setup::build_in(&a, &o, &mut w).unwrap();
+                assert_eq!(fresh.record(), again.record());
+                let bits = |x: &[f64]| x.iter().map(|v| v.to_bits()).collect::<Vec<_>>();
+                assert_eq!(fresh.lists().0, again.lists().0);
+                assert_eq!(bits(fresh.lists().1), bits(again.lists().1));
+                let r: Vec<f64> = (0..600).map(|i| (i % 17) as f64 - 8.0).collect();
+                let (mut y, mut z) = (vec![0.0; 600], vec![0.0; 600]);
+                fresh.apply(&r, &mut y).unwrap();
+                again.apply(&r, &mut z).unwrap();
+                assert_eq!(bits(&y), bits(&z));
+                places.push((again.lists().0.as_ptr(), again.lists().1.as_ptr()));
+                w.recycle(again);
+            }
+        }
+        if scale == 3.0 {
+            let small = Setup::build_in(&diag(), &options(), &mut w).unwrap();
+            w.recycle(small);
+            let refused = Setup::build_in(&diag(), &Options { group_size: 0, ..options() }, &mut w);
+            assert_eq!(refused.unwrap_err(), Refusal::GroupSize);
+        }
+    }
+    // After the first setup nothing was allocated: the lists stayed where they are.
+    assert!(places[1..].iter().all(|p| *p == places[0]), "{places:?}");
+}
