@@ -37,9 +37,10 @@ pub fn policy(n: u8) -> TwoLevelCoarseApplyPolicy {
     ][n as usize]
 }
 
-pub fn setup(a: &Csr, o: &Options) -> Result<TwoLevelBlockJacobiPreconditioner, HybitError> {
+/// Setup of a matrix that is built, and so validated, already.
+pub fn setup(m: &Csr32Matrix, o: &Options) -> Result<TwoLevelBlockJacobiPreconditioner, HybitError> {
     TwoLevelBlockJacobiPreconditioner::from_csr32_with_aggregation_basis_and_transfer_options(
-        &matrix(a)?,
+        m,
         o.block,
         o.group,
         aggregation(o.aggregation),
@@ -81,7 +82,7 @@ fn answered(case: &Case) -> Result<Answer, HybitError> {
             Answer::Estimate { rho, damping }
         }
         Case::TwoLevel { a, options, residuals } => {
-            let p = setup(a, options)?;
+            let p = setup(&matrix(a)?, options)?;
             let mut corrected = Vec::new();
             for r in residuals {
                 let mut z = vec![0.0; r.len()];

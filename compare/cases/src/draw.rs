@@ -1,30 +1,6 @@
 //! Random cases. A case depends on its seed alone.
 use crate::{Case, Csr, Options};
-
-/// SplitMix64.
-pub struct Random(pub u64);
-
-impl Random {
-    pub fn next(&mut self) -> u64 {
-        self.0 = self.0.wrapping_add(0x9E37_79B9_7F4A_7C15);
-        let mut z = self.0;
-        z = (z ^ (z >> 30)).wrapping_mul(0xBF58_476D_1CE4_E5B9);
-        z = (z ^ (z >> 27)).wrapping_mul(0x94D0_49BB_1331_11EB);
-        z ^ (z >> 31)
-    }
-    pub fn below(&mut self, n: usize) -> usize {
-        (self.next() % n.max(1) as u64) as usize
-    }
-    pub fn one_in(&mut self, n: usize) -> bool {
-        self.below(n) == 0
-    }
-    pub fn unit(&mut self) -> f64 {
-        (self.next() >> 11) as f64 / (1u64 << 53) as f64
-    }
-    pub fn pick<T: Copy>(&mut self, xs: &[T]) -> T {
-        xs[self.below(xs.len())]
-    }
-}
+pub use random::Random;
 
 /// A number of one of several kinds: small whole ones, fractions, powers of two, extremes, signed zeros.
 fn number(g: &mut Random, kind: usize) -> f64 {
@@ -172,7 +148,7 @@ fn drawn(g: &mut Random, most: usize) -> (Csr, usize) {
     (a, size)
 }
 
-fn vector(g: &mut Random, n: usize) -> Vec<f64> {
+pub fn vector(g: &mut Random, n: usize) -> Vec<f64> {
     let kind = g.below(6);
     (0..n)
         .map(|_| match kind {
@@ -282,17 +258,5 @@ pub fn any(seed: u64, most: usize) -> Case {
         4 => estimate(seed, most),
         5 => root(seed),
         _ => two_level(seed, most),
-    }
-}
-
-/// Of every kind but the two-level one, in turn.
-pub fn alone(seed: u64, most: usize) -> Case {
-    match seed % 6 {
-        0 => validate(seed, most),
-        1 => diagonal(seed, most),
-        2 => blocks(seed, most),
-        3 => group(seed, most),
-        4 => estimate(seed, most),
-        _ => root(seed),
     }
 }

@@ -91,6 +91,15 @@ pub fn all() -> Vec<(&'static str, Case, Vec<String>)> {
             vec![format!("factors{}", hex(&[1.0, 0.0, 0.0, 1.0]))],
         ),
         (
+            "overflow_by_duplicates",
+            Case::Blocks {
+                a: Csr::from_rows(2, &[vec![(0, 1.0), (1, f64::MAX), (1, f64::MAX)], vec![(1, 1.0)]]),
+                block: 2,
+                residual: vec![1.0, 1.0],
+            },
+            vec!["refused 15".into()],
+        ),
+        (
             "contiguous_16_14",
             two(full(&[&[16.0, -14.0], &[-14.0, 16.0]]), 2, 0, 0, &[&[16.0, 32.0]]),
             vec![corrected(&[13.0, 14.0])],

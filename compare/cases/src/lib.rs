@@ -2,6 +2,7 @@
 pub mod answers;
 pub mod draw;
 pub mod examples;
+pub mod hard;
 pub mod refusal;
 pub mod text;
 

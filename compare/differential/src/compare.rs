@@ -3,7 +3,8 @@ use crate::ours;
 use cases::answers::{self, Answer};
 use cases::draw::Random;
 use cases::refusal::Refusal;
-use cases::Case;
+use cases::{Case, Csr, Options};
+use hybit_precond::probe::Kept;
 
 fn floats(what: &str, ours: &[f64], rust: &[f64]) -> Result<(), String> {
     if ours.len() != rust.len() {
@@ -31,19 +32,21 @@ fn accepted(number: u64, values: &[u64]) -> Result<(), String> {
     if number == 0 { Ok(()) } else { Err(format!("cause {number} {values:?}, the Rust accepts")) }
 }
 
-pub fn differs(case: &Case, seed: u64) -> Option<String> {
-    compared(case, &mut Random(seed ^ 0xA5A5_5A5A)).err()
+/// The cause by which the Rust refuses the case, if it does; else what differs.
+pub fn compare(case: &Case, seed: u64) -> Result<Option<u32>, String> {
+    let rust = answers::answer(case);
+    compared(case, &rust, &mut Random(seed ^ 0xA5A5_5A5A))?;
+    Ok(if let Answer::Refused(r) = &rust { Some(r.number) } else { None })
 }
 
-fn compared(case: &Case, g: &mut Random) -> Result<(), String> {
-    let rust = answers::answer(case);
-    match (case, &rust) {
+fn compared(case: &Case, rust: &Answer, g: &mut Random) -> Result<(), String> {
+    match (case, rust) {
         (Case::Root { bits }, Answer::Floats(r)) => floats("root", &[ours::root(*bits)], r),
         (Case::Validate { a }, Answer::Accepted) => accepted(ours::validate(a), &[]),
         (Case::Validate { a }, Answer::Refused(r)) => refused(ours::validate(a), &[], r),
         (Case::Diagonal { a }, _) => {
             let o = ours::diagonal(g, a)?;
-            match &rust {
+            match rust {
                 Answer::Refused(r) => refused(o.number, &o.values, r),
                 Answer::Floats(d) => accepted(o.number, &o.values).and_then(|_| floats("diagonal", &o.result.unwrap(), d)),
                 _ => unreachable!(),
@@ -51,7 +54,7 @@ fn compared(case: &Case, g: &mut Random) -> Result<(), String> {
         }
         (Case::Blocks { a, block, residual }, _) => {
             let o = ours::blocks(g, a, *block)?;
-            match &rust {
+            match rust {
                 Answer::Refused(r) => refused(o.number, &o.values, r),
                 Answer::Blocks(f, z) => {
                     accepted(o.number, &o.values)?;
@@ -66,7 +69,7 @@ fn compared(case: &Case, g: &mut Random) -> Result<(), String> {
         }
         (Case::Group { lists, size }, _) => {
             let o = ours::group(g, lists, *size)?;
-            match &rust {
+            match rust {
                 Answer::Refused(r) => refused(o.number, &o.values, r),
                 Answer::Groups(count, ids) => {
                     accepted(o.number, &o.values)?;
@@ -79,7 +82,7 @@ fn compared(case: &Case, g: &mut Random) -> Result<(), String> {
         }
         (Case::Estimate { a, diagonal }, _) => {
             let o = ours::estimate(g, a, diagonal)?;
-            match &rust {
+            match rust {
                 Answer::Refused(r) => refused(o.number, &o.values, r),
                 Answer::Estimate { rho, damping } => {
                     accepted(o.number, &o.values)?;
@@ -89,6 +92,41 @@ fn compared(case: &Case, g: &mut Random) -> Result<(), String> {
                 _ => unreachable!(),
             }
         }
+        (Case::TwoLevel { a, options, residuals }, _) => {
+            let o = ours::setup(g, a, options)?;
+            match rust {
+                Answer::Refused(r) => refused(o.number, &o.values, r),
+                Answer::TwoLevel(k, corrected) => {
+                    accepted(o.number, &o.values)?;
+                    two_level(g, a, options, &o.result.unwrap(), k, residuals, corrected)
+                }
+                _ => unreachable!(),
+            }
+        }
         _ => unreachable!(),
     }
+}
+
+/// A setup's record and lists, and its applies.
+fn two_level(
+    g: &mut Random, a: &Csr, o: &Options, b: &ours::Built, k: &Kept, residuals: &[Vec<f64>], corrected: &[Vec<f64>],
+) -> Result<(), String> {
+    let (n, e, t) = (a.rows, a.values.len(), k.weights.len());
+    let sizes = [n, e, o.block, o.group, n / o.block, k.groups, k.coarse, t].map(|x| x as u64);
+    equal("sizes", &b.record[..8], &sizes[..])?;
+    let policy = if k.inverse { 2 } else { 1 };
+    equal("policies", &b.record[8..11], &[o.aggregation as u64, o.basis as u64, policy][..])?;
+    floats("damping factor", &[f64::from_bits(b.record[11])], &[k.damping])?;
+    equal("complexity", &b.record[13..], &[(e + k.coarse * k.coarse) as u64, e as u64][..])?;
+    let ints: Vec<u32> = k.ids.iter().chain(&k.transfer_ptr).chain(&k.transfer_idx).copied().collect();
+    let (i, f) = b.used();
+    equal("integers", &b.ints[..i], &ints[..])?;
+    let all: Vec<f64> = k.factors.iter().chain(&k.weights).chain(&k.coarse_part).copied().collect();
+    floats("floats", &b.floats[..f], &all)?;
+    for (r, z) in residuals.iter().zip(corrected) {
+        let p = ours::apply(g, b, r)?;
+        accepted(p.number, &p.values)?;
+        floats("corrected", &p.result.unwrap(), z)?;
+    }
+    Ok(())
 }

@@ -1,7 +1,9 @@
 //! What the port answers to a case, and whether every list lent to it holds afterwards what document 01's table says.
+//! Every `unsafe` is one call of the library: sound, as each list goes with its own pointer and length, and nothing else holds those
+//! lent for writing.
 use cases::draw::Random;
-use cases::Csr;
-use port::*;
+use cases::{Csr, Options};
+use yelomawin::ffi::*;
 
 /// The number and the values returned with it, or the result.
 pub struct Reply<T> {
@@ -168,4 +170,70 @@ pub fn estimate(g: &mut Random, a: &Csr, diagonal: &[f64]) -> Result<Reply<(f64,
     }
     check(work.zero_from(0), "estimate's work list")?;
     Ok(Reply { number, values: vec![], result: Some((f64::from_bits(answer[0]), f64::from_bits(answer[1]))) })
+}
+
+pub struct Built {
+    pub record: [u64; 15],
+    pub ints: Vec<u32>,
+    pub floats: Vec<f64>,
+}
+
+impl Built {
+    pub fn used(&self) -> (usize, usize) {
+        let [n, _, b, _, nodes, _, c, t, _, basis, policy, ..] = self.record.map(|x| x as usize);
+        let coarse = if policy == 2 { c * c } else { c * (c + 1) / 2 };
+        (nodes + if basis == 1 { n + 1 + t } else { 0 }, n * b + t + coarse)
+    }
+}
+
+pub fn setup(g: &mut Random, a: &Csr, o: &Options) -> Result<Reply<Built>, String> {
+    let (n, e, b) = (a.rows, a.values.len(), o.block);
+    let nodes = if b == 0 { 0 } else { n / b };
+    let mut c = g.below(3);
+    loop {
+        let mut ints = Lent::<u32>::new(g, nodes + 2 * n + e + 1);
+        let mut floats = Lent::<f64>::new(g, n * b + n + e + c * c);
+        let mut work_ints = Lent::<u32>::new(g, 8 * n + 4 * e + 16 + 4 * c);
+        let mut work_floats = Lent::<f64>::new(g, 8 * n + 2 * e + c * c + 4 * c);
+        let mut record = [7u64; 15];
+        let number = unsafe {
+            yelomawin_setup(
+                n as u64, a.cols as u64, a.row_ptr.as_ptr(), a.row_ptr.len(), a.col_idx.as_ptr(), a.col_idx.len(), a.values.as_ptr(), e,
+                b as u64, o.group as u64, o.aggregation as u64, o.basis as u64, o.policy as u64,
+                ints.list.as_mut_ptr(), ints.list.len(), floats.list.as_mut_ptr(), floats.list.len(),
+                work_ints.list.as_mut_ptr(), work_ints.list.len(), work_floats.list.as_mut_ptr(), work_floats.list.len(),
+                record.as_mut_ptr(), record.len(),
+            )
+        };
+        if number != 0 {
+            let lists = ints.refused(number) && floats.refused(number) && work_ints.refused(number) && work_floats.refused(number);
+            check(lists, &format!("setup's lists after refusal {number}"))?;
+            if number == 18 {
+                c = record[0] as usize;
+                continue;
+            }
+            return Ok(Reply { number, values: values(number, &[record[0], record[1], 0]), result: None });
+        }
+        check(work_ints.zero_from(0) && work_floats.zero_from(0), "setup's work lists")?;
+        let built = Built { record, ints: ints.list.clone(), floats: floats.list.clone() };
+        let (i, f) = built.used();
+        check(ints.zero_from(i) && floats.zero_from(f), "setup's lists behind the results")?;
+        return Ok(Reply { number, values: vec![], result: Some(built) });
+    }
+}
+
+pub fn apply(g: &mut Random, b: &Built, residual: &[f64]) -> Result<Reply<Vec<f64>>, String> {
+    let mut work = Lent::<f64>::new(g, 2 * b.record[6] as usize);
+    let mut z: Vec<f64> = (0..residual.len()).map(|_| f64::odd(g)).collect();
+    let mut answer = [0; 3];
+    let number = unsafe {
+        yelomawin_apply(
+            b.record.as_ptr(), b.record.len(), b.ints.as_ptr(), b.ints.len(), b.floats.as_ptr(), b.floats.len(),
+            residual.as_ptr(), residual.len(), z.as_mut_ptr(), z.len(), work.list.as_mut_ptr(), work.list.len(), answer.as_mut_ptr(), 3,
+        )
+    };
+    if number == 0 {
+        check(work.zero_from(0), "apply's work list")?;
+    }
+    Ok(Reply { number, values: values(number, &answer), result: (number == 0).then_some(z) })
 }

@@ -1,0 +1,155 @@
+//! The middle of setup, stage by stage: neighbour lists, transfer, coarse matrix, factor, inverse. The Rust has the constant coarse matrix, the
+//! averaging and the factor inside its setup: their time there is the setup's less that of the stages before it.
+use crate::calls::{both, lent, options, same};
+use crate::input::{self, BLOCK};
+use crate::table::{Row, counted};
+use cases::{Csr, answers};
+use hybit_precond::{BlockJacobiPreconditioner, probe};
+
+// Links libsetup_stages.a, which `rt staticlib setup_stages` writes: each answers 0 where it is accepted.
+#[link(name = "setup_stages", kind = "static")]
+unsafe extern "C" {
+    fn stage_neighbours(
+        rows: u64, cols: u64,
+        row_ptr: *const u32, row_ptr_len: usize, col_idx: *const u32, col_idx_len: usize, values: *const f64, values_len: usize,
+        block_size: u64, strong: u64, base: u64, ints: *mut u32, ints_len: usize, floats: *mut f64, floats_len: usize,
+    ) -> u64;
+    fn stage_transfer(
+        rows: u64, cols: u64,
+        row_ptr: *const u32, row_ptr_len: usize, col_idx: *const u32, col_idx_len: usize, values: *const f64, values_len: usize,
+        block_size: u64, ids: *const u32, ids_len: usize, groups: u64, diagonal: *const f64, diagonal_len: usize, damping: f64,
+        ints: *mut u32, ints_len: usize, floats: *mut f64, floats_len: usize,
+    ) -> u64;
+    fn stage_constant_coarse(
+        rows: u64, cols: u64,
+        row_ptr: *const u32, row_ptr_len: usize, col_idx: *const u32, col_idx_len: usize, values: *const f64, values_len: usize,
+        block_size: u64, ids: *const u32, ids_len: usize, groups: u64, coarse: *mut f64, coarse_len: usize,
+    ) -> u64;
+    fn stage_galerkin_coarse(
+        rows: u64, cols: u64,
+        row_ptr: *const u32, row_ptr_len: usize, col_idx: *const u32, col_idx_len: usize, values: *const f64, values_len: usize,
+        c: u64, transfer_ptr: *const u32, transfer_ptr_len: usize, transfer_idx: *const u32, transfer_idx_len: usize,
+        weights: *const f64, weights_len: usize, ints: *mut u32, ints_len: usize, floats: *mut f64, floats_len: usize,
+    ) -> u64;
+    fn stage_coarse_factor(c: u64, m: *const f64, m_len: usize, lower: *mut f64, lower_len: usize) -> u64;
+    fn stage_coarse_inverse(c: u64, lower: *const f64, lower_len: usize, inverse: *mut f64, inverse_len: usize) -> u64;
+}
+
+macro_rules! lists {
+    ($f:ident, $a:expr, $($more:expr),*) => {
+        // Sound: every list is a slice that is borrowed for this call alone.
+        unsafe {
+            $f(
+                $a.rows as u64, $a.cols as u64,
+                $a.row_ptr.as_ptr(), $a.row_ptr.len(), $a.col_idx.as_ptr(), $a.col_idx.len(), $a.values.as_ptr(), $a.values.len(),
+                $($more),*
+            )
+        }
+    };
+}
+
+pub fn stages(a: &Csr, coarse: usize) -> Vec<Row> {
+    let m = answers::matrix(a).unwrap();
+    let (n, e) = (a.rows, a.values.len());
+    let nodes = n / BLOCK;
+    let group = input::group_size(n, coarse);
+    let (checks, _, _, _) = both(|| m.validate().unwrap(), || ());
+    let mut ints = vec![0u32; 8 * n + 4 * e + 16];
+    let mut floats = vec![0.0; 8 * n + 2 * e];
+    let mut out = Vec::new();
+
+    // Neighbour lists.
+    let base = 6 * nodes + e + 16;
+    let end = base + nodes + 1 + e;
+    let mut sparse = 0.0;
+    for (strong, name) in [(0u64, "Graph"), (1, "StrongGraph")] {
+        let (rust, found, ours, answer) = both(
+            || if strong == 0 { probe::graph(&m, nodes, BLOCK).unwrap() } else { probe::strong_graph(&m, nodes, BLOCK).unwrap() },
+            || lists!(stage_neighbours, a, BLOCK as u64, strong, base as u64, ints.as_mut_ptr(), end, floats.as_mut_ptr(), 3 * nodes),
+        );
+        assert_eq!(answer, 0);
+        let flat: Vec<u32> = found.iter().flatten().map(|&w| w as u32).collect();
+        assert!(ints[base + nodes + 1..][..flat.len()] == flat[..], "neighbour lists differ");
+        let size = format!("{} rows, {} entries", counted(n), counted(e));
+        out.push(Row::new(format!("neighbour lists, {name}"), size, n, rust, Some(rust + checks), ours));
+        if strong == 0 {
+            let (t, _, _, _) = both(|| probe::groups(&found, group).unwrap(), || ());
+            sparse = rust + t;
+        }
+    }
+    let lists = probe::graph(&m, nodes, BLOCK).unwrap();
+    let (wide, groups) = probe::groups(&lists, group).unwrap();
+    let ids: Vec<u32> = wide.iter().map(|&g| g as u32).collect();
+    let c = groups * BLOCK;
+    let size = format!("{} rows, coarse {}", counted(n), counted(c));
+    let mut row = |what: &str, rust: f64, checked: Option<f64>, ours: f64| {
+        out.push(Row { coarse: Some(coarse), ..Row::new(what.into(), size.clone(), n, rust, checked, ours) });
+    };
+
+    // The transfer; the Rust makes diagonal and estimate in the same function.
+    ints.resize(8 * n + 4 * e + 16 + 4 * c, 0);
+    floats.resize(8 * n + 2 * e + c * c + 4 * c, 0.0);
+    let (mut diagonal, mut work) = (Vec::new(), Vec::new());
+    let (rust, t, ours, answer) = both(
+        || probe::transfer(&m, BLOCK, group, &wide, c).unwrap(),
+        || {
+            lent(a).diagonal_in(&mut diagonal).unwrap();
+            let damping = lent(a).estimate_in(&diagonal, &mut work).unwrap().damping_factor;
+            let (k, l) = (2 * n + e + 1 + 2 * c, n + e + c);
+            lists!(
+                stage_transfer, a, BLOCK as u64, ids.as_ptr(), ids.len(), groups as u64, diagonal.as_ptr(), n, damping,
+                ints.as_mut_ptr(), k, floats.as_mut_ptr(), l
+            )
+        },
+    );
+    assert_eq!(answer, 0);
+    let count = t.values.len();
+    let (pointers, columns, weights) = (ints[..n + 1].to_vec(), ints[n + 1..][..count].to_vec(), floats[..count].to_vec());
+    assert!(pointers.iter().zip(&t.row_ptr).all(|(&x, &y)| x as usize == y) && columns == t.col_idx && same(&weights, &t.values), "transfers differ");
+    row("diagonal, estimate and transfer", rust, Some(rust + checks), ours);
+
+    // The coarse matrix of the smoothed basis; ours averages it too.
+    let (rust, mut g, ours, answer) = both(
+        || probe::galerkin(&m, &t, c).unwrap(),
+        || {
+            lists!(
+                stage_galerkin_coarse, a, c as u64, pointers.as_ptr(), n + 1, columns.as_ptr(), count, weights.as_ptr(), count,
+                ints.as_mut_ptr(), 4 * c, floats.as_mut_ptr(), c * c + 4 * c
+            )
+        },
+    );
+    assert_eq!(answer, 0);
+    for i in 0..c {
+        for j in 0..i {
+            let mean = 0.5 * (g[i * c + j] + g[j * c + i]);
+            (g[i * c + j], g[j * c + i]) = (mean, mean);
+        }
+    }
+    assert!(same(&g, &floats[..c * c]), "coarse matrices differ");
+    row("coarse matrix, smoothed", rust, Some(rust + checks), ours);
+
+    // The constant one with its factor, then the inverse.
+    let (blocks, _, _, _) = both(|| BlockJacobiPreconditioner::from_csr32(&m, BLOCK).unwrap(), || ());
+    let mut lower = vec![0.0; c * (c + 1) / 2];
+    let (rust, p, ours, answer) = both(
+        || answers::setup(&m, &options(group, 0, 1).0).unwrap(),
+        || {
+            let k = lists!(stage_constant_coarse, a, BLOCK as u64, ids.as_ptr(), ids.len(), groups as u64, floats.as_mut_ptr(), c * c);
+            // Sound: as above.
+            k + unsafe { stage_coarse_factor(c as u64, floats.as_ptr(), c * c, lower.as_mut_ptr(), lower.len()) }
+        },
+    );
+    assert_eq!(answer, 0);
+    assert!(same(&probe::kept(&p).coarse_part, &lower), "factors differ");
+    row("coarse matrix, constant, and its factor", rust - blocks - sparse, Some(rust - blocks - sparse + checks), ours);
+    let mut inverse = vec![0.0; c * c];
+    let (whole, p, ours, answer) = both(
+        || answers::setup(&m, &options(group, 0, 2).0).unwrap(),
+        // Sound: as above.
+        || unsafe { stage_coarse_inverse(c as u64, lower.as_ptr(), lower.len(), inverse.as_mut_ptr(), c * c) },
+    );
+    assert_eq!(answer, 0);
+    assert!(same(&probe::kept(&p).coarse_part, &inverse), "inverses differ");
+    row("inverse", whole - rust, None, ours);
+    out
+}
