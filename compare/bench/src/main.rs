@@ -34,14 +34,15 @@ fn all() -> (Vec<Row>, Vec<Memory>) {
     for n in [30_000, 300_000, LARGEST] {
         let a = input::frame(n);
         rows.extend(calls::stages(&a, input::BLOCK));
-        for coarse in [600, 1_900] {
+        // The large coarse systems take most of the time, and do not grow with the rows.
+        let large = if n == 300_000 { 1_900 } else { 600 };
+        for coarse in (600..=large).step_by(1_300) {
             rows.extend(middle::stages(&a, coarse));
             rows.extend(calls::setups(&a, coarse));
         }
     }
     rows.extend(calls::stages(&input::ring(1 << 20), 8).into_iter().map(|r| Row { what: format!("{}, 16 entries a row", r.what), ..r }));
     let mut memory = memory::measured(300_000, 600);
-    memory.extend(memory::measured(300_000, 1_900));
     memory.extend(memory::measured(LARGEST, 600));
     (rows, memory)
 }
