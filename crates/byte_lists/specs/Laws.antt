@@ -15,9 +15,9 @@ front : {A : Type 0} (f : ℕ → A) (n : ℕ) (room new : List A) → new ≡ o
 unfolding over
 front f n room new e = rw (e) (take-at (tab f n) (drop (length (tab f n)) room) n (length-tab f n))
 
-fits : {A : Type 0} (f : ℕ → A) (n : ℕ) (room new : List A) → new ≡ over (tab f n) room → n ≤ length new
+room-for : {A : Type 0} (f : ℕ → A) (n : ℕ) (room new : List A) → new ≡ over (tab f n) room → n ≤ length new
 unfolding over
-fits f n room new e = rw (e, length-append (tab f n) (drop (length (tab f n)) room), length-tab f n) (omega arith)
+room-for f n room new e = rw (e, length-append (tab f n) (drop (length (tab f n)) room), length-tab f n) (omega arith)
 
 count : {A : Type 0} (f : ℕ → A) (n : ℕ) (room new : List A) → new ≡ over (tab f n) room → n ≡ length (take n new)
 count f n room new e = rw (front f n room new e, length-tab f n)
@@ -31,7 +31,7 @@ module _ (b room new : List ℕ) (e : new ≡ over (intsOf b) room) where
 
   pub ints-fit : length b / 4 ≤ length new
   unfolding wordsOf
-  ints-fit = fits (wordAt 4 b) (length b / 4) room new e
+  ints-fit = room-for (wordAt 4 b) (length b / 4) room new e
 
   pub ints-count : length b / 4 ≡ length (take (length b / 4) new)
   unfolding wordsOf
@@ -44,7 +44,7 @@ module _ (b room new : List ℕ) (e : new ≡ over (numbersOf b) room) where
 
   pub numbers-fit : length b / 8 ≤ length new
   unfolding wordsOf
-  numbers-fit = fits (wordAt 8 b) (length b / 8) room new e
+  numbers-fit = room-for (wordAt 8 b) (length b / 8) room new e
 
   pub numbers-count : length b / 8 ≡ length (take (length b / 8) new)
   unfolding wordsOf
@@ -57,7 +57,7 @@ module _ (b : List ℕ) (room new : List Float) (e : new ≡ over (floatsOf b) r
 
   pub floats-fit : length b / 8 ≤ length new
   unfolding floatsOf
-  floats-fit = fits (λ k. ofBits binary64 (wordAt 8 b k)) (length b / 8) room new e
+  floats-fit = room-for (λ k. ofBits binary64 (wordAt 8 b k)) (length b / 8) room new e
 
   pub floats-count : length b / 8 ≡ length (take (length b / 8) new)
   unfolding floatsOf
