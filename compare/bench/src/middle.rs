@@ -108,9 +108,19 @@ pub fn stages(a: &Csr, coarse: usize) -> Vec<Row> {
     assert!(pointers.iter().zip(&t.row_ptr).all(|(&x, &y)| x as usize == y) && columns == t.col_idx && same(&weights, &t.values), "transfers differ");
     row("diagonal, estimate and transfer", rust, Some(rust + checks), ours);
 
-    // The coarse matrix of the smoothed basis; ours averages it too.
-    let (rust, mut g, ours, answer) = both(
-        || probe::galerkin(&m, &t, c).unwrap(),
+    // The coarse matrix of the smoothed basis, averaged: the Rust does that in its setup, by the same loop as here.
+    let (rust, g, ours, answer) = both(
+        || {
+            let mut g = probe::galerkin(&m, &t, c).unwrap();
+            for i in 0..c {
+                for j in 0..i {
+                    let mean = 0.5 * (g[i * c + j] + g[j * c + i]);
+                    g[i * c + j] = mean;
+                    g[j * c + i] = mean;
+                }
+            }
+            g
+        },
         || {
             lists!(
                 stage_galerkin_coarse, a, c as u64, pointers.as_ptr(), n + 1, columns.as_ptr(), count, weights.as_ptr(), count,
@@ -119,12 +129,6 @@ pub fn stages(a: &Csr, coarse: usize) -> Vec<Row> {
         },
     );
     assert_eq!(answer, 0);
-    for i in 0..c {
-        for j in 0..i {
-            let mean = 0.5 * (g[i * c + j] + g[j * c + i]);
-            (g[i * c + j], g[j * c + i]) = (mean, mean);
-        }
-    }
     assert!(same(&g, &floats[..c * c]), "coarse matrices differ");
     row("coarse matrix, smoothed", rust, Some(rust + checks), ours);
 

@@ -1,19 +1,14 @@
-//! The calls on byte lists against the Rust: `bytes KIND FIRST COUNT MOST` for COUNT seeds from FIRST on, cases of at most MOST rows or nodes.
-//! KIND is root, validate, diagonal, blocks, group, estimate, two_level or any. Numbers, values, results and every byte and element of every list
-//! are compared, a NaN by its pattern 7FF8000000000000; before each call the same one with a list that does not fit, which must answer 254.
+//! The calls on byte lists against the Rust: numbers, values, results and every byte and element of every list are compared, a NaN by its pattern
+//! 7FF8000000000000; before each call the same one with a list that does not fit, which must answer 254.
 mod calls;
 mod lists;
 mod two_level;
 
-use cases::answers::{self, Answer};
-use cases::draw::{self, Random};
-use cases::refusal::Refusal;
-use cases::{Case, text};
+use cases::Case;
+use cases::answers::Answer;
+use cases::draw::Random;
+use cases::run::{equal, refused};
 use lists::Item;
-
-fn equal<T: PartialEq + std::fmt::Debug>(what: &str, ours: T, rust: T) -> Result<(), String> {
-    if ours == rust { Ok(()) } else { Err(format!("{what}: {ours:?}, the Rust has {rust:?}")) }
-}
 
 fn patterns(list: &[f64]) -> Vec<u64> {
     list.iter().map(|x| x.pattern()).collect()
@@ -23,13 +18,8 @@ fn bits(list: &[f64]) -> Vec<u64> {
     list.iter().map(|x| x.to_bits()).collect()
 }
 
-/// The Rust tells no row with 14, 15, 21 and 24.
-fn refused(number: u64, values: &[u64], r: &Refusal) -> Result<(), String> {
-    equal("cause", number, r.number as u64)?;
-    if r.values.is_empty() { Ok(()) } else { equal("values", &values[..r.values.len()], &r.values[..]) }
-}
-
-fn compared(case: &Case, rust: &Answer, g: &mut Random) -> Result<(), String> {
+fn compared(case: &Case, rust: &Answer, seed: u64) -> Result<(), String> {
+    let g = &mut Random(seed ^ 0xB17E_5B17);
     match (case, rust) {
         (Case::Root { bits }, Answer::Floats(r)) => equal("root", calls::root(*bits), r[0].pattern()),
         (Case::Validate { a }, Answer::Refused(r)) => refused(calls::validate(g, a)?, &[], r),
@@ -84,33 +74,5 @@ fn compared(case: &Case, rust: &Answer, g: &mut Random) -> Result<(), String> {
 }
 
 fn main() {
-    let args: Vec<String> = std::env::args().skip(1).collect();
-    let number = |k: usize| args.get(k).and_then(|s| s.parse::<u64>().ok());
-    let (Some(kind), Some(first), Some(count), Some(most)) = (args.first(), number(1), number(2), number(3)) else {
-        eprintln!("usage: bytes KIND FIRST COUNT MOST");
-        std::process::exit(2);
-    };
-    let most = most as usize;
-    let drawn = |seed: u64| match kind.as_str() {
-        "root" => draw::root(seed),
-        "validate" => draw::validate(seed, most),
-        "diagonal" => draw::diagonal(seed, most),
-        "blocks" => draw::blocks(seed, most),
-        "group" => draw::group(seed, most),
-        "estimate" => draw::estimate(seed, most),
-        "two_level" => draw::two_level(seed, most),
-        _ => draw::any(seed, most),
-    };
-    let mut refusals = 0;
-    for seed in first..first + count {
-        let case = drawn(seed);
-        let rust = answers::answer(&case);
-        if let Err(what) = compared(&case, &rust, &mut Random(seed ^ 0xB17E_5B17)) {
-            println!("{kind}, seed {seed}: {what}");
-            print!("{}", text::write(&seed.to_string(), &case, &rust));
-            std::process::exit(1);
-        }
-        refusals += matches!(rust, Answer::Refused(_)) as u64;
-    }
-    println!("{kind} on bytes: {count} cases from seed {first}, no difference; {refusals} refused");
+    cases::run::main("bytes", compared);
 }

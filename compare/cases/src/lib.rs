@@ -4,6 +4,8 @@ pub mod draw;
 pub mod examples;
 pub mod hard;
 pub mod refusal;
+pub mod run;
+pub mod shrink;
 pub mod text;
 
 /// A sparse matrix in compressed rows, possibly a contradictory one.

@@ -1,8 +1,8 @@
 //! One case on both sides: nothing where they agree, else what differs.
 use crate::ours;
-use cases::answers::{self, Answer};
+use cases::answers::Answer;
 use cases::draw::Random;
-use cases::refusal::Refusal;
+use cases::run::{equal, refused};
 use cases::{Case, Csr, Options};
 use hybit_precond::probe::Kept;
 
@@ -18,28 +18,13 @@ fn floats(what: &str, ours: &[f64], rust: &[f64]) -> Result<(), String> {
     Ok(())
 }
 
-fn equal<T: PartialEq + std::fmt::Debug>(what: &str, ours: T, rust: T) -> Result<(), String> {
-    if ours == rust { Ok(()) } else { Err(format!("{what}: {ours:?}, the Rust has {rust:?}")) }
-}
-
-/// The Rust tells no row with 14, 15, 21 and 24.
-fn refused(number: u64, values: &[u64], r: &Refusal) -> Result<(), String> {
-    equal("cause", number, r.number as u64)?;
-    if r.values.is_empty() { Ok(()) } else { equal("values", values, &r.values[..]) }
-}
-
 fn accepted(number: u64, values: &[u64]) -> Result<(), String> {
     if number == 0 { Ok(()) } else { Err(format!("cause {number} {values:?}, the Rust accepts")) }
 }
 
-/// The cause by which the Rust refuses the case, if it does; else what differs.
-pub fn compare(case: &Case, seed: u64) -> Result<Option<u32>, String> {
-    let rust = answers::answer(case);
-    compared(case, &rust, &mut Random(seed ^ 0xA5A5_5A5A))?;
-    Ok(if let Answer::Refused(r) = &rust { Some(r.number) } else { None })
-}
-
-fn compared(case: &Case, rust: &Answer, g: &mut Random) -> Result<(), String> {
+/// What differs, if anything does.
+pub fn compared(case: &Case, rust: &Answer, seed: u64) -> Result<(), String> {
+    let g = &mut Random(seed ^ 0xA5A5_5A5A);
     match (case, rust) {
         (Case::Root { bits }, Answer::Floats(r)) => floats("root", &[ours::root(*bits)], r),
         (Case::Validate { a }, Answer::Accepted) => accepted(ours::validate(a), &[]),

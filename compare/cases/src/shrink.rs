@@ -1,5 +1,5 @@
 //! A failing case made smaller as long as it fails.
-use cases::{Case, Csr, Options};
+use crate::{Case, Csr, Options};
 
 fn without_entry(a: &Csr, k: usize) -> Option<Csr> {
     let mut b = a.clone();
@@ -124,7 +124,7 @@ pub fn shrink(mut case: Case, fails: impl Fn(&Case) -> bool) -> Case {
 #[cfg(test)]
 mod tests {
     use super::*;
-    use cases::{answers, draw};
+    use crate::{answers, draw};
 
     #[test]
     fn a_failing_case_becomes_small() {
