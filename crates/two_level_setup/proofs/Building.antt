@@ -4,6 +4,7 @@ use mathlib.Core.List.{List, [], _∷_, _++_, flatMap}
 use Prim.Native.Nat.{ℕ, zero, suc, _+_, _-_, _*_, _/_, _≤_}
 use native.Mathlib.Omega.{arith}
 use lib.ListN.{length, take, drop, replicate, length-append, take-append-drop}
+use lib.Seq.{length-take-le}
 use lib.Ieee.{Float}
 use Rattle.definitions.specs.Lists.{padded}
 use Rattle.definitions.specs.Numbers.{zeroᶠ, largest}
@@ -26,7 +27,7 @@ use native.Mathlib.Nat.{mul-le-mul, div-le-self}
 use Rattle.two_level_grouping.specs.Front.{Front, front-rows}
 use Rattle.two_level_setup.specs.Fit.{Fit, Wide, roomOf}
 use Rattle.two_level_setup.specs.Contracts.{lentOf, roomIn, Holds, Leaves, Floats, Ids, Factored, factoredAnswer, MatrixStage, CoarseStage, RoomStage}
-use Rattle.two_level_setup.proofs.Padding.{padded-all, padded-join}
+use Rattle.two_level_setup.proofs.Padding.{padded-all, padded-join, padded-past, padded-more, padded-less, padded-fits}
 
 -- ---- refusals, and equal outcomes
 
@@ -146,6 +147,42 @@ part-left a o groups n m ints floats workInts workFloats r ints' floats' yi yf k
       left = λ b e.
           let h = l .left b e in
           record { ints = h .ints; floats = h .floats; workInts = put-zeros 0 n workInts yi (cl .ints) (h .workInts); workFloats = put-zeros zeroᶠ m workFloats yf (cl .floats) (h .workFloats) };
+    }
+
+-- the front of the setup floats as well: zeros stand behind it, before and after
+module _ (a : Matrix) (o : Options) (factors more : List Float) (k : ℕ) (floats : List Float) (fl : Floats a o factors more floats) (h : length (factors ++ more) ≤ k) (l : k ≤ length floats) where
+  floats-front : Floats a o factors more (take k floats)
+  floats-front = record {
+    stand = ap (λ s. take k s) (fl .stand) ∙ padded-less zeroᶠ (length floats) k (factors ++ more) h l ∙ ap (λ n. padded zeroᶠ n (factors ++ more)) (sym (length-take-le k floats l));
+    many = fl .many;
+  }
+
+  put-padded : (y p : List Float) → y ≡ padded zeroᶠ (length (take k floats)) p → length y ≡ length (take k floats) → y ++ drop k floats ≡ padded zeroᶠ (length floats) p
+  put-padded y p e m =
+      let n : length (take k floats) ≡ k = length-take-le k floats l in
+      let d : drop k floats ≡ replicate (length floats - k) zeroᶠ = ap (λ s. drop k s) (fl .stand) ∙ padded-past zeroᶠ (length floats) k (factors ++ more) h in
+      let f : y ≡ padded zeroᶠ k p = e ∙ ap (λ x. padded zeroᶠ x p) n in
+      let long : length (padded zeroᶠ k p) ≡ k = ap length (sym f) ∙ m ∙ n in
+      rw (f, d) (padded-more zeroᶠ (length floats) k p (padded-fits zeroᶠ k p long) l)
+
+pub front-left : (a : Matrix) (o : Options) (groups transfers : ℕ) (damping : Float) (k n m : ℕ) (ints : List ℕ) (floats : List Float) (workInts : List ℕ) (workFloats : List Float) (r : SetupAnswer) (y : List Float) (yi : List ℕ) (yf : List Float)
+    → a .rows * o .block + transfers ≤ k → k ≤ length floats → length y ≡ length (take k floats)
+    → CoarseStage a o groups transfers damping (lentOf ints (take k floats) (take n workInts) (take m workFloats)) r (lentOf ints y yi yf)
+    → CoarseStage a o groups transfers damping (lentOf ints floats workInts workFloats) r (lentOf ints (y ++ drop k floats) (yi ++ drop n workInts) (yf ++ drop m workFloats))
+front-left a o groups transfers damping k n m ints floats workInts workFloats r y yi yf h kl ly stage factors g weights wt mt fl i cl =
+    let long : length (factors ++ transferFloats weights) ≡ a .rows * o .block + transfers = length-append factors (transferFloats weights) ∙ rw (fl .many, mt) in
+    let fits : length (factors ++ transferFloats weights) ≤ k = rw long h in
+    let l = stage factors g weights wt mt (floats-front a o factors (transferFloats weights) k floats fl fits kl) i (record { ints = taken-zeros 0 n workInts (cl .ints); floats = taken-zeros zeroᶠ m workFloats (cl .floats) }) in
+    record {
+      answer = l .answer;
+      left = λ b e.
+          let s = l .left b e in
+          record {
+            ints = s .ints;
+            floats = put-padded a o factors (transferFloats weights) k floats fl fits kl y (b .floats) (s .floats) ly;
+            workInts = put-zeros 0 n workInts yi (cl .ints) (s .workInts);
+            workFloats = put-zeros zeroᶠ m workFloats yf (cl .floats) (s .workFloats);
+          };
     }
 
 -- ---- what numbers are at most

@@ -28,7 +28,7 @@ use Rattle.separation.specs.Layout.{pointers-read, columns-read}
 use Rattle.csr32.specs.Calls.{goes-on, passed}
 use Rattle.csr32.specs.Rows.{outside}
 use Rattle.coarse_matrix.specs.Calls.{resultOrKept, workOrKept, constantChecks, constantCoarseCall, transferFits, galerkinChecks, galerkinCoarseCall}
-use Rattle.two_level_setup.specs.Fit.{Wide, roomOf}
+use Rattle.two_level_setup.specs.Fit.{CoarseFit, roomOf}
 use Rattle.two_level_setup.specs.Contracts.{Ids, Weighted, MatrixStage}
 use Rattle.two_level_setup.proofs.Padding.{padded-front}
 
@@ -37,19 +37,19 @@ unfolding any
 none-outside n none = refl
 none-outside n (more {x = x} h k) = rw (lt-leb n x h) (none-outside n k)
 
-module _ (a : Matrix) (o : Options) (groups : ℕ) (ints : List ℕ) (floats : List Float) (workInts : List ℕ) (workFloats : List Float)
-    (w : Wide a o groups (roomOf (length ints) (length floats) (length workInts) (length workFloats))) where
-  -- the groups are where they are read
-  pub ids-read : (g : Grouping) (rest : List ℕ) → Ids a o groups g rest ints → part 0 (nodeCount a o) ints ≡ g .ids
-  ids-read g rest i =
-      let z : nodeCount a o - 0 ≡ nodeCount a o = omega arith in
-      rw z (ap (λ l. take (nodeCount a o) l) (i .stand) ∙ padded-front 0 (length ints) (nodeCount a o) (g .ids) rest (i .many))
+-- the groups are where they are read
+pub ids-read : (a : Matrix) (o : Options) (groups : ℕ) (ints : List ℕ) (g : Grouping) (rest : List ℕ) → Ids a o groups g rest ints → part 0 (nodeCount a o) ints ≡ g .ids
+ids-read a o groups ints g rest i =
+    let z : nodeCount a o - 0 ≡ nodeCount a o = omega arith in
+    rw z (ap (λ l. take (nodeCount a o) l) (i .stand) ∙ padded-front 0 (length ints) (nodeCount a o) (g .ids) rest (i .many))
 
+module _ (a : Matrix) (o : Options) (groups : ℕ) (ints : List ℕ) (floats : List Float) (workInts : List ℕ) (workFloats : List Float)
+    (w : CoarseFit a o groups 0 (roomOf (length ints) (length floats) (length workInts) (length workFloats))) where
   constant-passes : (ids : List ℕ) → length ids ≡ nodeCount a o → Each (λ x. x < groups) ids
       → constantCoarseCall a (o .block) ids groups (length workFloats) ≡ done (averagedSquare (groups * o .block) (square (groups * o .block) (constantEntry a (coarseColumn (o .block) ids))))
   unfolding constantCoarseCall constantChecks
   constant-passes ids l e =
-      let f = w .fit .front in
+      let f = w .front in
       goes-on (validOf a) tt _ (f .valid)
       ∙ goes-on _ tt _ (goes-on _ tt _ (passed _ NotSquare (eq-eqb (a .rows) (a .cols) (sym (f .square))))
       ∙ goes-on _ tt _ (passed _ BlockSize (rw (le-leb 1 (o .block) (f .least), le-leb (o .block) maxBlock (f .most))))
@@ -64,7 +64,7 @@ module _ (a : Matrix) (o : Options) (groups : ℕ) (ints : List ℕ) (floats : L
       → MatrixStage a o groups 0 ints floats workInts workFloats workInts workFloats'
   unfolding resultOrKept coarseMatrix coarseEntry
   constant-made b workFloats' e factors g damping weights wt m fl i cl =
-      let r : part 0 (nodeCount a o) ints ≡ g .ids = ids-read g (transferInts (o .basis) weights) i in
+      let r : part 0 (nodeCount a o) ints ≡ g .ids = ids-read a o groups ints g (transferInts (o .basis) weights) i in
       let k : constantCoarseCall a (o .block) (part 0 (nodeCount a o) ints) groups (length workFloats) ≡ done (averagedSquare (groups * o .block) (square (groups * o .block) (constantEntry a (coarseColumn (o .block) (g .ids)))))
       = ap (λ l. constantCoarseCall a (o .block) l groups (length workFloats)) r ∙ constant-passes (g .ids) (i .many) (subst (λ n. Each (λ x. x < n) (g .ids)) (sym (i .count)) (i .below)) in
       (cl .ints, e ∙ ap (λ x. resultOrKept zeroᶠ x workFloats) k ∙ rw (b, i .count))
@@ -92,7 +92,7 @@ is-true : (b : Bool) → T b → b ≡ true
 is-true true t = refl
 
 module _ (a : Matrix) (o : Options) (groups transfers : ℕ) (ints : List ℕ) (floats : List Float) (workInts : List ℕ) (workFloats : List Float)
-    (w : Wide a o groups (roomOf (length ints) (length floats) (length workInts) (length workFloats))) where
+    (w : CoarseFit a o groups transfers (roomOf (length ints) (length floats) (length workInts) (length workFloats))) where
   fits-passes : (c : ℕ) (ws : List (List Entry)) → Weighted (a .rows) c ws → transferFits (a .rows) c (pointersFrom 0 ws) (columnsOf ws) (length (numbersOf ws)) ≡ true
   unfolding transferFits
   fits-passes c ws v =
@@ -117,7 +117,7 @@ module _ (a : Matrix) (o : Options) (groups transfers : ℕ) (ints : List ℕ) (
       ≡ done (averagedSquare (groups * o .block) (square (groups * o .block) (galerkinEntry a (λ r. getD ws r []))))
   unfolding galerkinCoarseCall galerkinChecks
   galerkin-passes ws v =
-      let f = w .fit .front in
+      let f = w .front in
       goes-on (validOf a) tt _ (f .valid)
       ∙ goes-on _ tt _ (goes-on _ tt _ (passed _ NotSquare (eq-eqb (a .rows) (a .cols) (sym (f .square))))
       ∙ goes-on _ tt _ (passed _ (CoarseTooLarge (groups * o .block)) (le-leb (groups * o .block) 2048 (w .small)))

@@ -3,7 +3,7 @@ use mathlib.Core.Path.{_≡_, ap, sym, _∙_}
 use mathlib.Core.List.{List, [], _++_, append-assoc}
 use Prim.Native.Nat.{ℕ, _+_, _-_, _≤_}
 use native.Mathlib.Omega.{arith}
-use lib.ListN.{length, take, drop, replicate, length-append, length-replicate, length-take, length-drop}
+use lib.ListN.{length, take, drop, replicate, length-append, length-replicate, length-take, length-drop, replicate-append-replicate}
 use lib.Seq.{take-at, drop-at, take-all, drop-append-add}
 use borrow.Rule.Slice.PartMut.{putMid}
 use Rattle.definitions.specs.Lists.{padded, part}
@@ -51,6 +51,24 @@ module _ {A : Type 0} (z : A) where
     where
       over : (x y w : ℕ) → y ≤ w → x - y - (w - y) ≡ x - w
       over x y w l = omega arith
+
+  -- more zeros, and fewer
+  pub padded-more : (n k : ℕ) (p : List A) → length p ≤ k → k ≤ n → padded z k p ++ replicate (n - k) z ≡ padded z n p
+  unfolding padded
+  padded-more n k p h l =
+      append-assoc p (replicate (k - length p) z) (replicate (n - k) z)
+      ∙ ap (λ s. p ++ s) (replicate-append-replicate (k - length p) (n - k) z ∙ ap (λ m. replicate m z) (over (length p) h))
+    where
+      over : (y : ℕ) → y ≤ k → k - y + (n - k) ≡ n - y
+      over y q = omega arith
+
+  pub padded-less : (n k : ℕ) (p : List A) → length p ≤ k → k ≤ n → take k (padded z n p) ≡ padded z k p
+  padded-less n k p h l = ap (λ s. take k s) (sym (padded-more n k p h l)) ∙ take-at (padded z k p) (replicate (n - k) z) k (padded-length k p h)
+
+  -- what fits with its zeros is no longer than they reach
+  pub padded-fits : (n : ℕ) (p : List A) → length (padded z n p) ≡ n → length p ≤ n
+  unfolding padded
+  padded-fits n p e = let l = length-append p (replicate (n - length p) z) in omega (arith, e, l)
 
   -- a longer list copied over a padded one
   pub copied-longer : (n : ℕ) (xs ys : List A) → length xs ≤ length ys → length ys ≤ n → copied ys (padded z n xs) ≡ padded z n ys

@@ -198,7 +198,7 @@ module _ (a : Matrix) (o : Options) (groups : ℕ) (ints : List ℕ) (floats : L
 
     call-is : (factors : List Float) (g : Grouping) (d : List Float) → length d ≡ a .rows → Floats a o factors d floats → Ids a o groups g [] ints → call ≡ done (rowsOf d (g .ids) (g .count * o .block))
     call-is factors g d l fl i =
-        ap (λ s. smoothedTransferCall a (o .block) s groups read damping (length workInts) (length workFloats)) (ids-read a o groups ints floats workInts workFloats w g [] i)
+        ap (λ s. smoothedTransferCall a (o .block) s groups read damping (length workInts) (length workFloats)) (ids-read a o groups ints g [] i)
         ∙ ap (λ s. smoothedTransferCall a (o .block) (g .ids) groups s damping (length workInts) (length workFloats)) (diagonal-read factors d l fl)
         ∙ transfer-passes (g .ids) d (i .many) (subst (λ n. Each (λ x. x < n) (g .ids)) (sym (i .count)) (i .below)) l
         ∙ ap (λ n. done (rowsOf d (g .ids) (n * o .block))) (i .count)

@@ -67,6 +67,21 @@ wide-part a o groups room wi wf w hi hf = record {
   workFloats = hf;
 }
 
+-- of Wide, what the coarse stage needs for a number of transfer weights
+pub record CoarseFit (a : Matrix) (o : Options) (groups transfers : ℕ) (room : Lengths) : Type 0 where
+  pub front : Front a o
+  pub few : groups ≤ nodeCount a o
+  pub small : groups * o .block ≤ maxCoarse
+  pub ints : nodeCount a o + 2 * a .rows + length (a .values) + 1 ≤ room .ints
+  pub floats : a .rows * o .block + transfers + groups * o .block * (groups * o .block) ≤ room .floats
+  pub workInts : 2 * (groups * o .block) ≤ room .workInts
+  pub workFloats : groups * o .block * (groups * o .block) + groups * o .block ≤ room .workFloats
+
+-- what is lent of wide lists
+pub coarse-part : (a : Matrix) (o : Options) (groups transfers : ℕ) (room : Lengths) (f wi wf : ℕ) → Wide a o groups room → a .rows * o .block + transfers + groups * o .block * (groups * o .block) ≤ f → 2 * (groups * o .block) ≤ wi
+    → groups * o .block * (groups * o .block) + groups * o .block ≤ wf → CoarseFit a o groups transfers (roomOf (room .ints) f wi wf)
+coarse-part a o groups transfers room f wi wf w h hi hf = record { front = w .fit .front; few = w .few; small = w .small; ints = w .fit .ints; floats = h; workInts = hi; workFloats = hf }
+
 four : (b c d e : Bool) → (b && c && d && e) ≡ true → (b ≡ true) × (c ≡ true) × (d ≡ true) × (e ≡ true)
 four true true true e p = (refl, refl, refl, p)
 four true true false e p = (cc, cc, cc, cc)

@@ -10,7 +10,7 @@ ghost use Prim.Native.Nat.{_+_, _*_, _≤_};
 ghost use lib.ListN.{length};
 ghost use Rattle.definitions.specs.Matrix.{csr};
 ghost use Rattle.definitions.specs.declared.TwoLevelBasis.the-variants.{PiecewiseConstant, JacobiSmoothed};
-ghost use Rattle.two_level_setup.specs.Fit.{Wide, roomOf};
+ghost use Rattle.two_level_setup.specs.Fit.{Wide, CoarseFit, roomOf};
 ghost use Rattle.two_level_setup.specs.Contracts.{MatrixStage, CoarseStage, lentOf};
 
 // The basis that is constant over a group.
@@ -27,7 +27,7 @@ fn constant_matrix(
     work_ints: &[u32],
     work_floats: &mut [f64],
 )
-    requires { ⌜ Wide (csr rows cols (now «row_ptr») (now «col_idx») (now values)) options groups (roomOf (length (now ints)) (length (now floats)) (length (now «work_ints»)) (length (now «work_floats»))) ⌝ }
+    requires { ⌜ CoarseFit (csr rows cols (now «row_ptr») (now «col_idx») (now values)) options groups 0 (roomOf (length (now ints)) (length (now floats)) (length (now «work_ints»)) (length (now «work_floats»))) ⌝ }
     requires { ⌜ options .basis ≡ PiecewiseConstant ⌝ }
     ensures { λ _. ⌜ MatrixStage (csr rows cols (now («row_ptr» .entry)) (now («col_idx» .entry)) (now (values .entry))) options groups 0 (now (ints .entry)) (now (floats .entry)) (now («work_ints» .entry)) (now («work_floats» .entry)) (now («work_ints» .entry)) (now («work_floats» .exit)) ⌝ }
 {
@@ -62,7 +62,7 @@ fn galerkin_matrix(
     work_ints: &mut [u32],
     work_floats: &mut [f64],
 )
-    requires { ⌜ Wide (csr rows cols (now «row_ptr») (now «col_idx») (now values)) options groups (roomOf (length (now ints)) (length (now floats)) (length (now «work_ints»)) (length (now «work_floats»))) ⌝ }
+    requires { ⌜ CoarseFit (csr rows cols (now «row_ptr») (now «col_idx») (now values)) options groups transfers (roomOf (length (now ints)) (length (now floats)) (length (now «work_ints»)) (length (now «work_floats»))) ⌝ }
     requires { ⌜ (options .basis ≡ JacobiSmoothed) × (transfers ≤ rows + length (now values)) ⌝ }
     ensures { λ _. ⌜ MatrixStage (csr rows cols (now («row_ptr» .entry)) (now («col_idx» .entry)) (now (values .entry))) options groups transfers (now (ints .entry)) (now (floats .entry)) (now («work_ints» .entry)) (now («work_floats» .entry)) (now («work_ints» .exit)) (now («work_floats» .exit)) ⌝ }
 {
@@ -101,7 +101,7 @@ fn coarse_into(
     work_ints: &mut [u32],
     work_floats: &mut [f64],
 )
-    requires { ⌜ Wide (csr rows cols (now «row_ptr») (now «col_idx») (now values)) options groups (roomOf (length (now ints)) (length (now floats)) (length (now «work_ints»)) (length (now «work_floats»))) ⌝ }
+    requires { ⌜ CoarseFit (csr rows cols (now «row_ptr») (now «col_idx») (now values)) options groups transfers (roomOf (length (now ints)) (length (now floats)) (length (now «work_ints»)) (length (now «work_floats»))) ⌝ }
     requires { ⌜ (options .basis ≡ PiecewiseConstant → transfers ≡ 0) × (transfers ≤ rows + length (now values)) ⌝ }
     ensures { λ _. ⌜ MatrixStage (csr rows cols (now («row_ptr» .entry)) (now («col_idx» .entry)) (now (values .entry))) options groups transfers (now (ints .entry)) (now (floats .entry)) (now («work_ints» .entry)) (now («work_floats» .entry)) (now («work_ints» .exit)) (now («work_floats» .exit)) ⌝ }
 {
@@ -138,7 +138,7 @@ fn coarse_into(
 }
 
 // The coarse matrix and its factor: causes 23 and 24, then the record.
-pub fn coarse_stage(
+fn dense_stage(
     rows: usize,
     cols: usize,
     row_ptr: &[u32],
@@ -153,7 +153,7 @@ pub fn coarse_stage(
     work_ints: &mut [u32],
     work_floats: &mut [f64],
 ) -> SetupAnswer
-    requires { ⌜ Wide (csr rows cols (now «row_ptr») (now «col_idx») (now values)) options groups (roomOf (length (now ints)) (length (now floats)) (length (now «work_ints»)) (length (now «work_floats»))) ⌝ }
+    requires { ⌜ CoarseFit (csr rows cols (now «row_ptr») (now «col_idx») (now values)) options groups transfers (roomOf (length (now ints)) (length (now floats)) (length (now «work_ints»)) (length (now «work_floats»))) ⌝ }
     requires { ⌜ (options .basis ≡ PiecewiseConstant → transfers ≡ 0) × (transfers ≤ rows + length (now values)) ⌝ }
     ensures { λ r. ⌜ CoarseStage (csr rows cols (now («row_ptr» .entry)) (now («col_idx» .entry)) (now (values .entry))) options groups transfers damping (lentOf (now (ints .entry)) (now (floats .entry)) (now («work_ints» .entry)) (now («work_floats» .entry))) r (lentOf (now (ints .entry)) (now (floats .exit)) (now («work_ints» .exit)) (now («work_floats» .exit))) ⌝ }
 {
@@ -182,5 +182,47 @@ pub fn coarse_stage(
         rows * size + transfers,
         floats,
         work_floats,
+    )
+}
+
+// The same in the front of the lists, as far as it needs them: what it clears again. The rest is zero already.
+pub fn coarse_stage(
+    rows: usize,
+    cols: usize,
+    row_ptr: &[u32],
+    col_idx: &[u32],
+    values: &[f64],
+    options: Options,
+    groups: u64,
+    transfers: usize,
+    damping: f64,
+    ints: &[u32],
+    floats: &mut [f64],
+    work_ints: &mut [u32],
+    work_floats: &mut [f64],
+) -> SetupAnswer
+    requires { ⌜ Wide (csr rows cols (now «row_ptr») (now «col_idx») (now values)) options groups (roomOf (length (now ints)) (length (now floats)) (length (now «work_ints»)) (length (now «work_floats»))) ⌝ }
+    requires { ⌜ (options .basis ≡ PiecewiseConstant → transfers ≡ 0) × (transfers ≤ rows + length (now values)) ⌝ }
+    ensures { λ r. ⌜ CoarseStage (csr rows cols (now («row_ptr» .entry)) (now («col_idx» .entry)) (now (values .entry))) options groups transfers damping (lentOf (now (ints .entry)) (now (floats .entry)) (now («work_ints» .entry)) (now («work_floats» .entry))) r (lentOf (now (ints .entry)) (now (floats .exit)) (now («work_ints» .exit)) (now («work_floats» .exit))) ⌝ }
+{
+    let size = options.block as usize;
+    let c = groups as usize * size;
+    let few = 2 * c;
+    let part = c * c + c;
+    let stop = rows * size + transfers + c * c;
+    dense_stage(
+        rows,
+        cols,
+        row_ptr,
+        col_idx,
+        values,
+        options,
+        groups,
+        transfers,
+        damping,
+        ints,
+        &mut floats[..stop],
+        &mut work_ints[..few],
+        &mut work_floats[..part],
     )
 }

@@ -1,7 +1,9 @@
 -- Either basis.
+use Rattle.two_level_setup.specs.Fit.{CoarseFit, roomOf}
 use Rattle.two_level_setup.specs.Contracts.{MatrixStage}
 use Rattle.definitions.specs.Matrix.{csr}
 use Prim.Native.Nat.{_-_}
+use lib.ListN.{length}
 use mathlib.Core.Path.{sym, subst}
 use borrow.Author.Needs.{needs}
 use Rattle.two_level_setup.proofs.matrix.coarse_into.Statement.{statement}
@@ -11,7 +13,10 @@ enum-told : tie.Need-enum-told
 enum-told c = search needs
 
 constant-matrix-requires : tie.Need-constant-matrix-requires
-constant-matrix-requires c κs = search needs
+constant-matrix-requires c κs = let a = c .before .before .before .before .before .before .before .before .before .before .before .args in
+    let p = c .before .before .before .before .before .before .before .before .before .before .before .pre in
+    let b = c .before .before .enum-told .given .1 in
+    (subst (λ n. CoarseFit (csr (a .rows) (a .cols) (a .row-ptr .now) (a .col-idx .now) (a .values .now)) (a .options) (a .groups) n (roomOf (length (a .ints .now)) (length (a .floats .now)) (length (a .work-ints .now)) (length (a .work-floats .now)))) (p .1 .0 b) (p .0), b)
 
 enum-told-2 : tie.Need-enum-told-2
 enum-told-2 c = search needs
