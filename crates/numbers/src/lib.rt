@@ -1,6 +1,7 @@
-// Small tests on floats, and lists cleared and copied: what every stage uses.
+// Small tests on floats, a quotient, and lists cleared and copied: what every stage uses.
 ghost use mathlib.Core.Path.{_≡_};
 ghost use mathlib.Core.List.{_++_};
+ghost use Prim.Native.Nat.{_/_};
 ghost use lib.ListN.{length, replicate, take, drop};
 ghost use lib.Ieee.Scale.{finite as isFinite};
 ghost use Rattle.definitions.specs.Numbers.{zeroᶠ, magnitude as magnitudeOf, larger as largerOf, usable as usableOf, above as aboveOf};
@@ -40,6 +41,40 @@ pub fn above(bound: f64, x: f64) -> bool
     ensures { λ r. ⌜ r ≡ aboveOf bound x ⌝ }
 {
     if finite(x) { !(x <= bound) } else { false }
+}
+
+// x / d; a small divisor is a constant here, by which the compiler multiplies instead. 0 where d is.
+pub fn quotient(x: usize, d: usize) -> usize
+    ensures { λ r. ⌜ r ≡ x / d ⌝ }
+{
+    if d == 0 {
+        return 0;
+    }
+    if d == 1 {
+        return x;
+    }
+    if d == 2 {
+        return x / 2;
+    }
+    if d == 3 {
+        return x / 3;
+    }
+    if d == 4 {
+        return x / 4;
+    }
+    if d == 5 {
+        return x / 5;
+    }
+    if d == 6 {
+        return x / 6;
+    }
+    if d == 7 {
+        return x / 7;
+    }
+    if d == 8 {
+        return x / 8;
+    }
+    x / d
 }
 
 pub fn zero_ints(s: &mut [u32])
