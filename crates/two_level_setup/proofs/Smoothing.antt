@@ -5,6 +5,7 @@ use Prim.Native.Nat.{ℕ, zero, suc, _+_, _-_, _*_, _%_, _≤_, _<_}
 use native.Mathlib.Omega.{arith}
 use native.Mathlib.Nat.{le-trans, div-le-self}
 use lib.ListN.{length, getD, take, drop, replicate, length-append, length-drop, take-append-drop}
+use lib.Seq.{length-take-le}
 use lib.Ieee.{Float, ne}
 use borrow.Author.Tests.{le-leb, eq-eqb}
 use borrow.Rule.Slice.PartMut.{putMid}
@@ -45,7 +46,7 @@ use Rattle.two_level_setup.specs.Fit.{Wide, roomOf}
 use Rattle.two_level_setup.specs.Contracts.{lentOf, roomIn, Leaves, Floats, Ids, Clear, Weighted, MovedInts, MovedFloats, CoarseStage, KeptStage, SmoothStage, EstimateStage, RoomStage}
 use Rattle.two_level_setup.proofs.Padding.{padded-front, padded-back, padded-all, padded-join, padded-none, tail-is, tail-put}
 use Rattle.two_level_setup.proofs.Matrices.{none-outside, ids-read}
-use Rattle.two_level_setup.proofs.Building.{leaves-refused, leaves-same}
+use Rattle.two_level_setup.proofs.Building.{leaves-refused, leaves-same, put-zeros}
 
 map-over : {B : Type 0} (h : Entry → B) (xs ys : List Entry) → map h (xs ++ ys) ≡ map h xs ++ map h ys
 map-over h [] ys = refl
@@ -136,15 +137,19 @@ module _ (a : Matrix) (o : Options) (groups : ℕ) (ints : List ℕ) (floats : L
       ap (λ s. part used (used + a .rows) s) (fl .stand ∙ append-assoc factors d (replicate (length floats - length (factors ++ d)) zeroᶠ))
       ∙ part-mid factors d (replicate (length floats - length (factors ++ d)) zeroᶠ) used (used + a .rows) (fl .many) (ap (λ n. used + n) l)
 
-  estimate-passes : (d : List Float) → length d ≡ a .rows → estimateCall a d (length workFloats) ≡ estimateOf a d
+  -- what the estimate is lent of the work floats
+  abbrev estimated : List Float
+  estimated = take (3 * a .rows) workFloats
+
+  estimate-passes : (d : List Float) → length d ≡ a .rows → estimateCall a d (length estimated) ≡ estimateOf a d
   unfolding estimateCall
   estimate-passes d l =
       goes-on (validOf a) tt _ (front .valid)
       ∙ goes-on _ tt _ (passed _ NotSquare (eq-eqb (a .cols) (a .rows) (front .square)))
       ∙ goes-on _ tt _ (passed _ (WrongLength (a .rows) (length d)) (eq-eqb (length d) (a .rows) l))
-      ∙ goes-on _ tt _ (passed _ ListTooShort (le-leb (3 * a .rows) (length workFloats) (omega (arith, w .workFloats))))
+      ∙ goes-on _ tt _ (passed _ ListTooShort (le-leb (3 * a .rows) (length estimated) (rw (length-take-le (3 * a .rows) workFloats (omega (arith, w .workFloats))) (omega arith))))
 
-  module _ (x : EstimateAnswer) (ex : x ≡ estimateAnswer (estimateCall a read (length workFloats))) where
+  module _ (x : EstimateAnswer) (ex : x ≡ estimateAnswer (estimateCall a read (length estimated))) where
     no-estimate : (p : Outcome Estimate) (r : Refusal) → NoEstimate r ≡ estimateAnswer p → p ≡ refused r
     unfolding estimateAnswer
     no-estimate (done q) r e = cc
@@ -158,16 +163,16 @@ module _ (a : Matrix) (o : Options) (groups : ℕ) (ints : List ℕ) (floats : L
     pub estimate-refused : (r : Refusal) (y : Lent) → x ≡ NoEstimate r → EstimateStage a o groups lists (NoSetup r) y
     unfolding fromDiagonal
     estimate-refused r y e factors g d l fl i cl =
-        leaves-refused (fromDiagonal a o factors g d) room r y (stops (estimateOf a d) r _ (no-estimate (estimateOf a d) r (sym e ∙ ex ∙ ap (λ s. estimateAnswer (estimateCall a s (length workFloats))) (diagonal-read factors d l fl) ∙ ap estimateAnswer (estimate-passes d l))))
+        leaves-refused (fromDiagonal a o factors g d) room r y (stops (estimateOf a d) r _ (no-estimate (estimateOf a d) r (sym e ∙ ex ∙ ap (λ s. estimateAnswer (estimateCall a s (length estimated))) (diagonal-read factors d l fl) ∙ ap estimateAnswer (estimate-passes d l))))
 
-    pub estimate-built : (rho damping : Float) → x ≡ Estimated rho damping → (workFloats1 : List Float) → workFloats1 ≡ estimateWorkLeft a read workFloats → (r : SetupAnswer) (y : Lent)
-        → length workFloats1 ≡ length workFloats → SmoothStage a o groups damping (lentOf ints floats workInts workFloats1) r y → EstimateStage a o groups lists r y
+    pub estimate-built : (rho damping : Float) → x ≡ Estimated rho damping → (back : List Float) → back ≡ estimateWorkLeft a read estimated → (r : SetupAnswer) (y : Lent)
+        → length (back ++ drop (3 * a .rows) workFloats) ≡ length workFloats → SmoothStage a o groups damping (lentOf ints floats workInts (back ++ drop (3 * a .rows) workFloats)) r y → EstimateStage a o groups lists r y
     unfolding fromDiagonal estimateWorkLeft workLeft
-    estimate-built rho damping e workFloats1 ew r y lw k factors g d l fl i cl =
+    estimate-built rho damping e back eb r y lw k factors g d l fl i cl =
         let rd = diagonal-read factors d l fl in
-        let h = has-estimate (estimateOf a d) rho damping (sym e ∙ ex ∙ ap (λ s. estimateAnswer (estimateCall a s (length workFloats))) rd ∙ ap estimateAnswer (estimate-passes d l)) in
-        let w1 : workFloats1 ≡ replicate (length workFloats) zeroᶠ = ew ∙ ap (λ s. estimateWorkLeft a s workFloats) rd ∙ ap (λ p. workLeft zeroᶠ p workFloats) (estimate-passes d l ∙ h .1) in
-        let c1 : Clear workInts workFloats1 = record { ints = cl .ints; floats = w1 ∙ ap (λ n. replicate n zeroᶠ) (sym lw) } in
+        let h = has-estimate (estimateOf a d) rho damping (sym e ∙ ex ∙ ap (λ s. estimateAnswer (estimateCall a s (length estimated))) rd ∙ ap estimateAnswer (estimate-passes d l)) in
+        let b : back ≡ replicate (length estimated) zeroᶠ = eb ∙ ap (λ s. estimateWorkLeft a s estimated) rd ∙ ap (λ p. workLeft zeroᶠ p estimated) (estimate-passes d l ∙ h .1) in
+        let c1 : Clear workInts (back ++ drop (3 * a .rows) workFloats) = record { ints = cl .ints; floats = put-zeros zeroᶠ (3 * a .rows) workFloats back (cl .floats) b ∙ ap (λ n. replicate n zeroᶠ) (sym lw) } in
         leaves-same (fromDiagonal a o factors g d) (fromTransfer a o factors g (record { damping = damping; weights = transferOf a d damping (o .block) (g .ids) (g .count * o .block) })) room r y
         (goes-on (estimateOf a d) (h .0) _ (h .1) ∙ ap (λ s. fromTransfer a o factors g (record { damping = s; weights = transferOf a d s (o .block) (g .ids) (g .count * o .block) })) (sym (h .2)))
         (subst (λ n. Leaves (fromTransfer a o factors g (record { damping = damping; weights = transferOf a d damping (o .block) (g .ids) (g .count * o .block) })) (roomOf (length ints) (length floats) (length workInts) n) r y) lw

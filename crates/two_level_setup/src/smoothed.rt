@@ -142,7 +142,7 @@ fn transfer_stage(
     }
 }
 
-// Causes 20 to 22, with the diagonal behind the block factors.
+// Causes 20 to 22, with the diagonal behind the block factors, in the front of the work floats: what is lent is cleared again.
 fn estimate_stage(
     rows: usize,
     cols: usize,
@@ -163,6 +163,7 @@ fn estimate_stage(
     let size = options.block as usize;
     let used = rows * size;
     let end = used + rows;
+    let need = 3 * rows;
     let answer = spectral_radius::estimate(
         rows,
         cols,
@@ -170,7 +171,7 @@ fn estimate_stage(
         col_idx,
         values,
         &floats[used..end],
-        work_floats,
+        &mut work_floats[..need],
     );
     match answer {
         EstimateAnswer::Refused(cause) => SetupAnswer::Refused(cause),
