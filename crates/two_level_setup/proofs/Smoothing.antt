@@ -8,7 +8,7 @@ use lib.ListN.{length, getD, take, drop, replicate, length-append, length-drop, 
 use lib.Seq.{length-take-le}
 use lib.Ieee.{Float, ne}
 use borrow.Author.Tests.{le-leb, eq-eqb}
-use borrow.Rule.Slice.PartMut.{putMid}
+use borrow.Rule.Slice.PartMut.{putMid, mid-len}
 use Rattle.definitions.specs.Lists.{padded, part, pointersFrom, joinedLists}
 use Rattle.definitions.specs.Numbers.{zeroᶠ, total}
 use Rattle.definitions.specs.Refusal.{Outcome, refused, done, resultLeft, workLeft}
@@ -45,6 +45,7 @@ use Rattle.two_level_setup.specs.Stages.{fromTransfer, fromDiagonal, fro
 use Rattle.two_level_setup.specs.Fit.{Wide, roomOf}
 use Rattle.two_level_setup.specs.Contracts.{lentOf, roomIn, Leaves, Floats, Ids, Clear, Weighted, MovedInts, MovedFloats, CoarseStage, KeptStage, SmoothStage, EstimateStage, RoomStage}
 use Rattle.two_level_setup.proofs.Padding.{padded-front, padded-back, padded-all, padded-join, padded-none, tail-is, tail-put}
+use Rattle.two_level_setup.proofs.Parts.{padded-full, put-behind}
 use Rattle.two_level_setup.proofs.Matrices.{none-outside, ids-read}
 use Rattle.two_level_setup.proofs.Building.{leaves-refused, leaves-same, put-zeros}
 
@@ -73,18 +74,19 @@ module _ (a : Matrix) (o : Options) (groups : ℕ) (ints : List ℕ) (floats : L
 
   -- ---- the diagonal
 
-  abbrev tail : List Float
-  tail = take (length floats - used) (drop used floats)
+  -- where it stands, behind the block factors
+  abbrev read : List Float
+  read = part used (used + a .rows) floats
 
-  tail-long : length tail ≡ length floats - used
-  tail-long = ap length (tail-is used floats) ∙ length-drop used floats
+  read-long : length read ≡ a .rows
+  read-long = mid-len used (used + a .rows) floats (omega (arith, w .fit .floats)) ∙ omega arith
 
-  diagonal-passes : diagonalCall a (length tail) ≡ diagonalOf a
+  diagonal-passes : diagonalCall a (length read) ≡ diagonalOf a
   unfolding diagonalCall
   diagonal-passes =
       goes-on (validOf a) tt _ (front .valid)
       ∙ goes-on _ tt _ (passed _ NotSquare (eq-eqb (a .cols) (a .rows) (front .square)))
-      ∙ goes-on _ tt _ (passed _ ListTooShort (le-leb (a .rows) (length tail) (omega (arith, tail-long, w .fit .floats))))
+      ∙ goes-on _ tt _ (passed _ ListTooShort (le-leb (a .rows) (length read) (omega (arith, read-long))))
 
   sums-length : (left i : ℕ) (sums d : List Float) → diagonalFrom a left i sums ≡ done d → length d ≡ length sums + left
   unfolding diagonalFrom
@@ -99,7 +101,7 @@ module _ (a : Matrix) (o : Options) (groups : ℕ) (ints : List ℕ) (floats : L
   unfolding diagonalOf
   diagonal-length d e = sums-length (a .rows) 0 [] d e ∙ omega arith
 
-  module _ (x : Answer) (ex : x ≡ answerOf (diagonalCall a (length tail))) where
+  module _ (x : Answer) (ex : x ≡ answerOf (diagonalCall a (length read))) where
     pub diagonal-refused : o .basis ≡ JacobiSmoothed → (r : Refusal) (y : Lent) → x ≡ Refused r → RoomStage a o groups lists (NoSetup r) y
     diagonal-refused b r y e factors g fl i cl =
         leaves-refused (fromRoom a o factors g) room r y (smoothed-splits a o factors g b ∙ stops (diagonalOf a) r _ (refused-is (diagonalOf a) r (ap answerOf (sym diagonal-passes) ∙ sym ex ∙ e)))
@@ -109,27 +111,26 @@ module _ (a : Matrix) (o : Options) (groups : ℕ) (ints : List ℕ) (floats : L
     has-diagonal (done l) e = (l, refl)
     has-diagonal (refused r) e = ([], cc)
 
-    pub diagonal-built : o .basis ≡ JacobiSmoothed → x ≡ Accepted → (more : List Float) → more ≡ diagonalLeft a tail → (r : SetupAnswer) (y : Lent)
-        → length (putMid used (length floats - used) floats more) ≡ length floats
-        → EstimateStage a o groups (lentOf ints (putMid used (length floats - used) floats more) workInts workFloats) r y → RoomStage a o groups lists r y
+    pub diagonal-built : o .basis ≡ JacobiSmoothed → x ≡ Accepted → (more : List Float) → more ≡ diagonalLeft a read → (r : SetupAnswer) (y : Lent)
+        → length (putMid used (used + a .rows - used) floats more) ≡ length floats
+        → EstimateStage a o groups (lentOf ints (putMid used (used + a .rows - used) floats more) workInts workFloats) r y → RoomStage a o groups lists r y
     unfolding diagonalLeft resultLeft
     diagonal-built b e more em r y la k factors g fl i cl =
         let h = has-diagonal (diagonalOf a) (sym e ∙ ex ∙ ap answerOf diagonal-passes) in
         let d = h .0 in
-        let after = putMid used (length floats - used) floats more in
-        let m : more ≡ padded zeroᶠ (length floats - used) d = em ∙ ap (λ p. resultLeft zeroᶠ p tail) (diagonal-passes ∙ h .1) ∙ ap (λ n. padded zeroᶠ n d) tail-long in
-        let p = tail-put used floats more (omega (arith, w .fit .floats)) in
-        let fr : take used floats ≡ factors = ap (λ l. take used l) (fl .stand) ∙ padded-front zeroᶠ (length floats) used factors [] (fl .many) in
+        let ld : length d ≡ a .rows = diagonal-length d (h .1) in
+        let after = putMid used (used + a .rows - used) floats more in
+        let m : more ≡ d = em ∙ ap (λ p. resultLeft zeroᶠ p read) (diagonal-passes ∙ h .1) ∙ padded-full zeroᶠ (length read) d (ld ∙ sym read-long) in
         let st : after ≡ padded zeroᶠ (length after) (factors ++ d)
-        = sym (take-append-drop used after) ∙ ap (λ l. l ++ drop used after) (p .0 ∙ fr) ∙ ap (λ l. factors ++ l) (p .1 ∙ m) ∙ padded-join zeroᶠ (length floats) used factors d (fl .many) ∙ ap (λ n. padded zeroᶠ n (factors ++ d)) (sym la) in
+        = put-behind zeroᶠ used (used + a .rows) floats factors more (fl .stand) (fl .many) (ap length m ∙ ld ∙ less used (a .rows)) ∙ ap (λ l. padded zeroᶠ (length floats) (factors ++ l)) m ∙ ap (λ n. padded zeroᶠ n (factors ++ d)) (sym la) in
         let f1 : Floats a o factors d after = record { stand = st; many = fl .many } in
         leaves-same (fromRoom a o factors g) (fromDiagonal a o factors g d) room r y (smoothed-splits a o factors g b ∙ goes-on (diagonalOf a) d _ (h .1))
-        (subst (λ n. Leaves (fromDiagonal a o factors g d) (roomOf (length ints) n (length workInts) (length workFloats)) r y) la (k factors g d (diagonal-length d (h .1)) f1 i cl))
+        (subst (λ n. Leaves (fromDiagonal a o factors g d) (roomOf (length ints) n (length workInts) (length workFloats)) r y) la (k factors g d ld f1 i cl))
+      where
+        less : (x y : ℕ) → y ≡ x + y - x
+        less x y = omega arith
 
   -- ---- the estimate
-
-  abbrev read : List Float
-  read = part used (used + a .rows) floats
 
   diagonal-read : (factors d : List Float) → length d ≡ a .rows → Floats a o factors d floats → read ≡ d
   unfolding padded

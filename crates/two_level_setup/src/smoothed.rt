@@ -192,7 +192,7 @@ fn estimate_stage(
     }
 }
 
-// Cause 19, then the estimate.
+// Cause 19, then the estimate. Behind the diagonal stand zeros already.
 pub fn diagonal_stage(
     rows: usize,
     cols: usize,
@@ -212,7 +212,8 @@ pub fn diagonal_stage(
 {
     let size = options.block as usize;
     let used = rows * size;
-    let answer = csr32::diagonal(rows, cols, row_ptr, col_idx, values, &mut floats[used..]);
+    let end = used + rows;
+    let answer = csr32::diagonal(rows, cols, row_ptr, col_idx, values, &mut floats[used..end]);
     match answer {
         Answer::Refused(cause) => SetupAnswer::Refused(cause),
         Answer::Accepted => estimate_stage(
