@@ -8,7 +8,7 @@ use lib.ListN.{length, getD, take, drop, replicate, length-append, length-drop, 
 use lib.Seq.{length-take-le}
 use lib.Ieee.{Float, ne}
 use borrow.Author.Tests.{le-leb, eq-eqb}
-use borrow.Rule.Slice.PartMut.{putMid, mid-len}
+use borrow.Rule.Slice.PartMut.{putMid, mid-len, take-put}
 use Rattle.definitions.specs.Lists.{padded, part, pointersFrom, joinedLists}
 use Rattle.definitions.specs.Numbers.{zeroᶠ, total}
 use Rattle.definitions.specs.Refusal.{Outcome, refused, done, resultLeft, workLeft}
@@ -36,7 +36,7 @@ use Rattle.laws.specs.Counting.{rows-within}
 use Rattle.separation.specs.Fitting.{row-short, entries-short}
 use Rattle.csr32.specs.Calls.{goes-on, stops, passed, refused-is}
 use Rattle.numbers.specs.Copied.{copied}
-use Rattle.two_level_grouping.proofs.Kept.{put-tail, copied-zeros}
+use Rattle.two_level_grouping.proofs.Kept.{put-tail, copied-zeros, front-cleared}
 use Rattle.two_level_grouping.specs.Front.{Front, front-rows}
 use Rattle.transfer.specs.Call.{shapeChecked, groupsChecked, roomChecked, transferChecked, smoothedTransferCall, transferAnswer, transferInts as intsLeft, transferFloats as floatsLeft}
 use Rattle.transfer.specs.declared.TransferAnswer.{TransferAnswer}
@@ -44,8 +44,8 @@ use Rattle.transfer.specs.declared.TransferAnswer.the-variants.{Count, Refused 
 use Rattle.two_level_setup.specs.Stages.{fromTransfer, fromDiagonal, fromRoom, smoothed-splits}
 use Rattle.two_level_setup.specs.Fit.{Wide, roomOf}
 use Rattle.two_level_setup.specs.Contracts.{lentOf, roomIn, Leaves, Floats, Ids, Clear, Weighted, MovedInts, MovedFloats, CoarseStage, KeptStage, SmoothStage, EstimateStage, RoomStage}
-use Rattle.two_level_setup.proofs.Padding.{padded-front, padded-back, padded-all, padded-join, padded-none, tail-is, tail-put}
-use Rattle.two_level_setup.proofs.Parts.{padded-full, put-behind}
+use Rattle.two_level_setup.proofs.Padding.{padded-front, padded-back, padded-all, padded-join, padded-none, padded-past, tail-is}
+use Rattle.two_level_setup.proofs.Parts.{padded-full, put-behind, tail-cleared}
 use Rattle.two_level_setup.proofs.Matrices.{none-outside, ids-read}
 use Rattle.two_level_setup.proofs.Building.{leaves-refused, leaves-same, put-zeros}
 
@@ -250,31 +250,33 @@ module _ (a : Matrix) (o : Options) (groups : ℕ) (ints : List ℕ) (floats : L
           let i1 : workInts1 ≡ padded 0 (length workInts1) (pointersFrom 0 ws ++ columnsOf ws) = ei ∙ ap (λ p. intsLeft p workInts) is ∙ ap (λ s. padded 0 (length workInts) (pointersFrom 0 ws ++ s)) (map-joined (λ (q : Entry). q .col) ws) ∙ ap (λ m. padded 0 m (pointersFrom 0 ws ++ columnsOf ws)) (sym li) in
           let f1 : workFloats1 ≡ padded zeroᶠ (length workFloats1) (numbersOf ws) = ef ∙ ap (λ p. floatsLeft p workFloats) is ∙ ap (λ s. padded zeroᶠ (length workFloats) s) (map-joined (λ (q : Entry). q .value) ws) ∙ ap (λ m. padded zeroᶠ m (numbersOf ws)) (sym lf) in
           let same : roomIn ints floats workInts1 workFloats1 ≡ room = rw (li, lf) in
-          subst (λ q. Leaves (fromTransfer a o factors g (record { damping = damping; weights = ws })) q r y) same (k factors g d ws (weighted d (g .ids) (g .count * o .block)) t fl i i1 f1)
+          subst (λ q. Leaves (fromTransfer a o factors g (record { damping = damping; weights = ws })) q r y) same (k factors g d ws l (weighted d (g .ids) (g .count * o .block)) t fl i i1 f1)
 
   -- ---- the transfer's rows in their place
 
   module _ (transfers : ℕ) (damping : Float) (ints1 workInts1 : List ℕ) (floats1 workFloats1 : List Float) where
-    pub kept-built : o .basis ≡ JacobiSmoothed → transfers ≤ a .rows + length (a .values) → MovedInts (nodeCount a o) (a .rows + 1 + transfers) ints workInts ints1 workInts1 → MovedFloats used transfers floats workFloats floats1 workFloats1
+    pub kept-built : o .basis ≡ JacobiSmoothed → transfers ≤ a .rows + length (a .values) → MovedInts (nodeCount a o) (a .rows + 1 + transfers) ints workInts ints1 workInts1 → MovedFloats used (used + a .rows) transfers floats workFloats floats1 workFloats1
         → (r : SetupAnswer) (y : Lent) → length ints1 ≡ length ints → length floats1 ≡ length floats → length workInts1 ≡ length workInts → length workFloats1 ≡ length workFloats
         → CoarseStage a o groups transfers damping (lentOf ints1 floats1 workInts1 workFloats1) r y → KeptStage a o groups transfers damping lists r y
     unfolding transferInts transferFloats
-    kept-built b tf mi mf r y li lf lwi lwf k factors g d ws v t fl i ei ef =
+    kept-built b tf mi mf r y li lf lwi lwf k factors g d ws ld v t fl i ei ef =
         let n = nodeCount a o in
         let pl : length (pointersFrom 0 ws ++ columnsOf ws) ≡ a .rows + 1 + transfers
         = length-append (pointersFrom 0 ws) (columnsOf ws) ∙ rw (pointers-length 0 ws, v .many, columns-length ws) (ap (λ m. suc (a .rows) + m) (sym (values-length ws) ∙ t) ∙ one (a .rows) transfers) in
         let clear : drop n ints ≡ replicate (length ints - n) 0 = ap (λ s. drop n s) (i .stand) ∙ padded-back 0 (length ints) n (g .ids) [] (i .many) ∙ padded-none 0 (length ints - n) in
         let fi : take n ints ≡ g .ids = ap (λ s. take n s) (i .stand) ∙ padded-front 0 (length ints) n (g .ids) [] (i .many) in
+        let past : drop (used + a .rows) floats ≡ replicate (length floats - (used + a .rows)) zeroᶠ
+        = ap (λ s. drop (used + a .rows) s) (fl .stand) ∙ padded-past zeroᶠ (length floats) (used + a .rows) (factors ++ d) (rw (length-append factors d, fl .many, ld) (omega arith)) in
         let ff : take used floats ≡ factors = ap (λ s. take used s) (fl .stand) ∙ padded-front zeroᶠ (length floats) used factors d (fl .many) in
         let si : ints1 ≡ padded 0 (length ints1) (g .ids ++ transferInts (o .basis) ws)
         = mi .moved (pointersFrom 0 ws ++ columnsOf ws) ei pl (omega (arith, w .fit .ints)) clear ∙ ap (λ s. s ++ padded 0 (length ints - n) (pointersFrom 0 ws ++ columnsOf ws)) fi
         ∙ padded-join 0 (length ints) n (g .ids) (pointersFrom 0 ws ++ columnsOf ws) (i .many) ∙ ap (λ s. padded 0 (length ints) (g .ids ++ transferInts s ws)) (sym b) ∙ ap (λ m. padded 0 m (g .ids ++ transferInts (o .basis) ws)) (sym li) in
         let sf : floats1 ≡ padded zeroᶠ (length floats1) (factors ++ numbersOf ws)
-        = mf .moved (numbersOf ws) ef t (omega (arith, w .fit .floats)) ∙ ap (λ s. s ++ padded zeroᶠ (length floats - used) (numbersOf ws)) ff
+        = mf .moved (numbersOf ws) ef t (omega (arith, w .fit .floats)) past ∙ ap (λ s. s ++ padded zeroᶠ (length floats - used) (numbersOf ws)) ff
         ∙ padded-join zeroᶠ (length floats) used factors (numbersOf ws) (fl .many) ∙ ap (λ m. padded zeroᶠ m (factors ++ numbersOf ws)) (sym lf) in
         let i1 : Ids a o groups g (transferInts (o .basis) ws) ints1 = record { stand = si; many = i .many; below = i .below; count = i .count } in
         let f1 : Floats a o factors (numbersOf ws) floats1 = record { stand = sf; many = fl .many } in
-        let cl : Clear workInts1 workFloats1 = record { ints = mi .clear ∙ ap (λ m. replicate m 0) (sym lwi); floats = mf .clear ∙ ap (λ m. replicate m zeroᶠ) (sym lwf) } in
+        let cl : Clear workInts1 workFloats1 = record { ints = mi .clear (pointersFrom 0 ws ++ columnsOf ws) ei pl ∙ ap (λ m. replicate m 0) (sym lwi); floats = mf .clear (numbersOf ws) ef t ∙ ap (λ m. replicate m zeroᶠ) (sym lwf) } in
         let same : roomIn ints1 floats1 workInts1 workFloats1 ≡ room = rw (li, lf, lwi, lwf) in
         subst (λ q. Leaves (fromTransfer a o factors g (record { damping = damping; weights = ws })) q r y) same (k factors g ws (λ _. v) t f1 i1 cl)
       where
@@ -284,26 +286,25 @@ module _ (a : Matrix) (o : Options) (groups : ℕ) (ints : List ℕ) (floats : L
 -- ---- one list's move
 
 module _ (at count : ℕ) where
-  pub moved-ints : (to from more : List ℕ) (from' : List ℕ) → more ≡ copied (part 0 count from) (take (length to - at) (drop at to)) → from' ≡ replicate (length from) 0
-      → MovedInts at count to from (putMid at (length to - at) to more) from'
-  moved-ints to from more from' em ef = record {
+  front-is : {A : Type 0} (z : A) (from xs : List A) → from ≡ padded z (length from) xs → length xs ≡ count → part 0 count from ≡ xs
+  front-is z from xs e l = let q : count - 0 ≡ count = omega arith in rw q (ap (λ s. take count s) e ∙ padded-all z (length from) count xs l)
+
+  pub moved-ints : (to from more zeros : List ℕ) → count ≤ length from → more ≡ copied (part 0 count from) (take (length to - at) (drop at to)) → zeros ≡ replicate (length (part 0 count from)) 0
+      → MovedInts at count to from (putMid at (length to - at) to more) (putMid 0 (count - 0) from zeros)
+  moved-ints to from more zeros hc em ez = record {
     moved = λ xs e l h z.
-        let p : part 0 count from ≡ xs = (let q : count - 0 ≡ count = omega arith in rw q (ap (λ s. take count s) e ∙ padded-all 0 (length from) count xs l)) in
         let t : take (length to - at) (drop at to) ≡ replicate (length to - at) 0 = tail-is at to ∙ z in
-        put-tail at to more ∙ ap (λ s. take at to ++ s) (em ∙ rw (p, t) (copied-zeros 0 xs (length to - at) (omega arith)));
-    clear = ef;
+        put-tail at to more ∙ ap (λ s. take at to ++ s) (em ∙ rw (front-is 0 from xs e l, t) (copied-zeros 0 xs (length to - at) (omega arith)));
+    clear = λ xs e l. front-cleared 0 (length from) count from xs zeros e l hc ez;
   }
 
-  pub moved-floats : (to from zeros more : List Float) (from' : List Float) → at ≤ length to → zeros ≡ replicate (length (take (length to - at) (drop at to))) zeroᶠ
-      → more ≡ copied (part 0 count from) (take (length (putMid at (length to - at) to zeros) - at) (drop at (putMid at (length to - at) to zeros))) → length (putMid at (length to - at) to zeros) ≡ length to
-      → from' ≡ replicate (length from) zeroᶠ → MovedFloats at count to from (putMid at (length (putMid at (length to - at) to zeros) - at) (putMid at (length to - at) to zeros) more) from'
-  moved-floats to from zeros more from' ha ez em lm ef = record {
-    moved = λ xs e l h.
-        let mid = putMid at (length to - at) to zeros in
-        let p : part 0 count from ≡ xs = (let q : count - 0 ≡ count = omega arith in rw q (ap (λ s. take count s) e ∙ padded-all zeroᶠ (length from) count xs l)) in
-        let tp = tail-put at to zeros ha in
-        let zl : length (take (length to - at) (drop at to)) ≡ length to - at = ap length (tail-is at to) ∙ length-drop at to in
-        let t : take (length mid - at) (drop at mid) ≡ replicate (length to - at) zeroᶠ = tail-is at mid ∙ tp .1 ∙ ez ∙ ap (λ m. replicate m zeroᶠ) zl in
-        put-tail at mid more ∙ ap (λ s. s ++ more) (tp .0) ∙ ap (λ s. take at to ++ s) (em ∙ rw (p, t) (copied-zeros zeroᶠ xs (length to - at) (omega arith)));
-    clear = ef;
+  pub moved-floats : (end : ℕ) (to from blanks more zeros : List Float) → at ≤ end → end ≤ length to → count ≤ length from → blanks ≡ replicate (length (part at end to)) zeroᶠ
+      → more ≡ copied (part 0 count from) (take (length (putMid at (end - at) to blanks) - at) (drop at (putMid at (end - at) to blanks))) → length (putMid at (end - at) to blanks) ≡ length to
+      → zeros ≡ replicate (length (part 0 count from)) zeroᶠ → MovedFloats at end count to from (putMid at (length (putMid at (end - at) to blanks) - at) (putMid at (end - at) to blanks) more) (putMid 0 (count - 0) from zeros)
+  moved-floats end to from blanks more zeros ha he hc eb em lm ez = record {
+    moved = λ xs e l h z.
+        let mid = putMid at (end - at) to blanks in
+        let t : take (length mid - at) (drop at mid) ≡ replicate (length to - at) zeroᶠ = tail-is at mid ∙ tail-cleared zeroᶠ at end to blanks ha he eb z in
+        put-tail at mid more ∙ ap (λ s. s ++ more) (take-put at (end - at) to blanks (omega arith)) ∙ ap (λ s. take at to ++ s) (em ∙ rw (front-is zeroᶠ from xs e l, t) (copied-zeros zeroᶠ xs (length to - at) (omega arith)));
+    clear = λ xs e l. front-cleared zeroᶠ (length from) count from xs zeros e l hc ez;
   }

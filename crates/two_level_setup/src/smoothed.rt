@@ -21,25 +21,25 @@ fn at_most(x: u64, most: usize) -> usize
     if x < most as u64 { x as usize } else { most }
 }
 
-// Pointers and columns go from the work list behind the groups; the work list is cleared.
+// Pointers and columns go from the front of the work list behind the groups, and are cleared there.
 fn keep_columns(nodes: usize, count: usize, ints: &mut [u32], work: &mut [u32])
     requires { ⌜ (nodes ≤ length (now ints)) × (count ≤ length (now work)) ⌝ }
     ensures { λ _. ⌜ MovedInts nodes count (now (ints .entry)) (now (work .entry)) (now (ints .exit)) (now (work .exit)) ⌝ }
 {
     let zero = 0;
     numbers::copy_ints(&work[zero..count], &mut ints[nodes..]);
-    numbers::zero_ints(work);
+    numbers::zero_ints(&mut work[zero..count]);
 }
 
-// Weights go from the work list behind the block factors, where the diagonal stood; the work list is cleared.
-fn keep_weights(used: usize, count: usize, floats: &mut [f64], work: &mut [f64])
-    requires { ⌜ (used ≤ length (now floats)) × (count ≤ length (now work)) ⌝ }
-    ensures { λ _. ⌜ MovedFloats used count (now (floats .entry)) (now (work .entry)) (now (floats .exit)) (now (work .exit)) ⌝ }
+// Weights go from the front of the work list behind the block factors, where the diagonal stood up to `end`, and are cleared there.
+fn keep_weights(used: usize, end: usize, count: usize, floats: &mut [f64], work: &mut [f64])
+    requires { ⌜ (used ≤ end) × ((end ≤ length (now floats)) × (count ≤ length (now work))) ⌝ }
+    ensures { λ _. ⌜ MovedFloats used end count (now (floats .entry)) (now (work .entry)) (now (floats .exit)) (now (work .exit)) ⌝ }
 {
-    numbers::zero_floats(&mut floats[used..]);
+    numbers::zero_floats(&mut floats[used..end]);
     let zero = 0;
     numbers::copy_floats(&work[zero..count], &mut floats[used..]);
-    numbers::zero_floats(work);
+    numbers::zero_floats(&mut work[zero..count]);
 }
 
 // The transfer's rows leave the work lists for their places; then the coarse matrix.
@@ -64,7 +64,8 @@ fn kept_stage(
 {
     let size = options.block as usize;
     keep_columns(rows / size, rows + 1 + transfers, ints, work_ints);
-    keep_weights(rows * size, transfers, floats, work_floats);
+    let used = rows * size;
+    keep_weights(used, used + rows, transfers, floats, work_floats);
     coarse_stage(
         rows,
         cols,
