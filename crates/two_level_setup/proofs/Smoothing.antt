@@ -45,7 +45,7 @@ use Rattle.two_level_setup.specs.Stages.{fromTransfer, fromDiagonal, fro
 use Rattle.two_level_setup.specs.Fit.{Wide, roomOf}
 use Rattle.two_level_setup.specs.Contracts.{lentOf, roomIn, Leaves, Floats, Ids, Clear, Weighted, MovedInts, MovedFloats, CoarseStage, KeptStage, SmoothStage, EstimateStage, RoomStage}
 use Rattle.two_level_setup.proofs.Padding.{padded-front, padded-back, padded-all, padded-join, padded-none, padded-past, tail-is}
-use Rattle.two_level_setup.proofs.Parts.{padded-full, put-behind, tail-cleared}
+use Rattle.two_level_setup.proofs.Parts.{padded-full, put-behind, put-padded, tail-cleared}
 use Rattle.two_level_setup.proofs.Matrices.{none-outside, ids-read}
 use Rattle.two_level_setup.proofs.Building.{leaves-refused, leaves-same, put-zeros}
 
@@ -185,8 +185,15 @@ module _ (a : Matrix) (o : Options) (groups : ℕ) (ints : List ℕ) (floats : L
     abbrev rowsOf : List Float → List ℕ → ℕ → List (List Entry)
     rowsOf d ids c = transferOf a d damping (o .block) ids c
 
+    -- what it is lent of the work floats
+    abbrev weighed : List Float
+    weighed = take (a .rows + length (a .values) + groups * o .block) workFloats
+
+    weighed-long : length weighed ≡ a .rows + length (a .values) + groups * o .block
+    weighed-long = length-take-le (a .rows + length (a .values) + groups * o .block) workFloats (omega (arith, w .workFloats))
+
     transfer-passes : (ids : List ℕ) (d : List Float) → length ids ≡ nodeCount a o → Each (λ g. g < groups) ids → length d ≡ a .rows
-        → smoothedTransferCall a (o .block) ids groups d damping (length workInts) (length workFloats) ≡ done (rowsOf d ids (groups * o .block))
+        → smoothedTransferCall a (o .block) ids groups d damping (length workInts) (length weighed) ≡ done (rowsOf d ids (groups * o .block))
     unfolding smoothedTransferCall transferChecked shapeChecked groupsChecked roomChecked
     transfer-passes ids d li b ld =
         goes-on _ tt _ (goes-on (validOf a) tt _ (front .valid)
@@ -197,15 +204,15 @@ module _ (a : Matrix) (o : Options) (groups : ℕ) (ints : List ℕ) (floats : L
         ∙ goes-on _ tt _ (goes-on _ tt _ (passed _ SetupMisfit (le-leb groups (a .rows) (omega (arith, w .few, div-le-self (a .rows) (o .block)))))
         ∙ goes-on _ tt _ (passed _ (CoarseTooLarge (groups * o .block)) (le-leb (groups * o .block) 2048 (w .small)))
         ∙ passed _ SetupMisfit (rw (eq-eqb (length ids) (nodeCount a o) li, none-outside groups b)))
-        ∙ passed _ ListTooShort (rw (le-leb (2 * a .rows + length (a .values) + 1 + 2 * (groups * o .block)) (length workInts) (omega (arith, w .workInts)), le-leb (a .rows + length (a .values) + groups * o .block) (length workFloats) (omega (arith, w .workFloats)))))
+        ∙ passed _ ListTooShort (rw (le-leb (2 * a .rows + length (a .values) + 1 + 2 * (groups * o .block)) (length workInts) (omega (arith, w .workInts)), le-leb (a .rows + length (a .values) + groups * o .block) (length weighed) (rw weighed-long (omega arith)))))
 
     abbrev call : Outcome (List (List Entry))
-    call = smoothedTransferCall a (o .block) (part 0 (nodeCount a o) ints) groups read damping (length workInts) (length workFloats)
+    call = smoothedTransferCall a (o .block) (part 0 (nodeCount a o) ints) groups read damping (length workInts) (length weighed)
 
     call-is : (factors : List Float) (g : Grouping) (d : List Float) → length d ≡ a .rows → Floats a o factors d floats → Ids a o groups g [] ints → call ≡ done (rowsOf d (g .ids) (g .count * o .block))
     call-is factors g d l fl i =
-        ap (λ s. smoothedTransferCall a (o .block) s groups read damping (length workInts) (length workFloats)) (ids-read a o groups ints floats workInts workFloats w g [] i)
-        ∙ ap (λ s. smoothedTransferCall a (o .block) (g .ids) groups s damping (length workInts) (length workFloats)) (diagonal-read factors d l fl)
+        ap (λ s. smoothedTransferCall a (o .block) s groups read damping (length workInts) (length weighed)) (ids-read a o groups ints floats workInts workFloats w g [] i)
+        ∙ ap (λ s. smoothedTransferCall a (o .block) (g .ids) groups s damping (length workInts) (length weighed)) (diagonal-read factors d l fl)
         ∙ transfer-passes (g .ids) d (i .many) (subst (λ n. Each (λ x. x < n) (g .ids)) (sym (i .count)) (i .below)) l
         ∙ ap (λ n. done (rowsOf d (g .ids) (n * o .block))) (i .count)
 
@@ -237,19 +244,24 @@ module _ (a : Matrix) (o : Options) (groups : ℕ) (ints : List ℕ) (floats : L
           let q : NoTransfer r ≡ Count (length (joinedLists (rowsOf d (g .ids) (g .count * o .block)))) = sym e ∙ ex ∙ ap transferAnswer (call-is factors g d l fl i) in
           absurd (let z : _≡_ {A = ℕ} 0 1 = cc in omega arith)
 
-      pub transfer-built : (n transfers : ℕ) → x ≡ Count n → (n ≤ a .rows + length (a .values) → transfers ≡ n) → (workInts1 : List ℕ) (workFloats1 : List Float) → workInts1 ≡ intsLeft call workInts → workFloats1 ≡ floatsLeft call workFloats
-          → (r : SetupAnswer) (y : Lent) → length workInts1 ≡ length workInts → length workFloats1 ≡ length workFloats
-          → KeptStage a o groups transfers damping (lentOf ints floats workInts1 workFloats1) r y → SmoothStage a o groups damping lists r y
+      abbrev after : List Float → List Float
+      after back = back ++ drop (a .rows + length (a .values) + groups * o .block) workFloats
+
+      pub transfer-built : (n transfers : ℕ) → x ≡ Count n → (n ≤ a .rows + length (a .values) → transfers ≡ n) → (workInts1 : List ℕ) (back : List Float) → workInts1 ≡ intsLeft call workInts → back ≡ floatsLeft call weighed
+          → (r : SetupAnswer) (y : Lent) → length workInts1 ≡ length workInts → length (after back) ≡ length workFloats
+          → KeptStage a o groups transfers damping (lentOf ints floats workInts1 (after back)) r y → SmoothStage a o groups damping lists r y
       unfolding intsLeft floatsLeft transferInts transferFloats
-      transfer-built n transfers e tr workInts1 workFloats1 ei ef r y li lf k factors g d l fl i cl =
+      transfer-built n transfers e tr workInts1 back ei eb r y li lf k factors g d l fl i cl =
           let ws = rowsOf d (g .ids) (g .count * o .block) in
           let is : call ≡ done ws = call-is factors g d l fl i in
           let cn : n ≡ length (joinedLists ws) = counted n ws e is in
           let few' : n ≤ a .rows + length (a .values) = rw cn (few d (g .ids) (g .count * o .block)) in
           let t : length (numbersOf ws) ≡ transfers = values-length ws ∙ sym cn ∙ sym (tr few') in
           let i1 : workInts1 ≡ padded 0 (length workInts1) (pointersFrom 0 ws ++ columnsOf ws) = ei ∙ ap (λ p. intsLeft p workInts) is ∙ ap (λ s. padded 0 (length workInts) (pointersFrom 0 ws ++ s)) (map-joined (λ (q : Entry). q .col) ws) ∙ ap (λ m. padded 0 m (pointersFrom 0 ws ++ columnsOf ws)) (sym li) in
-          let f1 : workFloats1 ≡ padded zeroᶠ (length workFloats1) (numbersOf ws) = ef ∙ ap (λ p. floatsLeft p workFloats) is ∙ ap (λ s. padded zeroᶠ (length workFloats) s) (map-joined (λ (q : Entry). q .value) ws) ∙ ap (λ m. padded zeroᶠ m (numbersOf ws)) (sym lf) in
-          let same : roomIn ints floats workInts1 workFloats1 ≡ room = rw (li, lf) in
+          let b : back ≡ padded zeroᶠ (length weighed) (numbersOf ws) = eb ∙ ap (λ p. floatsLeft p weighed) is ∙ ap (λ s. padded zeroᶠ (length weighed) s) (map-joined (λ (q : Entry). q .value) ws) in
+          let f1 : after back ≡ padded zeroᶠ (length (after back)) (numbersOf ws)
+          = put-padded zeroᶠ (a .rows + length (a .values) + groups * o .block) workFloats back (numbersOf ws) (cl .floats) (omega (arith, w .workFloats)) (rw (t, tr few') (omega arith)) b ∙ ap (λ m. padded zeroᶠ m (numbersOf ws)) (sym lf) in
+          let same : roomIn ints floats workInts1 (after back) ≡ room = rw (li, lf) in
           subst (λ q. Leaves (fromTransfer a o factors g (record { damping = damping; weights = ws })) q r y) same (k factors g d ws l (weighted d (g .ids) (g .count * o .block)) t fl i i1 f1)
 
   -- ---- the transfer's rows in their place

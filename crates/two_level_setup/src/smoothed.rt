@@ -83,6 +83,7 @@ fn kept_stage(
     )
 }
 
+// The transfer, in the front of the work floats: what is lent is cleared behind the weights. It needs all of the work integers.
 fn transfer_stage(
     rows: usize,
     cols: usize,
@@ -106,6 +107,8 @@ fn transfer_stage(
     let nodes = rows / size;
     let used = rows * size;
     let end = used + rows;
+    let c = (groups * options.block) as usize;
+    let need = rows + values.len() + c;
     let answer = smoothed_transfer(
         rows,
         cols,
@@ -118,7 +121,7 @@ fn transfer_stage(
         &floats[used..end],
         damping,
         work_ints,
-        work_floats,
+        &mut work_floats[..need],
     );
     match answer {
         TransferAnswer::Refused(cause) => SetupAnswer::Refused(cause),
