@@ -149,4 +149,4 @@ module _ (a : Matrix) (o : Options) where
     grouped h after ids' work' floats' r p la e g ef =
         let b : ltb 0 n ≡ true = lt-ltb 0 n h in
         let l = grouping-length (λ v. getD (neighbourLists k a (o .block) n) v []) noAnchor n (o .group) p in
-        record { answer = rw b (g .answer ∙ ap groupingAnswer e); groups = rw b (g .ids _ e l); ints = rw (b, ← la) (g .zeros); floats = rw b ef }
+        record { answer = rw b (g .answer ∙ ap groupingAnswer e); groups = rw b (g .ids _ e l); ints = rw (b, ← la) (g .zeros _ e l); floats = rw b ef }

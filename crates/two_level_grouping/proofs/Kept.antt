@@ -3,8 +3,8 @@ use mathlib.Core.Path.{_≡_, ap, _∙_}
 use mathlib.Core.List.{List, [], _++_, append-nil}
 use Prim.Native.Nat.{ℕ, zero, suc, _+_, _-_, _≤_}
 use native.Mathlib.Omega.{arith}
-use lib.ListN.{length, take, drop, replicate, length-drop, length-take, length-replicate, drop-of-length-le}
-use lib.Seq.{take-at, take-all}
+use lib.ListN.{length, take, drop, replicate, length-drop, length-take, length-replicate, replicate-append-replicate, drop-of-length-le}
+use lib.Seq.{take-at, take-all, drop-at}
 use borrow.Rule.Slice.PartMut.{putMid, same-len-mid}
 use Rattle.definitions.specs.Lists.{padded, part}
 use Rattle.definitions.specs.Refusal.{Outcome, done, resultLeft}
@@ -37,12 +37,37 @@ tail-length a s = length-take (length s - a) (drop a s) ∙ rw (length-drop a s)
 pub put-length : {A : Type 0} (a : ℕ) (s y : List A) → a ≤ length s → length y ≡ length (take (length s - a) (drop a s)) → length (putMid a (length s - a) s y) ≡ length s
 put-length a s y h e = same-len-mid a (length s - a) s y e
 
--- the groups of an accepted call, copied from the work list over zeros
-pub handed : (call : Outcome Grouping) (lent work work1 ids1 ids2 : List ℕ) (nodes : ℕ) → nodes ≤ length lent → work1 ≡ groupingLeft call work → ids1 ≡ replicate (length lent) 0
-    → ids2 ≡ copied (part 0 nodes work1) ids1 → (g : Grouping) → call ≡ done g → length (g .ids) ≡ nodes → ids2 ≡ padded 0 (length lent) (g .ids)
-unfolding groupingLeft resultLeft
-handed call lent work work1 ids1 ids2 nodes h ew ei e2 g eg l =
-    let z : nodes - 0 ≡ nodes = omega arith in
-    let w : work1 ≡ padded 0 (length work) (g .ids) = ew ∙ rw eg in
-    let t : part 0 nodes work1 ≡ g .ids = rw (z, w) (taken-back 0 (g .ids) nodes (length work) l) in
-    rw (e2, t, ei) (copied-zeros 0 (g .ids) (length lent) (omega arith))
+-- what stands at the front of a list, with zeros behind it, is cleared
+pub front-cleared : {A : Type 0} (z : A) (n k : ℕ) (s xs zeros : List A) → s ≡ padded z n xs → length xs ≡ k → k ≤ n → zeros ≡ replicate (length (part 0 k s)) z → putMid 0 (k - 0) s zeros ≡ replicate n z
+unfolding padded
+front-cleared z n k s xs zeros e l h ez =
+    let q : k - 0 ≡ k = omega arith in
+    let f : length (part 0 k s) ≡ k = rw (q, e) (ap length (taken-back z xs k n l) ∙ l) in
+    let b : drop (k - 0) s ≡ replicate (n - k) z = rw q (ap (λ t. drop k t) e ∙ drop-at xs (replicate (n - length xs) z) k l ∙ ap (λ m. replicate (n - m) z) l) in
+    let c : zeros ≡ replicate k z = ez ∙ ap (λ m. replicate m z) f in
+    rw (b, c) (replicate-append-replicate k (n - k) z ∙ ap (λ m. replicate m z) (whole k n h))
+  where
+    whole : (x y : ℕ) → x ≤ y → x + (y - x) ≡ y
+    whole x y m = omega arith
+
+-- the groups of an accepted call stand at the front of the work list, with zeros behind them
+module _ (call : Outcome Grouping) (work work1 : List ℕ) (ew : work1 ≡ groupingLeft call work) (g : Grouping) (eg : call ≡ done g) (nodes : ℕ) (l : length (g .ids) ≡ nodes) where
+  stands : work1 ≡ padded 0 (length work) (g .ids)
+  unfolding groupingLeft resultLeft
+  stands = ew ∙ rw eg
+
+  front : part 0 nodes work1 ≡ g .ids
+  front = let z : nodes - 0 ≡ nodes = omega arith in rw (z, stands) (taken-back 0 (g .ids) nodes (length work) l)
+
+  -- copied to the list of the groups, and zeros put behind them
+  pub handed : (lent ids1 zeros : List ℕ) → nodes ≤ length lent → ids1 ≡ copied (part 0 nodes work1) lent → length ids1 ≡ length lent → zeros ≡ replicate (length (part nodes (length ids1) ids1)) 0
+      → putMid nodes (length ids1 - nodes) ids1 zeros ≡ padded 0 (length lent) (g .ids)
+  unfolding copied padded
+  handed lent ids1 zeros h e k ez =
+      let c : take nodes ids1 ≡ g .ids = ap (λ s. take nodes s) (e ∙ ap (λ s. copied s lent) front) ∙ rw (take-all (length lent) (g .ids) (omega arith)) (take-at (g .ids) (drop (length (g .ids)) lent) nodes l) in
+      let m : length ids1 - nodes ≡ length lent - length (g .ids) = omega arith in
+      put-tail nodes ids1 zeros ∙ ap (λ s. s ++ zeros) c ∙ ap (λ s. g .ids ++ s) (ez ∙ ap (λ n. replicate n 0) (tail-length nodes ids1 ∙ m))
+
+  -- cleared
+  pub cleared : nodes ≤ length work → (zeros : List ℕ) → zeros ≡ replicate (length (part 0 nodes work1)) 0 → putMid 0 (nodes - 0) work1 zeros ≡ replicate (length work) 0
+  cleared h zeros ez = front-cleared 0 (length work) nodes work1 (g .ids) zeros stands l h ez

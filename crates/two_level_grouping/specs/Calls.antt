@@ -40,7 +40,7 @@ idsLeft call lent = resultLeft 0 (call >>= (λ g. done (g .ids))) lent
 pub record Grouped (nodes size base : ℕ) (lent work : List ℕ) (r : GroupingAnswer) (lent' work' : List ℕ) : Type 0 where
   pub answer : r ≡ groupingAnswer (withinCall nodes size base work)
   pub ids : (g : Grouping) → withinCall nodes size base work ≡ done g → length (g .ids) ≡ nodes → lent' ≡ padded 0 (length lent) (g .ids)
-  pub zeros : work' ≡ replicate (length work) 0
+  pub zeros : (g : Grouping) → withinCall nodes size base work ≡ done g → length (g .ids) ≡ nodes → work' ≡ replicate (length work) 0
 
 -- what a grouping call answers and leaves: the groups with zeros after them, and work lists of zeros
 pub record Settled (call : Outcome Grouping) (lent work : List ℕ) (wide : List Float) (r : GroupingAnswer) (lent' work' : List ℕ) (wide' : List Float) : Type 0 where

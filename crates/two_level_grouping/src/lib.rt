@@ -90,7 +90,7 @@ fn contiguous(nodes: usize, size: usize, ids: &mut [u32]) -> u64
     ((nodes + (size - 1)) / size) as u64
 }
 
-// The groups that the neighbour lists in work[base..] give, to `ids`; the work list is cleared.
+// The groups that the neighbour lists in work[base..] give, to `ids`. Grouping leaves zeros behind the groups, so that only those are cleared.
 fn by_lists(
     nodes: usize,
     size: usize,
@@ -103,9 +103,9 @@ fn by_lists(
 {
     let zero = 0;
     let answer = aggregates::group_within(nodes, size, base, work);
-    numbers::zero_ints(ids);
     numbers::copy_ints(&work[zero..nodes], ids);
-    numbers::zero_ints(work);
+    numbers::zero_ints(&mut ids[nodes..]);
+    numbers::zero_ints(&mut work[zero..nodes]);
     answer
 }
 

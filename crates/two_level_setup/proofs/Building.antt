@@ -134,7 +134,7 @@ take-replicate z (suc k) (suc n) = ap (λ s. z ∷ s) (take-replicate z k n)
 taken-zeros : {A : Type 0} (z : A) (k : ℕ) (s : List A) → s ≡ replicate (length s) z → take k s ≡ replicate (length (take k s)) z
 taken-zeros z k s e = subst (λ (l : List _). take k l ≡ replicate (length (take k l)) z) (sym e) (take-replicate z k (length s))
 
-put-zeros : {A : Type 0} (z : A) (k : ℕ) (s y : List A) → s ≡ replicate (length s) z → y ≡ replicate (length (take k s)) z → y ++ drop k s ≡ replicate (length s) z
+pub put-zeros : {A : Type 0} (z : A) (k : ℕ) (s y : List A) → s ≡ replicate (length s) z → y ≡ replicate (length (take k s)) z → y ++ drop k s ≡ replicate (length s) z
 put-zeros z k s y e f = ap (λ l. l ++ drop k s) (f ∙ sym (taken-zeros z k s e)) ∙ take-append-drop k s ∙ e
 
 pub part-left : (a : Matrix) (o : Options) (groups n m : ℕ) (ints : List ℕ) (floats : List Float) (workInts : List ℕ) (workFloats : List Float) (r : SetupAnswer) (ints' : List ℕ) (floats' : List Float) (yi : List ℕ) (yf : List Float)

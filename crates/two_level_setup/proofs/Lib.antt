@@ -1,4 +1,5 @@
 pub mod Padding
+pub mod Parts
 pub mod Policy
 pub mod Storing
 pub mod Matrices

@@ -4,10 +4,11 @@ use mathlib.Core.List.{List, [], _∷_, _++_, map, flatMap, append-assoc}
 use Prim.Native.Nat.{ℕ, zero, suc, _+_, _-_, _*_, _%_, _≤_, _<_}
 use native.Mathlib.Omega.{arith}
 use native.Mathlib.Nat.{le-trans, div-le-self}
-use lib.ListN.{length, getD, take, drop, replicate, length-append, length-drop, take-append-drop}
+use lib.ListN.{length, getD, take, drop, replicate, length-append}
+use lib.Seq.{length-take-le}
 use lib.Ieee.{Float, ne}
 use borrow.Author.Tests.{le-leb, eq-eqb}
-use borrow.Rule.Slice.PartMut.{putMid}
+use borrow.Rule.Slice.PartMut.{putMid, mid-len, take-put}
 use Rattle.definitions.specs.Lists.{padded, part, pointersFrom, joinedLists}
 use Rattle.definitions.specs.Numbers.{zeroᶠ, total}
 use Rattle.definitions.specs.Refusal.{Outcome, refused, done, resultLeft, workLeft}
@@ -35,7 +36,7 @@ use Rattle.laws.specs.Counting.{rows-within}
 use Rattle.separation.specs.Fitting.{row-short, entries-short}
 use Rattle.csr32.specs.Calls.{goes-on, stops, passed, refused-is}
 use Rattle.numbers.specs.Copied.{copied}
-use Rattle.two_level_grouping.proofs.Kept.{put-tail, copied-zeros}
+use Rattle.two_level_grouping.proofs.Kept.{put-tail, copied-zeros, front-cleared}
 use Rattle.two_level_grouping.specs.Front.{Front, front-rows}
 use Rattle.transfer.specs.Call.{shapeChecked, groupsChecked, roomChecked, transferChecked, smoothedTransferCall, transferAnswer, transferInts as intsLeft, transferFloats as floatsLeft}
 use Rattle.transfer.specs.declared.TransferAnswer.{TransferAnswer}
@@ -43,9 +44,10 @@ use Rattle.transfer.specs.declared.TransferAnswer.the-variants.{Count, Refused 
 use Rattle.two_level_setup.specs.Stages.{fromTransfer, fromDiagonal, fromRoom, smoothed-splits}
 use Rattle.two_level_setup.specs.Fit.{Wide, roomOf}
 use Rattle.two_level_setup.specs.Contracts.{lentOf, roomIn, Leaves, Floats, Ids, Clear, Weighted, MovedInts, MovedFloats, CoarseStage, KeptStage, SmoothStage, EstimateStage, RoomStage}
-use Rattle.two_level_setup.proofs.Padding.{padded-front, padded-back, padded-all, padded-join, padded-none, tail-is, tail-put}
+use Rattle.two_level_setup.proofs.Padding.{padded-front, padded-back, padded-all, padded-join, padded-none, padded-past, tail-is}
+use Rattle.two_level_setup.proofs.Parts.{padded-full, put-behind, put-padded, tail-cleared}
 use Rattle.two_level_setup.proofs.Matrices.{none-outside, ids-read}
-use Rattle.two_level_setup.proofs.Building.{leaves-refused, leaves-same}
+use Rattle.two_level_setup.proofs.Building.{leaves-refused, leaves-same, put-zeros}
 
 map-over : {B : Type 0} (h : Entry → B) (xs ys : List Entry) → map h (xs ++ ys) ≡ map h xs ++ map h ys
 map-over h [] ys = refl
@@ -72,18 +74,19 @@ module _ (a : Matrix) (o : Options) (groups : ℕ) (ints : List ℕ) (floats : L
 
   -- ---- the diagonal
 
-  abbrev tail : List Float
-  tail = take (length floats - used) (drop used floats)
+  -- where it stands, behind the block factors
+  abbrev read : List Float
+  read = part used (used + a .rows) floats
 
-  tail-long : length tail ≡ length floats - used
-  tail-long = ap length (tail-is used floats) ∙ length-drop used floats
+  read-long : length read ≡ a .rows
+  read-long = mid-len used (used + a .rows) floats (omega (arith, w .fit .floats)) ∙ omega arith
 
-  diagonal-passes : diagonalCall a (length tail) ≡ diagonalOf a
+  diagonal-passes : diagonalCall a (length read) ≡ diagonalOf a
   unfolding diagonalCall
   diagonal-passes =
       goes-on (validOf a) tt _ (front .valid)
       ∙ goes-on _ tt _ (passed _ NotSquare (eq-eqb (a .cols) (a .rows) (front .square)))
-      ∙ goes-on _ tt _ (passed _ ListTooShort (le-leb (a .rows) (length tail) (omega (arith, tail-long, w .fit .floats))))
+      ∙ goes-on _ tt _ (passed _ ListTooShort (le-leb (a .rows) (length read) (omega (arith, read-long))))
 
   sums-length : (left i : ℕ) (sums d : List Float) → diagonalFrom a left i sums ≡ done d → length d ≡ length sums + left
   unfolding diagonalFrom
@@ -98,7 +101,7 @@ module _ (a : Matrix) (o : Options) (groups : ℕ) (ints : List ℕ) (floats : L
   unfolding diagonalOf
   diagonal-length d e = sums-length (a .rows) 0 [] d e ∙ omega arith
 
-  module _ (x : Answer) (ex : x ≡ answerOf (diagonalCall a (length tail))) where
+  module _ (x : Answer) (ex : x ≡ answerOf (diagonalCall a (length read))) where
     pub diagonal-refused : o .basis ≡ JacobiSmoothed → (r : Refusal) (y : Lent) → x ≡ Refused r → RoomStage a o groups lists (NoSetup r) y
     diagonal-refused b r y e factors g fl i cl =
         leaves-refused (fromRoom a o factors g) room r y (smoothed-splits a o factors g b ∙ stops (diagonalOf a) r _ (refused-is (diagonalOf a) r (ap answerOf (sym diagonal-passes) ∙ sym ex ∙ e)))
@@ -108,27 +111,26 @@ module _ (a : Matrix) (o : Options) (groups : ℕ) (ints : List ℕ) (floats : L
     has-diagonal (done l) e = (l, refl)
     has-diagonal (refused r) e = ([], cc)
 
-    pub diagonal-built : o .basis ≡ JacobiSmoothed → x ≡ Accepted → (more : List Float) → more ≡ diagonalLeft a tail → (r : SetupAnswer) (y : Lent)
-        → length (putMid used (length floats - used) floats more) ≡ length floats
-        → EstimateStage a o groups (lentOf ints (putMid used (length floats - used) floats more) workInts workFloats) r y → RoomStage a o groups lists r y
+    pub diagonal-built : o .basis ≡ JacobiSmoothed → x ≡ Accepted → (more : List Float) → more ≡ diagonalLeft a read → (r : SetupAnswer) (y : Lent)
+        → length (putMid used (used + a .rows - used) floats more) ≡ length floats
+        → EstimateStage a o groups (lentOf ints (putMid used (used + a .rows - used) floats more) workInts workFloats) r y → RoomStage a o groups lists r y
     unfolding diagonalLeft resultLeft
     diagonal-built b e more em r y la k factors g fl i cl =
         let h = has-diagonal (diagonalOf a) (sym e ∙ ex ∙ ap answerOf diagonal-passes) in
         let d = h .0 in
-        let after = putMid used (length floats - used) floats more in
-        let m : more ≡ padded zeroᶠ (length floats - used) d = em ∙ ap (λ p. resultLeft zeroᶠ p tail) (diagonal-passes ∙ h .1) ∙ ap (λ n. padded zeroᶠ n d) tail-long in
-        let p = tail-put used floats more (omega (arith, w .fit .floats)) in
-        let fr : take used floats ≡ factors = ap (λ l. take used l) (fl .stand) ∙ padded-front zeroᶠ (length floats) used factors [] (fl .many) in
+        let ld : length d ≡ a .rows = diagonal-length d (h .1) in
+        let after = putMid used (used + a .rows - used) floats more in
+        let m : more ≡ d = em ∙ ap (λ p. resultLeft zeroᶠ p read) (diagonal-passes ∙ h .1) ∙ padded-full zeroᶠ (length read) d (ld ∙ sym read-long) in
         let st : after ≡ padded zeroᶠ (length after) (factors ++ d)
-        = sym (take-append-drop used after) ∙ ap (λ l. l ++ drop used after) (p .0 ∙ fr) ∙ ap (λ l. factors ++ l) (p .1 ∙ m) ∙ padded-join zeroᶠ (length floats) used factors d (fl .many) ∙ ap (λ n. padded zeroᶠ n (factors ++ d)) (sym la) in
+        = put-behind zeroᶠ used (used + a .rows) floats factors more (fl .stand) (fl .many) (ap length m ∙ ld ∙ less used (a .rows)) ∙ ap (λ l. padded zeroᶠ (length floats) (factors ++ l)) m ∙ ap (λ n. padded zeroᶠ n (factors ++ d)) (sym la) in
         let f1 : Floats a o factors d after = record { stand = st; many = fl .many } in
         leaves-same (fromRoom a o factors g) (fromDiagonal a o factors g d) room r y (smoothed-splits a o factors g b ∙ goes-on (diagonalOf a) d _ (h .1))
-        (subst (λ n. Leaves (fromDiagonal a o factors g d) (roomOf (length ints) n (length workInts) (length workFloats)) r y) la (k factors g d (diagonal-length d (h .1)) f1 i cl))
+        (subst (λ n. Leaves (fromDiagonal a o factors g d) (roomOf (length ints) n (length workInts) (length workFloats)) r y) la (k factors g d ld f1 i cl))
+      where
+        less : (x y : ℕ) → y ≡ x + y - x
+        less x y = omega arith
 
   -- ---- the estimate
-
-  abbrev read : List Float
-  read = part used (used + a .rows) floats
 
   diagonal-read : (factors d : List Float) → length d ≡ a .rows → Floats a o factors d floats → read ≡ d
   unfolding padded
@@ -136,15 +138,19 @@ module _ (a : Matrix) (o : Options) (groups : ℕ) (ints : List ℕ) (floats : L
       ap (λ s. part used (used + a .rows) s) (fl .stand ∙ append-assoc factors d (replicate (length floats - length (factors ++ d)) zeroᶠ))
       ∙ part-mid factors d (replicate (length floats - length (factors ++ d)) zeroᶠ) used (used + a .rows) (fl .many) (ap (λ n. used + n) l)
 
-  estimate-passes : (d : List Float) → length d ≡ a .rows → estimateCall a d (length workFloats) ≡ estimateOf a d
+  -- what the estimate is lent of the work floats
+  abbrev estimated : List Float
+  estimated = take (3 * a .rows) workFloats
+
+  estimate-passes : (d : List Float) → length d ≡ a .rows → estimateCall a d (length estimated) ≡ estimateOf a d
   unfolding estimateCall
   estimate-passes d l =
       goes-on (validOf a) tt _ (front .valid)
       ∙ goes-on _ tt _ (passed _ NotSquare (eq-eqb (a .cols) (a .rows) (front .square)))
       ∙ goes-on _ tt _ (passed _ (WrongLength (a .rows) (length d)) (eq-eqb (length d) (a .rows) l))
-      ∙ goes-on _ tt _ (passed _ ListTooShort (le-leb (3 * a .rows) (length workFloats) (omega (arith, w .workFloats))))
+      ∙ goes-on _ tt _ (passed _ ListTooShort (le-leb (3 * a .rows) (length estimated) (rw (length-take-le (3 * a .rows) workFloats (omega (arith, w .workFloats))) (omega arith))))
 
-  module _ (x : EstimateAnswer) (ex : x ≡ estimateAnswer (estimateCall a read (length workFloats))) where
+  module _ (x : EstimateAnswer) (ex : x ≡ estimateAnswer (estimateCall a read (length estimated))) where
     no-estimate : (p : Outcome Estimate) (r : Refusal) → NoEstimate r ≡ estimateAnswer p → p ≡ refused r
     unfolding estimateAnswer
     no-estimate (done q) r e = cc
@@ -158,16 +164,16 @@ module _ (a : Matrix) (o : Options) (groups : ℕ) (ints : List ℕ) (floats : L
     pub estimate-refused : (r : Refusal) (y : Lent) → x ≡ NoEstimate r → EstimateStage a o groups lists (NoSetup r) y
     unfolding fromDiagonal
     estimate-refused r y e factors g d l fl i cl =
-        leaves-refused (fromDiagonal a o factors g d) room r y (stops (estimateOf a d) r _ (no-estimate (estimateOf a d) r (sym e ∙ ex ∙ ap (λ s. estimateAnswer (estimateCall a s (length workFloats))) (diagonal-read factors d l fl) ∙ ap estimateAnswer (estimate-passes d l))))
+        leaves-refused (fromDiagonal a o factors g d) room r y (stops (estimateOf a d) r _ (no-estimate (estimateOf a d) r (sym e ∙ ex ∙ ap (λ s. estimateAnswer (estimateCall a s (length estimated))) (diagonal-read factors d l fl) ∙ ap estimateAnswer (estimate-passes d l))))
 
-    pub estimate-built : (rho damping : Float) → x ≡ Estimated rho damping → (workFloats1 : List Float) → workFloats1 ≡ estimateWorkLeft a read workFloats → (r : SetupAnswer) (y : Lent)
-        → length workFloats1 ≡ length workFloats → SmoothStage a o groups damping (lentOf ints floats workInts workFloats1) r y → EstimateStage a o groups lists r y
+    pub estimate-built : (rho damping : Float) → x ≡ Estimated rho damping → (back : List Float) → back ≡ estimateWorkLeft a read estimated → (r : SetupAnswer) (y : Lent)
+        → length (back ++ drop (3 * a .rows) workFloats) ≡ length workFloats → SmoothStage a o groups damping (lentOf ints floats workInts (back ++ drop (3 * a .rows) workFloats)) r y → EstimateStage a o groups lists r y
     unfolding fromDiagonal estimateWorkLeft workLeft
-    estimate-built rho damping e workFloats1 ew r y lw k factors g d l fl i cl =
+    estimate-built rho damping e back eb r y lw k factors g d l fl i cl =
         let rd = diagonal-read factors d l fl in
-        let h = has-estimate (estimateOf a d) rho damping (sym e ∙ ex ∙ ap (λ s. estimateAnswer (estimateCall a s (length workFloats))) rd ∙ ap estimateAnswer (estimate-passes d l)) in
-        let w1 : workFloats1 ≡ replicate (length workFloats) zeroᶠ = ew ∙ ap (λ s. estimateWorkLeft a s workFloats) rd ∙ ap (λ p. workLeft zeroᶠ p workFloats) (estimate-passes d l ∙ h .1) in
-        let c1 : Clear workInts workFloats1 = record { ints = cl .ints; floats = w1 ∙ ap (λ n. replicate n zeroᶠ) (sym lw) } in
+        let h = has-estimate (estimateOf a d) rho damping (sym e ∙ ex ∙ ap (λ s. estimateAnswer (estimateCall a s (length estimated))) rd ∙ ap estimateAnswer (estimate-passes d l)) in
+        let b : back ≡ replicate (length estimated) zeroᶠ = eb ∙ ap (λ s. estimateWorkLeft a s estimated) rd ∙ ap (λ p. workLeft zeroᶠ p estimated) (estimate-passes d l ∙ h .1) in
+        let c1 : Clear workInts (back ++ drop (3 * a .rows) workFloats) = record { ints = cl .ints; floats = put-zeros zeroᶠ (3 * a .rows) workFloats back (cl .floats) b ∙ ap (λ n. replicate n zeroᶠ) (sym lw) } in
         leaves-same (fromDiagonal a o factors g d) (fromTransfer a o factors g (record { damping = damping; weights = transferOf a d damping (o .block) (g .ids) (g .count * o .block) })) room r y
         (goes-on (estimateOf a d) (h .0) _ (h .1) ∙ ap (λ s. fromTransfer a o factors g (record { damping = s; weights = transferOf a d s (o .block) (g .ids) (g .count * o .block) })) (sym (h .2)))
         (subst (λ n. Leaves (fromTransfer a o factors g (record { damping = damping; weights = transferOf a d damping (o .block) (g .ids) (g .count * o .block) })) (roomOf (length ints) (length floats) (length workInts) n) r y) lw
@@ -179,8 +185,15 @@ module _ (a : Matrix) (o : Options) (groups : ℕ) (ints : List ℕ) (floats : L
     abbrev rowsOf : List Float → List ℕ → ℕ → List (List Entry)
     rowsOf d ids c = transferOf a d damping (o .block) ids c
 
+    -- what it is lent of the work floats
+    abbrev weighed : List Float
+    weighed = take (a .rows + length (a .values) + groups * o .block) workFloats
+
+    weighed-long : length weighed ≡ a .rows + length (a .values) + groups * o .block
+    weighed-long = length-take-le (a .rows + length (a .values) + groups * o .block) workFloats (omega (arith, w .workFloats))
+
     transfer-passes : (ids : List ℕ) (d : List Float) → length ids ≡ nodeCount a o → Each (λ g. g < groups) ids → length d ≡ a .rows
-        → smoothedTransferCall a (o .block) ids groups d damping (length workInts) (length workFloats) ≡ done (rowsOf d ids (groups * o .block))
+        → smoothedTransferCall a (o .block) ids groups d damping (length workInts) (length weighed) ≡ done (rowsOf d ids (groups * o .block))
     unfolding smoothedTransferCall transferChecked shapeChecked groupsChecked roomChecked
     transfer-passes ids d li b ld =
         goes-on _ tt _ (goes-on (validOf a) tt _ (front .valid)
@@ -191,15 +204,15 @@ module _ (a : Matrix) (o : Options) (groups : ℕ) (ints : List ℕ) (floats : L
         ∙ goes-on _ tt _ (goes-on _ tt _ (passed _ SetupMisfit (le-leb groups (a .rows) (omega (arith, w .few, div-le-self (a .rows) (o .block)))))
         ∙ goes-on _ tt _ (passed _ (CoarseTooLarge (groups * o .block)) (le-leb (groups * o .block) 2048 (w .small)))
         ∙ passed _ SetupMisfit (rw (eq-eqb (length ids) (nodeCount a o) li, none-outside groups b)))
-        ∙ passed _ ListTooShort (rw (le-leb (2 * a .rows + length (a .values) + 1 + 2 * (groups * o .block)) (length workInts) (omega (arith, w .workInts)), le-leb (a .rows + length (a .values) + groups * o .block) (length workFloats) (omega (arith, w .workFloats)))))
+        ∙ passed _ ListTooShort (rw (le-leb (2 * a .rows + length (a .values) + 1 + 2 * (groups * o .block)) (length workInts) (omega (arith, w .workInts)), le-leb (a .rows + length (a .values) + groups * o .block) (length weighed) (rw weighed-long (omega arith)))))
 
     abbrev call : Outcome (List (List Entry))
-    call = smoothedTransferCall a (o .block) (part 0 (nodeCount a o) ints) groups read damping (length workInts) (length workFloats)
+    call = smoothedTransferCall a (o .block) (part 0 (nodeCount a o) ints) groups read damping (length workInts) (length weighed)
 
     call-is : (factors : List Float) (g : Grouping) (d : List Float) → length d ≡ a .rows → Floats a o factors d floats → Ids a o groups g [] ints → call ≡ done (rowsOf d (g .ids) (g .count * o .block))
     call-is factors g d l fl i =
-        ap (λ s. smoothedTransferCall a (o .block) s groups read damping (length workInts) (length workFloats)) (ids-read a o groups ints g [] i)
-        ∙ ap (λ s. smoothedTransferCall a (o .block) (g .ids) groups s damping (length workInts) (length workFloats)) (diagonal-read factors d l fl)
+        ap (λ s. smoothedTransferCall a (o .block) s groups read damping (length workInts) (length weighed)) (ids-read a o groups ints g [] i)
+        ∙ ap (λ s. smoothedTransferCall a (o .block) (g .ids) groups s damping (length workInts) (length weighed)) (diagonal-read factors d l fl)
         ∙ transfer-passes (g .ids) d (i .many) (subst (λ n. Each (λ x. x < n) (g .ids)) (sym (i .count)) (i .below)) l
         ∙ ap (λ n. done (rowsOf d (g .ids) (n * o .block))) (i .count)
 
@@ -231,44 +244,51 @@ module _ (a : Matrix) (o : Options) (groups : ℕ) (ints : List ℕ) (floats : L
           let q : NoTransfer r ≡ Count (length (joinedLists (rowsOf d (g .ids) (g .count * o .block)))) = sym e ∙ ex ∙ ap transferAnswer (call-is factors g d l fl i) in
           absurd (let z : _≡_ {A = ℕ} 0 1 = cc in omega arith)
 
-      pub transfer-built : (n transfers : ℕ) → x ≡ Count n → (n ≤ a .rows + length (a .values) → transfers ≡ n) → (workInts1 : List ℕ) (workFloats1 : List Float) → workInts1 ≡ intsLeft call workInts → workFloats1 ≡ floatsLeft call workFloats
-          → (r : SetupAnswer) (y : Lent) → length workInts1 ≡ length workInts → length workFloats1 ≡ length workFloats
-          → KeptStage a o groups transfers damping (lentOf ints floats workInts1 workFloats1) r y → SmoothStage a o groups damping lists r y
+      abbrev after : List Float → List Float
+      after back = back ++ drop (a .rows + length (a .values) + groups * o .block) workFloats
+
+      pub transfer-built : (n transfers : ℕ) → x ≡ Count n → (n ≤ a .rows + length (a .values) → transfers ≡ n) → (workInts1 : List ℕ) (back : List Float) → workInts1 ≡ intsLeft call workInts → back ≡ floatsLeft call weighed
+          → (r : SetupAnswer) (y : Lent) → length workInts1 ≡ length workInts → length (after back) ≡ length workFloats
+          → KeptStage a o groups transfers damping (lentOf ints floats workInts1 (after back)) r y → SmoothStage a o groups damping lists r y
       unfolding intsLeft floatsLeft transferInts transferFloats
-      transfer-built n transfers e tr workInts1 workFloats1 ei ef r y li lf k factors g d l fl i cl =
+      transfer-built n transfers e tr workInts1 back ei eb r y li lf k factors g d l fl i cl =
           let ws = rowsOf d (g .ids) (g .count * o .block) in
           let is : call ≡ done ws = call-is factors g d l fl i in
           let cn : n ≡ length (joinedLists ws) = counted n ws e is in
           let few' : n ≤ a .rows + length (a .values) = rw cn (few d (g .ids) (g .count * o .block)) in
           let t : length (numbersOf ws) ≡ transfers = values-length ws ∙ sym cn ∙ sym (tr few') in
           let i1 : workInts1 ≡ padded 0 (length workInts1) (pointersFrom 0 ws ++ columnsOf ws) = ei ∙ ap (λ p. intsLeft p workInts) is ∙ ap (λ s. padded 0 (length workInts) (pointersFrom 0 ws ++ s)) (map-joined (λ (q : Entry). q .col) ws) ∙ ap (λ m. padded 0 m (pointersFrom 0 ws ++ columnsOf ws)) (sym li) in
-          let f1 : workFloats1 ≡ padded zeroᶠ (length workFloats1) (numbersOf ws) = ef ∙ ap (λ p. floatsLeft p workFloats) is ∙ ap (λ s. padded zeroᶠ (length workFloats) s) (map-joined (λ (q : Entry). q .value) ws) ∙ ap (λ m. padded zeroᶠ m (numbersOf ws)) (sym lf) in
-          let same : roomIn ints floats workInts1 workFloats1 ≡ room = rw (li, lf) in
-          subst (λ q. Leaves (fromTransfer a o factors g (record { damping = damping; weights = ws })) q r y) same (k factors g d ws (weighted d (g .ids) (g .count * o .block)) t fl i i1 f1)
+          let b : back ≡ padded zeroᶠ (length weighed) (numbersOf ws) = eb ∙ ap (λ p. floatsLeft p weighed) is ∙ ap (λ s. padded zeroᶠ (length weighed) s) (map-joined (λ (q : Entry). q .value) ws) in
+          let f1 : after back ≡ padded zeroᶠ (length (after back)) (numbersOf ws)
+          = put-padded zeroᶠ (a .rows + length (a .values) + groups * o .block) workFloats back (numbersOf ws) (cl .floats) (omega (arith, w .workFloats)) (rw (t, tr few') (omega arith)) b ∙ ap (λ m. padded zeroᶠ m (numbersOf ws)) (sym lf) in
+          let same : roomIn ints floats workInts1 (after back) ≡ room = rw (li, lf) in
+          subst (λ q. Leaves (fromTransfer a o factors g (record { damping = damping; weights = ws })) q r y) same (k factors g d ws l (weighted d (g .ids) (g .count * o .block)) t fl i i1 f1)
 
   -- ---- the transfer's rows in their place
 
   module _ (transfers : ℕ) (damping : Float) (ints1 workInts1 : List ℕ) (floats1 workFloats1 : List Float) where
-    pub kept-built : o .basis ≡ JacobiSmoothed → transfers ≤ a .rows + length (a .values) → MovedInts (nodeCount a o) (a .rows + 1 + transfers) ints workInts ints1 workInts1 → MovedFloats used transfers floats workFloats floats1 workFloats1
+    pub kept-built : o .basis ≡ JacobiSmoothed → transfers ≤ a .rows + length (a .values) → MovedInts (nodeCount a o) (a .rows + 1 + transfers) ints workInts ints1 workInts1 → MovedFloats used (used + a .rows) transfers floats workFloats floats1 workFloats1
         → (r : SetupAnswer) (y : Lent) → length ints1 ≡ length ints → length floats1 ≡ length floats → length workInts1 ≡ length workInts → length workFloats1 ≡ length workFloats
         → CoarseStage a o groups transfers damping (lentOf ints1 floats1 workInts1 workFloats1) r y → KeptStage a o groups transfers damping lists r y
     unfolding transferInts transferFloats
-    kept-built b tf mi mf r y li lf lwi lwf k factors g d ws v t fl i ei ef =
+    kept-built b tf mi mf r y li lf lwi lwf k factors g d ws ld v t fl i ei ef =
         let n = nodeCount a o in
         let pl : length (pointersFrom 0 ws ++ columnsOf ws) ≡ a .rows + 1 + transfers
         = length-append (pointersFrom 0 ws) (columnsOf ws) ∙ rw (pointers-length 0 ws, v .many, columns-length ws) (ap (λ m. suc (a .rows) + m) (sym (values-length ws) ∙ t) ∙ one (a .rows) transfers) in
         let clear : drop n ints ≡ replicate (length ints - n) 0 = ap (λ s. drop n s) (i .stand) ∙ padded-back 0 (length ints) n (g .ids) [] (i .many) ∙ padded-none 0 (length ints - n) in
         let fi : take n ints ≡ g .ids = ap (λ s. take n s) (i .stand) ∙ padded-front 0 (length ints) n (g .ids) [] (i .many) in
+        let past : drop (used + a .rows) floats ≡ replicate (length floats - (used + a .rows)) zeroᶠ
+        = ap (λ s. drop (used + a .rows) s) (fl .stand) ∙ padded-past zeroᶠ (length floats) (used + a .rows) (factors ++ d) (rw (length-append factors d, fl .many, ld) (omega arith)) in
         let ff : take used floats ≡ factors = ap (λ s. take used s) (fl .stand) ∙ padded-front zeroᶠ (length floats) used factors d (fl .many) in
         let si : ints1 ≡ padded 0 (length ints1) (g .ids ++ transferInts (o .basis) ws)
         = mi .moved (pointersFrom 0 ws ++ columnsOf ws) ei pl (omega (arith, w .fit .ints)) clear ∙ ap (λ s. s ++ padded 0 (length ints - n) (pointersFrom 0 ws ++ columnsOf ws)) fi
         ∙ padded-join 0 (length ints) n (g .ids) (pointersFrom 0 ws ++ columnsOf ws) (i .many) ∙ ap (λ s. padded 0 (length ints) (g .ids ++ transferInts s ws)) (sym b) ∙ ap (λ m. padded 0 m (g .ids ++ transferInts (o .basis) ws)) (sym li) in
         let sf : floats1 ≡ padded zeroᶠ (length floats1) (factors ++ numbersOf ws)
-        = mf .moved (numbersOf ws) ef t (omega (arith, w .fit .floats)) ∙ ap (λ s. s ++ padded zeroᶠ (length floats - used) (numbersOf ws)) ff
+        = mf .moved (numbersOf ws) ef t (omega (arith, w .fit .floats)) past ∙ ap (λ s. s ++ padded zeroᶠ (length floats - used) (numbersOf ws)) ff
         ∙ padded-join zeroᶠ (length floats) used factors (numbersOf ws) (fl .many) ∙ ap (λ m. padded zeroᶠ m (factors ++ numbersOf ws)) (sym lf) in
         let i1 : Ids a o groups g (transferInts (o .basis) ws) ints1 = record { stand = si; many = i .many; below = i .below; count = i .count } in
         let f1 : Floats a o factors (numbersOf ws) floats1 = record { stand = sf; many = fl .many } in
-        let cl : Clear workInts1 workFloats1 = record { ints = mi .clear ∙ ap (λ m. replicate m 0) (sym lwi); floats = mf .clear ∙ ap (λ m. replicate m zeroᶠ) (sym lwf) } in
+        let cl : Clear workInts1 workFloats1 = record { ints = mi .clear (pointersFrom 0 ws ++ columnsOf ws) ei pl ∙ ap (λ m. replicate m 0) (sym lwi); floats = mf .clear (numbersOf ws) ef t ∙ ap (λ m. replicate m zeroᶠ) (sym lwf) } in
         let same : roomIn ints1 floats1 workInts1 workFloats1 ≡ room = rw (li, lf, lwi, lwf) in
         subst (λ q. Leaves (fromTransfer a o factors g (record { damping = damping; weights = ws })) q r y) same (k factors g ws (λ _. v) t f1 i1 cl)
       where
@@ -278,26 +298,25 @@ module _ (a : Matrix) (o : Options) (groups : ℕ) (ints : List ℕ) (floats : L
 -- ---- one list's move
 
 module _ (at count : ℕ) where
-  pub moved-ints : (to from more : List ℕ) (from' : List ℕ) → more ≡ copied (part 0 count from) (take (length to - at) (drop at to)) → from' ≡ replicate (length from) 0
-      → MovedInts at count to from (putMid at (length to - at) to more) from'
-  moved-ints to from more from' em ef = record {
+  front-is : {A : Type 0} (z : A) (from xs : List A) → from ≡ padded z (length from) xs → length xs ≡ count → part 0 count from ≡ xs
+  front-is z from xs e l = let q : count - 0 ≡ count = omega arith in rw q (ap (λ s. take count s) e ∙ padded-all z (length from) count xs l)
+
+  pub moved-ints : (to from more zeros : List ℕ) → count ≤ length from → more ≡ copied (part 0 count from) (take (length to - at) (drop at to)) → zeros ≡ replicate (length (part 0 count from)) 0
+      → MovedInts at count to from (putMid at (length to - at) to more) (putMid 0 (count - 0) from zeros)
+  moved-ints to from more zeros hc em ez = record {
     moved = λ xs e l h z.
-        let p : part 0 count from ≡ xs = (let q : count - 0 ≡ count = omega arith in rw q (ap (λ s. take count s) e ∙ padded-all 0 (length from) count xs l)) in
         let t : take (length to - at) (drop at to) ≡ replicate (length to - at) 0 = tail-is at to ∙ z in
-        put-tail at to more ∙ ap (λ s. take at to ++ s) (em ∙ rw (p, t) (copied-zeros 0 xs (length to - at) (omega arith)));
-    clear = ef;
+        put-tail at to more ∙ ap (λ s. take at to ++ s) (em ∙ rw (front-is 0 from xs e l, t) (copied-zeros 0 xs (length to - at) (omega arith)));
+    clear = λ xs e l. front-cleared 0 (length from) count from xs zeros e l hc ez;
   }
 
-  pub moved-floats : (to from zeros more : List Float) (from' : List Float) → at ≤ length to → zeros ≡ replicate (length (take (length to - at) (drop at to))) zeroᶠ
-      → more ≡ copied (part 0 count from) (take (length (putMid at (length to - at) to zeros) - at) (drop at (putMid at (length to - at) to zeros))) → length (putMid at (length to - at) to zeros) ≡ length to
-      → from' ≡ replicate (length from) zeroᶠ → MovedFloats at count to from (putMid at (length (putMid at (length to - at) to zeros) - at) (putMid at (length to - at) to zeros) more) from'
-  moved-floats to from zeros more from' ha ez em lm ef = record {
-    moved = λ xs e l h.
-        let mid = putMid at (length to - at) to zeros in
-        let p : part 0 count from ≡ xs = (let q : count - 0 ≡ count = omega arith in rw q (ap (λ s. take count s) e ∙ padded-all zeroᶠ (length from) count xs l)) in
-        let tp = tail-put at to zeros ha in
-        let zl : length (take (length to - at) (drop at to)) ≡ length to - at = ap length (tail-is at to) ∙ length-drop at to in
-        let t : take (length mid - at) (drop at mid) ≡ replicate (length to - at) zeroᶠ = tail-is at mid ∙ tp .1 ∙ ez ∙ ap (λ m. replicate m zeroᶠ) zl in
-        put-tail at mid more ∙ ap (λ s. s ++ more) (tp .0) ∙ ap (λ s. take at to ++ s) (em ∙ rw (p, t) (copied-zeros zeroᶠ xs (length to - at) (omega arith)));
-    clear = ef;
+  pub moved-floats : (end : ℕ) (to from blanks more zeros : List Float) → at ≤ end → end ≤ length to → count ≤ length from → blanks ≡ replicate (length (part at end to)) zeroᶠ
+      → more ≡ copied (part 0 count from) (take (length (putMid at (end - at) to blanks) - at) (drop at (putMid at (end - at) to blanks))) → length (putMid at (end - at) to blanks) ≡ length to
+      → zeros ≡ replicate (length (part 0 count from)) zeroᶠ → MovedFloats at end count to from (putMid at (length (putMid at (end - at) to blanks) - at) (putMid at (end - at) to blanks) more) (putMid 0 (count - 0) from zeros)
+  moved-floats end to from blanks more zeros ha he hc eb em lm ez = record {
+    moved = λ xs e l h z.
+        let mid = putMid at (end - at) to blanks in
+        let t : take (length mid - at) (drop at mid) ≡ replicate (length to - at) zeroᶠ = tail-is at mid ∙ tail-cleared zeroᶠ at end to blanks ha he eb z in
+        put-tail at mid more ∙ ap (λ s. s ++ more) (take-put at (end - at) to blanks (omega arith)) ∙ ap (λ s. take at to ++ s) (em ∙ rw (front-is zeroᶠ from xs e l, t) (copied-zeros zeroᶠ xs (length to - at) (omega arith)));
+    clear = λ xs e l. front-cleared zeroᶠ (length from) count from xs zeros e l hc ez;
   }

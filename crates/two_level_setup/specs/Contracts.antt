@@ -130,19 +130,19 @@ MatrixStage a o groups transfers ints floats workInts workFloats workInts' workF
 
 -- ---- the transfer's rows in their place
 
--- the front of a work list goes behind the front of a list, over zeros
+-- the front of a work list goes behind the front of a list, over zeros, and is cleared
 pub record MovedInts (at count : ℕ) (to from to' from' : List ℕ) : Type 0 where
   pub moved : (xs : List ℕ) → from ≡ padded 0 (length from) xs → length xs ≡ count → at + count ≤ length to → drop at to ≡ replicate (length to - at) 0 → to' ≡ take at to ++ padded 0 (length to - at) xs
-  pub clear : from' ≡ replicate (length from) 0
+  pub clear : (xs : List ℕ) → from ≡ padded 0 (length from) xs → length xs ≡ count → from' ≡ replicate (length from) 0
 
--- or over whatever stood there
-pub record MovedFloats (at count : ℕ) (to from to' from' : List Float) : Type 0 where
-  pub moved : (xs : List Float) → from ≡ padded zeroᶠ (length from) xs → length xs ≡ count → at + count ≤ length to → to' ≡ take at to ++ padded zeroᶠ (length to - at) xs
-  pub clear : from' ≡ replicate (length from) zeroᶠ
+-- or over whatever stood there up to an end, with zeros behind it
+pub record MovedFloats (at end count : ℕ) (to from to' from' : List Float) : Type 0 where
+  pub moved : (xs : List Float) → from ≡ padded zeroᶠ (length from) xs → length xs ≡ count → at + count ≤ length to → drop end to ≡ replicate (length to - end) zeroᶠ → to' ≡ take at to ++ padded zeroᶠ (length to - at) xs
+  pub clear : (xs : List Float) → from ≡ padded zeroᶠ (length from) xs → length xs ≡ count → from' ≡ replicate (length from) zeroᶠ
 
 abbrev pub KeptStage : Matrix → Options → ℕ → ℕ → Float → Lent → SetupAnswer → Lent → Type 0
 KeptStage a o groups transfers damping x r y =
-    (factors : List Float) (g : Grouping) (d : List Float) (weights : List (List Entry)) → Weighted (a .rows) (g .count * o .block) weights → length (transferFloats weights) ≡ transfers
+    (factors : List Float) (g : Grouping) (d : List Float) (weights : List (List Entry)) → length d ≡ a .rows → Weighted (a .rows) (g .count * o .block) weights → length (transferFloats weights) ≡ transfers
     → Floats a o factors d (x .floats) → Ids a o groups g [] (x .ints) → x .workInts ≡ padded 0 (length (x .workInts)) (transferInts JacobiSmoothed weights)
     → x .workFloats ≡ padded zeroᶠ (length (x .workFloats)) (transferFloats weights)
     → Leaves (fromTransfer a o factors g (record { damping = damping; weights = weights })) (roomIn (x .ints) (x .floats) (x .workInts) (x .workFloats)) r y

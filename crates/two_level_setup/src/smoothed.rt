@@ -21,25 +21,25 @@ fn at_most(x: u64, most: usize) -> usize
     if x < most as u64 { x as usize } else { most }
 }
 
-// Pointers and columns go from the work list behind the groups; the work list is cleared.
+// Pointers and columns go from the front of the work list behind the groups, and are cleared there.
 fn keep_columns(nodes: usize, count: usize, ints: &mut [u32], work: &mut [u32])
     requires { ⌜ (nodes ≤ length (now ints)) × (count ≤ length (now work)) ⌝ }
     ensures { λ _. ⌜ MovedInts nodes count (now (ints .entry)) (now (work .entry)) (now (ints .exit)) (now (work .exit)) ⌝ }
 {
     let zero = 0;
     numbers::copy_ints(&work[zero..count], &mut ints[nodes..]);
-    numbers::zero_ints(work);
+    numbers::zero_ints(&mut work[zero..count]);
 }
 
-// Weights go from the work list behind the block factors, where the diagonal stood; the work list is cleared.
-fn keep_weights(used: usize, count: usize, floats: &mut [f64], work: &mut [f64])
-    requires { ⌜ (used ≤ length (now floats)) × (count ≤ length (now work)) ⌝ }
-    ensures { λ _. ⌜ MovedFloats used count (now (floats .entry)) (now (work .entry)) (now (floats .exit)) (now (work .exit)) ⌝ }
+// Weights go from the front of the work list behind the block factors, where the diagonal stood up to `end`, and are cleared there.
+fn keep_weights(used: usize, end: usize, count: usize, floats: &mut [f64], work: &mut [f64])
+    requires { ⌜ (used ≤ end) × ((end ≤ length (now floats)) × (count ≤ length (now work))) ⌝ }
+    ensures { λ _. ⌜ MovedFloats used end count (now (floats .entry)) (now (work .entry)) (now (floats .exit)) (now (work .exit)) ⌝ }
 {
-    numbers::zero_floats(&mut floats[used..]);
+    numbers::zero_floats(&mut floats[used..end]);
     let zero = 0;
     numbers::copy_floats(&work[zero..count], &mut floats[used..]);
-    numbers::zero_floats(work);
+    numbers::zero_floats(&mut work[zero..count]);
 }
 
 // The transfer's rows leave the work lists for their places; then the coarse matrix.
@@ -64,7 +64,8 @@ fn kept_stage(
 {
     let size = options.block as usize;
     keep_columns(rows / size, rows + 1 + transfers, ints, work_ints);
-    keep_weights(rows * size, transfers, floats, work_floats);
+    let used = rows * size;
+    keep_weights(used, used + rows, transfers, floats, work_floats);
     coarse_stage(
         rows,
         cols,
@@ -82,6 +83,7 @@ fn kept_stage(
     )
 }
 
+// The transfer, in the front of the work floats: what is lent is cleared behind the weights. It needs all of the work integers.
 fn transfer_stage(
     rows: usize,
     cols: usize,
@@ -105,6 +107,8 @@ fn transfer_stage(
     let nodes = rows / size;
     let used = rows * size;
     let end = used + rows;
+    let c = (groups * options.block) as usize;
+    let need = rows + values.len() + c;
     let answer = smoothed_transfer(
         rows,
         cols,
@@ -117,7 +121,7 @@ fn transfer_stage(
         &floats[used..end],
         damping,
         work_ints,
-        work_floats,
+        &mut work_floats[..need],
     );
     match answer {
         TransferAnswer::Refused(cause) => SetupAnswer::Refused(cause),
@@ -142,7 +146,7 @@ fn transfer_stage(
     }
 }
 
-// Causes 20 to 22, with the diagonal behind the block factors.
+// Causes 20 to 22, with the diagonal behind the block factors, in the front of the work floats: what is lent is cleared again.
 fn estimate_stage(
     rows: usize,
     cols: usize,
@@ -163,6 +167,7 @@ fn estimate_stage(
     let size = options.block as usize;
     let used = rows * size;
     let end = used + rows;
+    let need = 3 * rows;
     let answer = spectral_radius::estimate(
         rows,
         cols,
@@ -170,7 +175,7 @@ fn estimate_stage(
         col_idx,
         values,
         &floats[used..end],
-        work_floats,
+        &mut work_floats[..need],
     );
     match answer {
         EstimateAnswer::Refused(cause) => SetupAnswer::Refused(cause),
@@ -191,7 +196,7 @@ fn estimate_stage(
     }
 }
 
-// Cause 19, then the estimate.
+// Cause 19, then the estimate. Behind the diagonal stand zeros already.
 pub fn diagonal_stage(
     rows: usize,
     cols: usize,
@@ -211,7 +216,8 @@ pub fn diagonal_stage(
 {
     let size = options.block as usize;
     let used = rows * size;
-    let answer = csr32::diagonal(rows, cols, row_ptr, col_idx, values, &mut floats[used..]);
+    let end = used + rows;
+    let answer = csr32::diagonal(rows, cols, row_ptr, col_idx, values, &mut floats[used..end]);
     match answer {
         Answer::Refused(cause) => SetupAnswer::Refused(cause),
         Answer::Accepted => estimate_stage(

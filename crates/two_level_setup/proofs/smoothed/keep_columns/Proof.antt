@@ -1,4 +1,4 @@
--- The front of the work list over zeros.
+-- The front of the work list over zeros; behind it stand zeros already.
 use Rattle.two_level_setup.proofs.Smoothing.{moved-ints}
 use borrow.Author.Needs.{needs}
 use Rattle.two_level_setup.proofs.smoothed.keep_columns.Statement.{statement}
@@ -31,6 +31,18 @@ part-copy-ints-end-2 c = search needs
 copy-ints-requires : tie.Need-copy-ints-requires
 copy-ints-requires c κs = search needs
 
+mul-zero-ints : tie.Need-mul-zero-ints
+mul-zero-ints c = search needs
+
+sub-zero-ints : tie.Need-sub-zero-ints
+sub-zero-ints c = search needs
+
+part-zero-ints-start : tie.Need-part-zero-ints-start
+part-zero-ints-start c = search needs
+
+part-zero-ints-end : tie.Need-part-zero-ints-end
+part-zero-ints-end c = search needs
+
 zero-ints-requires : tie.Need-zero-ints-requires
 zero-ints-requires c κs = search needs
 
@@ -41,8 +53,11 @@ same-length-2 : tie.Need-same-length-2
 same-length-2 c = search needs
 
 returns : tie.Need-returns
-returns c = let a = c .before .before .before .before .before .before .before .before .before .before .before .before .args in
-    moved-ints (a .nodes) (a .count) (a .ints .now) (a .work .now) (c .before .before .before .before .before .before .copy-ints .last .1 .0) (c .before .before .zero-ints .last .0) (c .before .before .before .before .before .before .copy-ints .ensures) (c .before .before .zero-ints .ensures)
+returns c =
+    let a = c .before .before .before .before .before .before .before .before .before .before .before .before .args in
+    let k = c .before .before .before .before .before .before .copy-ints in
+    let z = c .before .before .zero-ints in
+    moved-ints (a .nodes) (a .count) (a .ints .now) (a .work .now) (k .last .1 .0) (z .last .0) (c .before .before .before .before .before .before .before .before .before .before .before .before .pre .1) (k .ensures) (z .ensures)
 
 pub keep-columns-spec : {M : Type 1} → statement M
 keep-columns-spec =
@@ -57,6 +72,10 @@ keep-columns-spec =
     part-copy-ints-start-2
     part-copy-ints-end-2
     copy-ints-requires
+    mul-zero-ints
+    sub-zero-ints
+    part-zero-ints-start
+    part-zero-ints-end
     zero-ints-requires
     same-length
     same-length-2

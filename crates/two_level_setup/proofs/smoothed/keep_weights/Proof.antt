@@ -1,8 +1,7 @@
--- Zeros first, then the front of the work list over them.
+-- Zeros where the diagonal stood, then the front of the work list over them; behind both stand zeros already.
 use Rattle.two_level_setup.proofs.Smoothing.{moved-floats}
 use borrow.Rule.Slice.PartMut.{same-len-mid}
 use Prim.Native.Nat.{_-_}
-use lib.ListN.{length}
 use borrow.Author.Needs.{needs}
 use Rattle.two_level_setup.proofs.smoothed.keep_weights.Statement.{statement}
 use Rattle.two_level_setup.proofs.smoothed.keep_weights.Tie as tie
@@ -49,6 +48,18 @@ part-copy-floats-end-2 c = search needs
 copy-floats-requires : tie.Need-copy-floats-requires
 copy-floats-requires c κs = search needs
 
+mul-zero-floats-2 : tie.Need-mul-zero-floats-2
+mul-zero-floats-2 c = search needs
+
+sub-zero-floats-2 : tie.Need-sub-zero-floats-2
+sub-zero-floats-2 c = search needs
+
+part-zero-floats-start-2 : tie.Need-part-zero-floats-start-2
+part-zero-floats-start-2 c = search needs
+
+part-zero-floats-end-2 : tie.Need-part-zero-floats-end-2
+part-zero-floats-end-2 c = search needs
+
 zero-floats-requires-2 : tie.Need-zero-floats-requires-2
 zero-floats-requires-2 c κs = search needs
 
@@ -59,10 +70,14 @@ same-length-2 : tie.Need-same-length-2
 same-length-2 c = search needs
 
 returns : tie.Need-returns
-returns c = let a = c .before .before .before .before .before .before .before .before .before .before .before .before .before .before .before .before .args in
-    let z = c .before .before .before .before .before .before .before .before .before .before .before .before .zero-floats in
-    moved-floats (a .used) (a .count) (a .floats .now) (a .work .now) (z .last .0) (c .before .before .before .before .before .before .copy-floats .last .1 .0) (c .before .before .zero-floats2 .last .0) (c .before .before .before .before .before .before .before .before .before .before .before .before .before .before .before .before .pre .0) (z .ensures) (c .before .before .before .before .before .before .copy-floats .ensures)
-    (same-len-mid (a .used) (length (a .floats .now) - a .used) (a .floats .now) (z .last .0) (z .kept .0)) (c .before .before .zero-floats2 .ensures)
+returns c =
+    let a = c .before .before .before .before .before .before .before .before .before .before .before .before .before .before .before .before .args in
+    let p = c .before .before .before .before .before .before .before .before .before .before .before .before .before .before .before .before .pre in
+    let b = c .before .before .before .before .before .before .before .before .before .before .before .before .zero-floats in
+    let k = c .before .before .before .before .before .before .copy-floats in
+    let z = c .before .before .zero-floats2 in
+    moved-floats (a .used) (a .count) (a .end) (a .floats .now) (a .work .now) (b .last .0) (k .last .1 .0) (z .last .0) (p .0) (p .1 .0) (p .1 .1) (b .ensures) (k .ensures)
+    (same-len-mid (a .used) (a .end - a .used) (a .floats .now) (b .last .0) (b .kept .0)) (z .ensures)
 
 pub keep-weights-spec : {M : Type 1} → statement M
 keep-weights-spec =
@@ -82,6 +97,10 @@ keep-weights-spec =
     part-copy-floats-start-2
     part-copy-floats-end-2
     copy-floats-requires
+    mul-zero-floats-2
+    sub-zero-floats-2
+    part-zero-floats-start-2
+    part-zero-floats-end-2
     zero-floats-requires-2
     same-length
     same-length-2

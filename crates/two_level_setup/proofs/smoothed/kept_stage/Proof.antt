@@ -20,18 +20,22 @@ add-keep-columns-2 c = search needs
 keep-columns-requires : tie.Need-keep-columns-requires
 keep-columns-requires c κs = search needs
 
-mul-keep-weights : tie.Need-mul-keep-weights
-mul-keep-weights c = search needs
+mul-used : tie.Need-mul-used
+mul-used c = search needs
+
+add-keep-weights : tie.Need-add-keep-weights
+add-keep-weights c = search needs
 
 keep-weights-requires : tie.Need-keep-weights-requires
 keep-weights-requires c κs = search needs
 
 coarse-stage-requires : tie.Need-coarse-stage-requires
-coarse-stage-requires c κs = let a = c .before .before .before .before .before .before .before .before .before .before .before .before .before .before .before .before .before .before .before .before .before .before .before .before .before .args in
+coarse-stage-requires c κs =
+    let a = c .before .before .before .before .before .before .before .before .before .before .before .before .before .before .before .before .before .before .before .before .before .before .before .before .before .args in
     let p = c .before .before .before .before .before .before .before .before .before .before .before .before .before .before .before .before .before .before .before .before .before .before .before .before .before .pre in
     let k = c .before .before .before .before .before .before .before .before .before .before .before .before .before .before .before .keep-columns in
     let v = c .before .before .before .before .before .before .before .before .keep-weights in
-    (wide-same (csr (a .rows) (a .cols) (a .row-ptr .now) (a .col-idx .now) (a .values .now)) (a .options) (a .groups) (length (a .ints .now)) _ (length (a .floats .now)) _ (length (a .work-ints .now)) _ (length (a .work-floats .now)) _ (k .kept .1 .1 .0) (v .kept .1 .1 .0) (k .kept .1 .1 .1 .0) (v .kept .1 .1 .1 .0) (p .0), (smoothed-only (a .options .basis) (a .transfers) (p .1 .0), p .1 .1))
+    (wide-same (csr (a .rows) (a .cols) (a .row-ptr .now) (a .col-idx .now) (a .values .now)) (a .options) (a .groups) (length (a .ints .now)) _ (length (a .floats .now)) _ (length (a .work-ints .now)) _ (length (a .work-floats .now)) _ (k .kept .1 .1 .0) (v .kept .1 .1 .1 .0) (k .kept .1 .1 .1 .0) (v .kept .1 .1 .1 .1 .0) (p .0), (smoothed-only (a .options .basis) (a .transfers) (p .1 .0), p .1 .1))
 
 same-length : tie.Need-same-length
 same-length c = search needs
@@ -46,11 +50,12 @@ same-length-4 : tie.Need-same-length-4
 same-length-4 c = search needs
 
 returns : tie.Need-returns
-returns c = let a = c .before .before .before .before .before .before .before .before .before .before .before .before .before .before .before .before .before .before .before .before .before .before .before .before .before .before .before .before .before .before .before .before .args in
+returns c =
+    let a = c .before .before .before .before .before .before .before .before .before .before .before .before .before .before .before .before .before .before .before .before .before .before .before .before .before .before .before .before .before .before .before .before .args in
     let p = c .before .before .before .before .before .before .before .before .before .before .before .before .before .before .before .before .before .before .before .before .before .before .before .before .before .before .before .before .before .before .before .before .pre in
     let k = c .before .before .before .before .before .before .before .before .before .before .before .before .before .before .before .before .before .before .before .before .before .before .keep-columns in
     let v = c .before .before .before .before .before .before .before .before .before .before .before .before .before .before .before .keep-weights in
-    kept-built (csr (a .rows) (a .cols) (a .row-ptr .now) (a .col-idx .now) (a .values .now)) (a .options) (a .groups) (a .ints .now) (a .floats .now) (a .work-ints .now) (a .work-floats .now) (p .0) (a .transfers) (a .damping) (k .last .1 .1 .0) (k .last .1 .1 .1 .0) (v .last .1 .1 .0) (v .last .1 .1 .1 .0) (p .1 .0) (p .1 .1) (k .ensures) (v .ensures) _ _ (k .kept .1 .1 .0) (v .kept .1 .1 .0) (k .kept .1 .1 .1 .0) (v .kept .1 .1 .1 .0) (c .before .before .before .before .before .before .coarse-stage .ensures)
+    kept-built (csr (a .rows) (a .cols) (a .row-ptr .now) (a .col-idx .now) (a .values .now)) (a .options) (a .groups) (a .ints .now) (a .floats .now) (a .work-ints .now) (a .work-floats .now) (p .0) (a .transfers) (a .damping) (k .last .1 .1 .0) (k .last .1 .1 .1 .0) (v .last .1 .1 .1 .0) (v .last .1 .1 .1 .1 .0) (p .1 .0) (p .1 .1) (k .ensures) (v .ensures) _ _ (k .kept .1 .1 .0) (v .kept .1 .1 .1 .0) (k .kept .1 .1 .1 .0) (v .kept .1 .1 .1 .1 .0) (c .before .before .before .before .before .before .coarse-stage .ensures)
 
 pub kept-stage-spec : {M : Type 1} → statement M
 kept-stage-spec =
@@ -60,7 +65,8 @@ kept-stage-spec =
     add-keep-columns
     add-keep-columns-2
     keep-columns-requires
-    mul-keep-weights
+    mul-used
+    add-keep-weights
     keep-weights-requires
     coarse-stage-requires
     same-length
