@@ -1,11 +1,10 @@
 -- The pairs (i, j), (j, i) lie apart, so that writing one leaves the others, and each is read before it is written.
-use Prim.Native.Nat.{ℕ, zero, suc, _+_, _*_, _<_, _≤_}
+use Prim.Native.Nat.{ℕ, _+_, _*_, _<_, _≤_}
 use mathlib.Core.Path.{_≡_, refl, ap, sym, _∙_}
-use mathlib.Core.Bool.{Bool, true, false, _&&_}
+use mathlib.Core.Bool.{Bool, true, false}
 use mathlib.Core.List.{List, _++_}
 use mathlib.Core.Logic.{_⊎_, inl, inr, ⊎-elim}
 use native.Mathlib.Omega.{arith}
-use native.Mathlib.Numerals.{add-one}
 use native.Mathlib.Decide.{ℕ-discrete, decLt}
 use lib.Dec.{eqb, ltb, leb}
 use lib.ListN.{length, getD, set, take, drop, length-set}
@@ -16,84 +15,110 @@ use Rattle.definitions.specs.Lists.{square}
 use Rattle.definitions.specs.Numbers.{_+ᶠ_, _*ᶠ_, half}
 use Rattle.definitions.specs.Coarse.{averaged, averagedSquare, entryIn}
 use Rattle.laws.specs.Lists.{length-square}
-use Rattle.averaging.specs.Averaging.{pairHalf, pairAveraged, rowAveraged, rowsAveraged, averagedIn, maxCoarse}
+use Rattle.averaging.specs.Averaging.{pairHalf, pairAveraged, tile, Averages, averagedIn, maxCoarse}
 use Rattle.averaging.proofs.Lists.{square-is, split-is}
 use Rattle.averaging.proofs.Places.{same-row, same-col, place}
 
-pub length-row : (c i j : ℕ) (m : List Float) → length (rowAveraged c i j m) ≡ length m
-unfolding rowAveraged
-length-row c i zero m = refl
-length-row c i (suc j) m = simp length-set (length-row c i j m)
+-- ---- parts of the pairs
 
-pub length-rows : (c i : ℕ) (m : List Float) → length (rowsAveraged c i m) ≡ length m
-unfolding rowsAveraged
-length-rows c zero m = refl
-length-rows c (suc i) m = length-row c i i (rowsAveraged c i m) ∙ length-rows c i m
+-- no pair yet
+pub averages-none : (c : ℕ) (P : ℕ → ℕ → Type 0) (m : List Float) → ((i j : ℕ) → j < i → P i j → ⊥) → Averages c P m m
+averages-none c P m n = record { long = refl; low = λ i j h k p. absurd (n i j h p); up = λ i j h k p. absurd (n i j h p); other = λ p h. refl }
 
-module _ (c i : ℕ) (m : List Float) where
-  -- a place that none of the first j pairs has
-  pub row-other : (j p : ℕ) → ((y : ℕ) → y < j → (p ≡ i * c + y → ⊥) × (p ≡ y * c + i → ⊥)) → getD (rowAveraged c i j m) p nan ≡ getD m p nan
-  unfolding rowAveraged
-  row-other zero p h = refl
-  row-other (suc j) p h =
-      getD-set-other (set (rowAveraged c i j m) (i * c + j) v) (j * c + i) p v nan (h j (omega arith) .1)
-      ∙ getD-set-other (rowAveraged c i j m) (i * c + j) p v nan (h j (omega arith) .0)
-      ∙ row-other j p (λ y q. h y (omega arith))
-    where
-      v : Float
-      v = pairHalf (rowAveraged c i j m) (i * c + j) (j * c + i)
+-- the pair (i, j)
+module _ (c i j : ℕ) (m : List Float) (h : j < i) (k : i < c) (big : c * c ≤ length m) where
+  abbrev v : Float
+  v = pairHalf m (i * c + j) (j * c + i)
 
-  -- both places of a pair
-  module _ (hi : i < c) (big : c * c ≤ length m) where
-    low-in : (y : ℕ) → y < i → i * c + y < length m
-    low-in y h = omega (arith, place i y c c hi (omega arith))
+  here-low : getD (pairAveraged m (i * c + j) (j * c + i)) (i * c + j) nan ≡ v
+  here-low =
+      getD-set-other (set m (i * c + j) v) (j * c + i) (i * c + j) v nan (λ q. let s = same-row i j j i c (omega arith) k q in omega arith)
+      ∙ getD-set-same m (i * c + j) v nan (omega (arith, place i j c c k (omega arith)))
 
-    up-in : (y : ℕ) → y < i → y * c + i < length m
-    up-in y h = omega (arith, place y i c c (omega arith) hi)
+  here-up : getD (pairAveraged m (i * c + j) (j * c + i)) (j * c + i) nan ≡ v
+  here-up = getD-set-same (set m (i * c + j) v) (j * c + i) v nan (simp length-set (omega (arith, place j i c c (omega arith) k)))
 
-    low-apart : (x y : ℕ) → x < i → y < i → (x ≡ y → ⊥) → (i * c + x ≡ i * c + y → ⊥) × (i * c + x ≡ y * c + i → ⊥)
-    low-apart x y hx hy n = ((λ e. n (omega arith)), (λ e. let q = same-row i y x i c (omega arith) hi e in omega arith))
+  pub averages-one : Averages c (tile i (i + 1) j (j + 1)) m (pairAveraged m (i * c + j) (j * c + i))
+  averages-one = record {
+    long = simp length-set;
+    low = λ x y a b t. let ex : x ≡ i = omega (arith, t) in let ey : y ≡ j = omega (arith, t) in rw (ex, ey) here-low;
+    up = λ x y a b t. let ex : x ≡ i = omega (arith, t) in let ey : y ≡ j = omega (arith, t) in rw (ex, ey) here-up;
+    other = λ p n. let a = n i j h k (omega arith, omega arith, omega arith, omega arith) in
+        getD-set-other (set m (i * c + j) v) (j * c + i) p v nan (a .1) ∙ getD-set-other m (i * c + j) p v nan (a .0);
+  }
 
-    up-apart : (x y : ℕ) → x < i → y < i → (x ≡ y → ⊥) → (x * c + i ≡ i * c + y → ⊥) × (x * c + i ≡ y * c + i → ⊥)
-    up-apart x y hx hy n = ((λ e. let q = same-row x i i y c hi (omega arith) e in omega arith), (λ e. n (same-row x y i i c hi hi e)))
+-- two parts without a common pair, one after the other
+module _ (c : ℕ) (P Q R : ℕ → ℕ → Type 0) (m n r : List Float) (a : Averages c P m n) (b : Averages c Q n r)
+    (parts : (i j : ℕ) → j < i → R i j → P i j ⊎ Q i j) (first : (i j : ℕ) → j < i → P i j → R i j) (second : (i j : ℕ) → j < i → Q i j → R i j) (apart : (i j : ℕ) → P i j → Q i j → ⊥) where
+  -- what the second part leaves of the first
+  kept-low : (i j : ℕ) → j < i → i < c → P i j → getD r (i * c + j) nan ≡ getD n (i * c + j) nan
+  kept-low i j h k p = b .other (i * c + j) (λ x y hx kx q. (
+    (λ e. apart i j p (rw (same-row i x j y c (omega arith) (omega arith) e, same-col i x j y c (omega arith) (omega arith) e) q)),
+    (λ e. let s = same-row i y j x c (omega arith) kx e in let t = same-col i y j x c (omega arith) kx e in omega arith),
+  ))
 
-    fresh : (j : ℕ) → j < i → pairHalf (rowAveraged c i j m) (i * c + j) (j * c + i) ≡ pairHalf m (i * c + j) (j * c + i)
-    fresh j h = rw (row-other j (i * c + j) (λ y q. low-apart j y h (omega arith) (λ e. omega arith)), row-other j (j * c + i) (λ y q. up-apart j y h (omega arith) (λ e. omega arith)))
+  kept-up : (i j : ℕ) → j < i → i < c → P i j → getD r (j * c + i) nan ≡ getD n (j * c + i) nan
+  kept-up i j h k p = b .other (j * c + i) (λ x y hx kx q. (
+    (λ e. let s = same-row j x i y c k (omega arith) e in let t = same-col j x i y c k (omega arith) e in omega arith),
+    (λ e. apart i j p (rw (same-col j y i x c k kx e, same-row j y i x c k kx e) q)),
+  ))
 
-    pub row-low : (j y : ℕ) → y < j → j ≤ i → getD (rowAveraged c i j m) (i * c + y) nan ≡ pairHalf m (i * c + y) (y * c + i)
-    unfolding rowAveraged
-    row-low zero y h k = absurd (omega arith)
-    row-low (suc j) y h k = step (ℕ-discrete y j) (λ q. row-low j y q (omega arith))
-      where
-        v : Float
-        v = pairHalf (rowAveraged c i j m) (i * c + j) (j * c + i)
+  -- what the first leaves of the second
+  fresh-low : (i j : ℕ) → j < i → i < c → Q i j → getD n (i * c + j) nan ≡ getD m (i * c + j) nan
+  fresh-low i j h k q = a .other (i * c + j) (λ x y hx kx p. (
+    (λ e. apart i j (rw (same-row i x j y c (omega arith) (omega arith) e, same-col i x j y c (omega arith) (omega arith) e) p) q),
+    (λ e. let s = same-row i y j x c (omega arith) kx e in let t = same-col i y j x c (omega arith) kx e in omega arith),
+  ))
 
-        step : Dec (y ≡ j) → (y < j → getD (rowAveraged c i j m) (i * c + y) nan ≡ pairHalf m (i * c + y) (y * c + i)) → getD (rowAveraged c i (suc j) m) (i * c + y) nan ≡ pairHalf m (i * c + y) (y * c + i)
-        step (yes e) ih = rw e
-            (getD-set-other (set (rowAveraged c i j m) (i * c + j) v) (j * c + i) (i * c + j) v nan (λ q. let r = same-row i j j i c (omega arith) hi q in omega arith)
-            ∙ getD-set-same (rowAveraged c i j m) (i * c + j) v nan (rw (length-row c i j m) (low-in j (omega arith)))
-            ∙ fresh j (omega arith))
-        step (no n) ih =
-            getD-set-other (set (rowAveraged c i j m) (i * c + j) v) (j * c + i) (i * c + y) v nan (low-apart y j (omega arith) (omega arith) n .1)
-            ∙ getD-set-other (rowAveraged c i j m) (i * c + j) (i * c + y) v nan (low-apart y j (omega arith) (omega arith) n .0)
-            ∙ ih (omega arith)
+  fresh-up : (i j : ℕ) → j < i → i < c → Q i j → getD n (j * c + i) nan ≡ getD m (j * c + i) nan
+  fresh-up i j h k q = a .other (j * c + i) (λ x y hx kx p. (
+    (λ e. let s = same-row j x i y c k (omega arith) e in let t = same-col j x i y c k (omega arith) e in omega arith),
+    (λ e. apart i j (rw (same-col j y i x c k kx e, same-row j y i x c k kx e) p) q),
+  ))
 
-    pub row-up : (j y : ℕ) → y < j → j ≤ i → getD (rowAveraged c i j m) (y * c + i) nan ≡ pairHalf m (i * c + y) (y * c + i)
-    unfolding rowAveraged
-    row-up zero y h k = absurd (omega arith)
-    row-up (suc j) y h k = step (ℕ-discrete y j) (λ q. row-up j y q (omega arith))
-      where
-        v : Float
-        v = pairHalf (rowAveraged c i j m) (i * c + j) (j * c + i)
+  pub averages-both : Averages c R m r
+  averages-both = record {
+    long = b .long ∙ a .long;
+    low = λ i j h k t. ⊎-elim (λ p. kept-low i j h k p ∙ a .low i j h k p) (λ q. b .low i j h k q ∙ rw (fresh-low i j h k q, fresh-up i j h k q)) (parts i j h t);
+    up = λ i j h k t. ⊎-elim (λ p. kept-up i j h k p ∙ a .up i j h k p) (λ q. b .up i j h k q ∙ rw (fresh-low i j h k q, fresh-up i j h k q)) (parts i j h t);
+    other = λ p f. b .other p (λ x y h k q. f x y h k (second x y h q)) ∙ a .other p (λ x y h k q. f x y h k (first x y h q));
+  }
 
-        step : Dec (y ≡ j) → (y < j → getD (rowAveraged c i j m) (y * c + i) nan ≡ pairHalf m (i * c + y) (y * c + i)) → getD (rowAveraged c i (suc j) m) (y * c + i) nan ≡ pairHalf m (i * c + y) (y * c + i)
-        step (yes e) ih = rw e
-            (getD-set-same (set (rowAveraged c i j m) (i * c + j) v) (j * c + i) v nan (simp length-set (rw (length-row c i j m) (up-in j (omega arith))))
-            ∙ fresh j (omega arith))
-        step (no n) ih =
-            getD-set-other (set (rowAveraged c i j m) (i * c + j) v) (j * c + i) (y * c + i) v nan (up-apart y j (omega arith) (omega arith) n .1)
-            ∙ getD-set-other (rowAveraged c i j m) (i * c + j) (y * c + i) v nan (up-apart y j (omega arith) (omega arith) n .0)
-            ∙ ih (omega arith)
+-- ---- the steps of the loops
+
+-- one row more of column j
+pub column-more : (c j from i : ℕ) (m₀ m r : List Float) → j < i → from ≤ i → i < c → c * c ≤ length m₀ → Averages c (tile from i j (j + 1)) m₀ m
+    → r ≡ pairAveraged m (i * c + j) (j * c + i) → Averages c (tile from (i + 1) j (j + 1)) m₀ r
+column-more c j from i m₀ m r h f k big a e =
+    rw e
+    (averages-both c (tile from i j (j + 1)) (tile i (i + 1) j (j + 1)) (tile from (i + 1) j (j + 1)) m₀ m (pairAveraged m (i * c + j) (j * c + i)) a
+    (averages-one c i j m h k (rw (a .long) big)) (λ x y q t. parts x y t (decLt x i)) (λ x y q t. (t .0, omega (arith, t), t .2, t .3)) (λ x y q t. (omega (arith, t), t .1, t .2, t .3))
+    (λ x y t u. omega (arith, t, u)))
+  where
+    parts : (x y : ℕ) → tile from (i + 1) j (j + 1) x y → Dec (x < i) → tile from i j (j + 1) x y ⊎ tile i (i + 1) j (j + 1) x y
+    parts x y t (yes l) = inl (t .0, l, t .2, t .3)
+    parts x y t (no n) = inr (omega arith, t .1, t .2, t .3)
+
+-- one column more of a strip: its pairs begin at row `from`
+pub strip-more : (c first end j from : ℕ) (m₀ m r : List Float) → first ≤ from → ((x : ℕ) → first ≤ x → j < x → from ≤ x) → Averages c (tile first end 0 j) m₀ m
+    → Averages c (tile from end j (j + 1)) m r → Averages c (tile first end 0 (j + 1)) m₀ r
+strip-more c first end j from m₀ m r f g a b =
+    averages-both c (tile first end 0 j) (tile from end j (j + 1)) (tile first end 0 (j + 1)) m₀ m r a b (λ x y q t. parts x y q t (decLt y j))
+    (λ x y q t. (t .0, t .1, t .2, omega (arith, t))) (λ x y q t. (omega (arith, t), t .1, omega arith, t .3)) (λ x y t u. omega (arith, t, u))
+  where
+    parts : (x y : ℕ) → y < x → tile first end 0 (j + 1) x y → Dec (y < j) → tile first end 0 j x y ⊎ tile from end j (j + 1) x y
+    parts x y q t (yes l) = inl (t .0, t .1, t .2, l)
+    parts x y q t (no n) = inr (g x (t .0) (omega arith), t .1, omega arith, t .3)
+
+-- one strip more
+pub rows-more : (c first end : ℕ) (m₀ m r : List Float) → first ≤ end → end ≤ c → Averages c (tile 0 first 0 c) m₀ m → Averages c (tile first end 0 end) m r → Averages c (tile 0 end 0 c) m₀ r
+rows-more c first end m₀ m r h k a b =
+    averages-both c (tile 0 first 0 c) (tile first end 0 end) (tile 0 end 0 c) m₀ m r a b (λ x y q t. parts x y q t (decLt x first))
+    (λ x y q t. (omega arith, omega (arith, t), omega arith, t .3)) (λ x y q t. (omega arith, t .1, omega arith, omega (arith, t))) (λ x y t u. omega (arith, t, u))
+  where
+    parts : (x y : ℕ) → y < x → tile 0 end 0 c x y → Dec (x < first) → tile 0 first 0 c x y ⊎ tile first end 0 end x y
+    parts x y q t (yes l) = inl (omega arith, l, omega arith, t .3)
+    parts x y q t (no n) = inr (omega arith, t .1, omega arith, omega (arith, t))
 
 -- ---- the definition's three cases
 
@@ -117,79 +142,40 @@ averaged-ext a b i j p q r = step (ℕ-discrete i j) (decLt j i)
     step (no n) (yes h) = averaged-low a i j h ∙ rw (p, q) (sym (averaged-low b i j h))
     step (no n) (no h) = averaged-up a i j (omega arith) ∙ rw (p, q) (sym (averaged-up b i j (omega arith)))
 
--- ---- the first i rows
+-- ---- all pairs
 
-module _ (c : ℕ) (m : List Float) (big : c * c ≤ length m) where
-  pub rows-left : (i x y : ℕ) → i ≤ c → x < c → y < c → (i ≤ x) ⊎ (i ≤ y) → getD (rowsAveraged c i m) (x * c + y) nan ≡ getD m (x * c + y) nan
-  unfolding rowsAveraged
-  rows-left zero x y h hx hy o = refl
-  rows-left (suc i) x y h hx hy o =
-      row-other c i (rowsAveraged c i m) i (x * c + y)
-      (λ z q. (
-        (λ e. apart z q (same-row x i y z c hy (omega arith) e) (same-col x i y z c hy (omega arith) e) o),
-        (λ e. apart′ z q (same-row x z y i c hy h e) (same-col x z y i c hy h e) o),
-      ))
-      ∙ rows-left i x y (omega arith) hx hy (⊎-elim (λ a. inl (omega arith)) (λ b. inr (omega arith)) o)
+module _ (c : ℕ) (m r : List Float) (big : c * c ≤ length m) (a : Averages c (tile 0 c 0 c) m r) where
+  every : (i j : ℕ) → i < c → j < c → getD r (i * c + j) nan ≡ averaged (entryIn m c) i j
+  every i j p q = step (ℕ-discrete i j) (decLt j i)
     where
-      apart : (z : ℕ) → z < i → x ≡ i → y ≡ z → (suc i ≤ x) ⊎ (suc i ≤ y) → ⊥
-      apart z q a b (inl k) = omega arith
-      apart z q a b (inr k) = omega arith
+      step : Dec (i ≡ j) → Dec (j < i) → getD r (i * c + j) nan ≡ averaged (entryIn m c) i j
+      step (yes e) d = rw (← e)
+          (a .other (i * c + i) (λ x y h k t. (
+            (λ f. let s = same-row i x i y c p (omega arith) f in let u = same-col i x i y c p (omega arith) f in omega arith),
+            (λ f. let s = same-row i y i x c p k f in let u = same-col i y i x c p k f in omega arith),
+          ))
+          ∙ sym (averaged-diagonal (entryIn m c) i))
+      step (no n) (yes h) = a .low i j h p (omega arith, p, omega arith, q) ∙ sym (averaged-low (entryIn m c) i j h)
+      step (no n) (no h) = a .up j i (omega arith) q (omega arith, q, omega arith, p) ∙ sym (averaged-up (entryIn m c) i j (omega arith))
 
-      apart′ : (z : ℕ) → z < i → x ≡ z → y ≡ i → (suc i ≤ x) ⊎ (suc i ≤ y) → ⊥
-      apart′ z q a b (inl k) = omega arith
-      apart′ z q a b (inr k) = omega arith
-
-  pub rows-past : (i p : ℕ) → i ≤ c → c * c ≤ p → getD (rowsAveraged c i m) p nan ≡ getD m p nan
-  unfolding rowsAveraged
-  rows-past zero p h k = refl
-  rows-past (suc i) p h k =
-      row-other c i (rowsAveraged c i m) i p (λ z q. ((λ e. omega (arith, place i z c c h (omega arith))), (λ e. omega (arith, place z i c c (omega arith) h))))
-      ∙ rows-past i p (omega arith) k
-
-  pairs : (i x : ℕ) → i < c → x < i → pairHalf (rowsAveraged c i m) (i * c + x) (x * c + i) ≡ pairHalf m (i * c + x) (x * c + i)
-  pairs i x h q = rw (rows-left i i x (omega arith) h (omega arith) (inl (omega arith)), rows-left i x i (omega arith) (omega arith) h (inr (omega arith)))
-
-  long : (i : ℕ) → c * c ≤ length (rowsAveraged c i m)
-  long i = rw (length-rows c i m) big
-
-  pub rows-done : (i x y : ℕ) → i ≤ c → x < i → y < i → getD (rowsAveraged c i m) (x * c + y) nan ≡ averaged (entryIn m c) x y
-  unfolding rowsAveraged
-  rows-done zero x y h hx hy = absurd (omega arith)
-  rows-done (suc i) x y h hx hy = step (ℕ-discrete x i) (ℕ-discrete y i) (λ p q. rows-done i x y (omega arith) p q)
-    where
-      r : List Float
-      r = rowsAveraged c i m
-
-      step : Dec (x ≡ i) → Dec (y ≡ i) → (x < i → y < i → getD r (x * c + y) nan ≡ averaged (entryIn m c) x y)
-          → getD (rowAveraged c i i r) (x * c + y) nan ≡ averaged (entryIn m c) x y
-      step (yes e) (yes f) ih = rw (e, f)
-          (row-other c i r i (i * c + i) (λ z q. ((λ k. omega arith), (λ k. let s = same-row i z i i c h h k in omega arith)))
-          ∙ rows-left i i i (omega arith) h h (inl (omega arith)) ∙ sym (averaged-diagonal (entryIn m c) i))
-      step (yes e) (no n) ih = rw e
-          (row-low c i r h (long i) i y (omega arith) (omega arith) ∙ pairs i y h (omega arith) ∙ sym (averaged-low (entryIn m c) i y (omega arith)))
-      step (no n) (yes f) ih = rw f
-          (row-up c i r h (long i) i x (omega arith) (omega arith) ∙ pairs i x h (omega arith) ∙ sym (averaged-up (entryIn m c) x i (omega arith)))
-      step (no n) (no k) ih =
-          row-other c i r i (x * c + y)
-          (λ z q. ((λ e. n (same-row x i y z c (omega arith) (omega arith) e)), (λ e. k (same-col x z y i c (omega arith) h e))))
-          ∙ ih (omega arith) (omega arith)
+  past : (p : ℕ) → c * c ≤ p → getD r p nan ≡ getD m p nan
+  past p h = a .other p (λ x y hx kx t. ((λ e. omega (arith, place x y c c kx (omega arith))), (λ e. omega (arith, place y x c c (omega arith) kx))))
 
   cut : (i j : ℕ) → i < c → j < c → averaged (entryIn (take (c * c) m) c) i j ≡ averaged (entryIn m c) i j
   cut i j p q = averaged-ext (entryIn (take (c * c) m) c) (entryIn m c) i j
       (getD-take (c * c) m (i * c + j) nan (place i j c c p q)) (getD-take (c * c) m (j * c + i) nan (place j i c c q p)) (getD-take (c * c) m (i * c + i) nan (place i i c c p p))
 
-  -- all rows
-  pub rows-law : rowsAveraged c c m ≡ averagedSquare c (take (c * c) m) ++ drop (c * c) m
+  pub averages-all : r ≡ averagedSquare c (take (c * c) m) ++ drop (c * c) m
   unfolding averagedSquare
-  rows-law =
-      split-is nan (c * c) (rowsAveraged c c m) (square c (averaged (entryIn (take (c * c) m) c))) m (length-rows c c m) big
-      (square-is nan c (averaged (entryIn (take (c * c) m) c)) (take (c * c) (rowsAveraged c c m)) (length-take-le (c * c) (rowsAveraged c c m) (long c))
-      (λ i j p q. getD-take (c * c) (rowsAveraged c c m) (i * c + j) nan (place i j c c p q) ∙ rows-done c i j (omega arith) p q ∙ sym (cut i j p q)))
-      (λ p k. rows-past c p (omega arith) k)
+  averages-all =
+      split-is nan (c * c) r (square c (averaged (entryIn (take (c * c) m) c))) m (a .long) big
+      (square-is nan c (averaged (entryIn (take (c * c) m) c)) (take (c * c) r) (length-take-le (c * c) r (rw (a .long) big))
+      (λ i j p q. getD-take (c * c) r (i * c + j) nan (place i j c c p q) ∙ every i j p q ∙ sym (cut i j p q)))
+      past
 
-pub average-on : (c : ℕ) (m r : List Float) → c ≤ maxCoarse → c * c ≤ length m → r ≡ rowsAveraged c c m → r ≡ averagedIn c m
+pub average-on : (c : ℕ) (m r : List Float) → c ≤ maxCoarse → c * c ≤ length m → Averages c (tile 0 c 0 c) m r → r ≡ averagedIn c m
 unfolding averagedIn
-average-on c m r h k e = e ∙ rows-law c m k ∙ sym (rw (le-leb c maxCoarse h, le-leb (c * c) (length m) k, averagedIn))
+average-on c m r h k a = averages-all c m r k a ∙ sym (rw (le-leb c maxCoarse h, le-leb (c * c) (length m) k, averagedIn))
 
 pub average-short : (c : ℕ) (m : List Float) → length m < c * c → m ≡ averagedIn c m
 unfolding averagedIn
@@ -202,24 +188,6 @@ average-short c m h = step (leb c maxCoarse) refl
 pub average-large : (c : ℕ) (m : List Float) → maxCoarse < c → m ≡ averagedIn c m
 unfolding averagedIn
 average-large c m h = rw (lt-leb c maxCoarse h, averagedIn)
-
--- ---- the steps of the loops
-
-pub row-none : (c i : ℕ) (m : List Float) → m ≡ rowAveraged c i 0 m
-unfolding rowAveraged
-row-none c i m = refl
-
-pub row-more : (c i j : ℕ) (m₀ m r : List Float) (up : ℕ) → up ≡ j * c + i → m ≡ rowAveraged c i j m₀ → r ≡ pairAveraged m (i * c + j) up → r ≡ rowAveraged c i (j + 1) m₀
-unfolding rowAveraged
-row-more c i j m₀ m r up eu em er = rw (add-one, er, eu, em)
-
-pub rows-none : (c : ℕ) (m : List Float) → m ≡ rowsAveraged c 0 m
-unfolding rowsAveraged
-rows-none c m = refl
-
-pub rows-more : (c i : ℕ) (m₀ m r : List Float) → m ≡ rowsAveraged c i m₀ → r ≡ rowAveraged c i i m → r ≡ rowsAveraged c (i + 1) m₀
-unfolding rowsAveraged
-rows-more c i m₀ m r em er = rw (add-one, er, em)
 
 pub average-fits : (c : ℕ) (m : List Float) → c ≤ maxCoarse → c * c ≤ length m → averagedIn c m ≡ averagedSquare c (take (c * c) m) ++ drop (c * c) m
 unfolding averagedIn

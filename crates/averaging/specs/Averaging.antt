@@ -1,5 +1,6 @@
--- What averaging in place leaves, and the pairs in the order in which they are written.
-use Prim.Native.Nat.{ℕ, zero, suc, _+_, _*_}
+-- What averaging in place leaves, and which pairs a part of the loops has averaged, whatever their order.
+use Prim.Native.Nat.{ℕ, _+_, _*_, _<_, _≤_}
+use mathlib.Core.Path.{_≡_}
 use mathlib.Core.Bool.{Bool, true, false, _&&_}
 use mathlib.Core.List.{List, _++_}
 use lib.Dec.{leb}
@@ -22,12 +23,13 @@ pairHalf m low up = half *ᶠ (getD m low nan +ᶠ getD m up nan)
 abbrev pub pairAveraged : List Float → ℕ → ℕ → List Float
 pairAveraged m low up = set (set m low (pairHalf m low up)) up (pairHalf m low up)
 
--- the first j pairs of row i
-unfoldable pub rowAveraged : ℕ → ℕ → ℕ → List Float → List Float
-rowAveraged c i zero m = m
-rowAveraged c i (suc j) m = pairAveraged (rowAveraged c i j m) (i * c + j) (j * c + i)
+-- a pair is named by its lower entry (i, j), j < i: here those in rows first .. end and columns left .. right
+abbrev pub tile : ℕ → ℕ → ℕ → ℕ → ℕ → ℕ → Type 0
+tile first end left right i j = (first ≤ i) × (i < end) × (left ≤ j) × (j < right)
 
--- the first i rows
-unfoldable pub rowsAveraged : ℕ → ℕ → List Float → List Float
-rowsAveraged c zero m = m
-rowsAveraged c (suc i) m = rowAveraged c i i (rowsAveraged c i m)
+-- r is m with the pairs averaged that P names, and no other element changed
+pub record Averages (c : ℕ) (P : ℕ → ℕ → Type 0) (m r : List Float) : Type 0 where
+  pub long : length r ≡ length m
+  pub low : (i j : ℕ) → j < i → i < c → P i j → getD r (i * c + j) nan ≡ pairHalf m (i * c + j) (j * c + i)
+  pub up : (i j : ℕ) → j < i → i < c → P i j → getD r (j * c + i) nan ≡ pairHalf m (i * c + j) (j * c + i)
+  pub other : (p : ℕ) → ((i j : ℕ) → j < i → i < c → P i j → (p ≡ i * c + j → ⊥) × (p ≡ j * c + i → ⊥)) → getD r p nan ≡ getD m p nan

@@ -2,7 +2,7 @@
 ghost use mathlib.Core.Path.{_≡_};
 ghost use Prim.Native.Nat.{_+_, _*_, _<_, _≤_};
 ghost use lib.ListN.{length};
-ghost use Rattle.averaging.specs.Averaging.{pairAveraged, rowAveraged, rowsAveraged, averagedIn};
+ghost use Rattle.averaging.specs.Averaging.{pairAveraged, tile, Averages, averagedIn};
 
 // Both places of a pair become half of their sum, the lower entry first.
 fn average_pair(m: &mut [f64], low: usize, up: usize)
@@ -14,27 +14,47 @@ fn average_pair(m: &mut [f64], low: usize, up: usize)
     m[up] = v;
 }
 
-// The pairs of row i left of the diagonal.
-fn average_row(c: usize, i: usize, m: &mut [f64])
-    requires { ⌜ (i < c) × (c * c ≤ length (now m)) ⌝ }
-    ensures { λ _. ⌜ now (m .exit) ≡ rowAveraged c i i (now (m .entry)) ⌝ }
+// The pairs of column j in rows from .. to: their upper entries stand side by side.
+fn average_column(c: usize, j: usize, from: usize, to: usize, m: &mut [f64])
+    requires { ⌜ (j < from) × (from ≤ to) × (to ≤ c) × (c * c ≤ length (now m)) ⌝ }
+    ensures { λ _. ⌜ Averages c (tile from to j (j + 1)) (now (m .entry)) (now (m .exit)) ⌝ }
 {
-    let start = i * c;
-    let mut up = i;
+    let mut i = from;
+    while i < to {
+        average_pair(m, i * c + j, j * c + i);
+        i += 1;
+    }
+}
+
+// The pairs of rows first .. end, column by column.
+fn average_strip(c: usize, first: usize, end: usize, m: &mut [f64])
+    requires { ⌜ (first ≤ end) × (end ≤ c) × (c * c ≤ length (now m)) ⌝ }
+    ensures { λ _. ⌜ Averages c (tile first end 0 end) (now (m .entry)) (now (m .exit)) ⌝ }
+{
     let mut j = 0;
-    while j < i {
-        average_pair(m, start + j, up);
-        up += c;
+    while j < end {
+        let mut from = first;
+        if first <= j {
+            from = j + 1;
+        }
+        average_column(c, j, from, end, m);
         j += 1;
     }
 }
 
+// Eight rows at a time: so eight numbers that stand side by side, one line of the cache, are taken while they are there.
 fn average_rows(c: usize, m: &mut [f64])
     requires { ⌜ c * c ≤ length (now m) ⌝ }
-    ensures { λ _. ⌜ now (m .exit) ≡ rowsAveraged c c (now (m .entry)) ⌝ }
+    ensures { λ _. ⌜ Averages c (tile 0 c 0 c) (now (m .entry)) (now (m .exit)) ⌝ }
 {
-    for i in 0..c {
-        average_row(c, i, m);
+    let mut first = 0;
+    while first < c {
+        let mut end = c;
+        if 8 < c - first {
+            end = first + 8;
+        }
+        average_strip(c, first, end, m);
+        first = end;
     }
 }
 

@@ -1,5 +1,6 @@
 pub mod Scan
 pub mod Causes
 pub mod Sums
+pub mod Single
 pub mod Filling
 pub mod Calling

@@ -1,45 +1,52 @@
-use Prim.Native.Nat.{ℕ, suc, _+_, _*_, _<_, _≤_, _-_}
-use mathlib.Core.Path.{_≡_, refl, ap, sym, _∙_}
-use lib.ListN.{length}
-use Rattle.averaging.specs.Averaging.{rowsAveraged}
-use Rattle.averaging.proofs.Laws.{length-rows, rows-none, rows-more}
+-- Strip by strip, until the last ends at row c.
+use Prim.Native.Nat.{_-_, _<_, _≤_}
+use mathlib.Core.Path.{_≡_}
+use mathlib.Core.Logic.{⊎-elim}
 use native.Mathlib.Omega.{arith}
+use Rattle.averaging.specs.Averaging.{tile, Averages}
+use Rattle.averaging.proofs.Laws.{averages-none, rows-more}
 use borrow.Author.Needs.{needs}
 use Rattle.averaging.proofs.average_rows.Statement.{statement}
 use Rattle.averaging.proofs.average_rows.Tie as tie
-use Rattle.averaging.proofs.average_rows.Reads as reads
-use Rattle.averaging.proofs.average_rows.Lts as lts
-use Rattle.averaging.proofs.average_row.Reads as average-row-reads
 
 abbrev Inv-loop : tie.InvT-loop
-Inv-loop c m₀ i₀ m i = (i ≤ c) × (m ≡ rowsAveraged c i m₀)
+Inv-loop c m₀ first₀ m first = (first ≤ c) × Averages c (tile 0 first 0 c) m₀ m
 
 abbrev μ-loop : tie.MeasureT-loop
-μ-loop c m₀ i₀ m i = c - i
+μ-loop c m₀ first₀ m first = c - first
+
+ends : (c : tie.Joined1 Inv-loop μ-loop) → (c .before .before .loop .first < c .if1 .end) × (c .if1 .end ≤ c .before .before .before .before .args .c)
+ends c = ⊎-elim (λ w. (omega (arith, w .1), omega (arith, w .0 .taken, w .1))) (λ w. (omega (arith, w .1), omega (arith, w .1))) (c .if1 .came)
 
 loop-holds : tie.Need-loop-holds Inv-loop μ-loop
-loop-holds c = (omega arith, rows-none (c .before .args .c) (c .before .args .m .now))
+loop-holds c = let a = c .before .args in (omega arith, averages-none (a .c) (tile 0 0 0 (a .c)) (a .m .now) (λ x y h t. omega (arith, t)))
 
-average-row-requires : tie.Need-average-row-requires Inv-loop μ-loop
-average-row-requires c κs = (omega arith, rw (ap length (c .before .before .loop .inv .1) ∙ length-rows (c .before .before .before .before .args .c) (c .before .before .loop .i) (c .before .before .before .before .args .m .now)) (c .before .before .before .before .pre))
+sub-if1 : tie.Need-sub-if1 Inv-loop μ-loop
+sub-if1 c = search needs
 
-add-i : tie.Need-add-i Inv-loop μ-loop
-add-i c = search needs
+add-end : tie.Need-add-end Inv-loop μ-loop
+add-end c = search needs
+
+average-strip-requires : tie.Need-average-strip-requires Inv-loop μ-loop
+average-strip-requires c κs =
+    let e = ends (c .before) in
+    (omega (arith, e), e .1, rw (c .before .before .before .loop .inv .1 .long) (c .before .before .before .before .before .pre))
 
 loop-less : tie.Need-loop-less Inv-loop μ-loop
-loop-less c = omega arith
+loop-less c = omega (arith, ends (c .before .before .before .before))
 
 loop-again : tie.Need-loop-again Inv-loop μ-loop
 loop-again c =
-    let a = c .before .before .before .before .before .before .before .args in
-    let l = c .before .before .before .before .before .loop in
-    (omega arith, rows-more (a .c) (l .i) (a .m .now) (l .m) (c .before .before .average-row .last .1 .1 .0) (l .inv .1) (c .before .before .average-row .ensures))
+    let a = c .before .before .before .before .before .before .before .before .args in
+    let l = c .before .before .before .before .before .before .loop in
+    let e = ends (c .before .before .before .before) in
+    (e .1, rows-more (a .c) (l .first) (c .before .before .before .before .if1 .end) (a .m .now) (l .m) _ (omega (arith, e)) (e .1) (l .inv .1) (c .before .before .average-strip .ensures))
 
 same-length : tie.Need-same-length Inv-loop μ-loop
-same-length c = ap length (c .before .loop .inv .1) ∙ length-rows (c .before .before .before .args .c) (c .before .loop .i) (c .before .before .before .args .m .now)
+same-length c = c .before .loop .inv .1 .long
 
 returns : tie.Need-returns Inv-loop μ-loop
-returns c = let e : c .before .loop .i ≡ c .before .before .before .args .c = omega arith in rw e at (c .before .loop .inv .1)
+returns c = let e : c .before .loop .first ≡ c .before .before .before .args .c = omega arith in rw e at (c .before .loop .inv .1)
 
 pub average-rows-spec : {M : Type 1} → statement M
 average-rows-spec =
@@ -48,8 +55,9 @@ average-rows-spec =
     Inv-loop
     μ-loop
     loop-holds
-    average-row-requires
-    add-i
+    sub-if1
+    add-end
+    average-strip-requires
     loop-less
     loop-again
     same-length

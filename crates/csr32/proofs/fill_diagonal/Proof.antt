@@ -48,8 +48,9 @@ sum-at-requires : tie.Need-sum-at-requires Inv-loop μ-loop
 sum-at-requires c κs =
     let s = c .before .before .before .before .before .before .before .before .before .before in
     let a = s .args in
-    row-fits (csr (a .rows) (a .rows) (a .row-ptr .now) (a .col-idx .now) (a .values .now)) (s .pre .0) (c .before .before .before .before .before .loop .i) (c .before .before .wide .result) (c .wide2 .result)
-    (c .before .before .before .before .loop-test .taken) (c .before .before .wide .ensures) (c .wide2 .ensures)
+    let f = row-fits (csr (a .rows) (a .rows) (a .row-ptr .now) (a .col-idx .now) (a .values .now)) (s .pre .0) (c .before .before .before .before .before .loop .i) (c .before .before .wide .result) (c .wide2 .result)
+    (c .before .before .before .before .loop-test .taken) (c .before .before .wide .ensures) (c .wide2 .ensures) in
+    (f, (omega (arith, f .1, s .pre .0 .fewEntries), omega (arith, s .pre .0 .fewRows)))
 
 mul-diagonal : tie.Need-mul-diagonal Inv-loop μ-loop
 mul-diagonal c = search needs

@@ -1,43 +1,39 @@
--- The sum is that of the numbers passed, and `stored` says whether there are any.
-use Rattle.csr32.proofs.Sums.{sum-hit, sum-miss}
-use mathlib.Core.Path.{_≡_, sym, _∙_}
+-- The entries passed are counted, and the position of a single one is known; none or several are summed by the plain loop.
 use Prim.Native.Nat.{_-_, _<_, _≤_}
+use mathlib.Core.Path.{_≡_, sym, _∙_}
+use mathlib.Core.Logic.{⊎-elim}
 use native.Mathlib.Omega.{arith}
 use lib.Dec.{eqb}
 use lib.ListN.{length}
 use borrow.Author.Tests.{eq-eqb, ne-eqb}
-use mathlib.Core.Logic.{⊎-elim}
-use Rattle.definitions.specs.Numbers.{total}
-use Rattle.csr32.specs.Found.{some}
-use Rattle.csr32.specs.Stored.{numbersAt}
-use Rattle.csr32.proofs.Sums.{sum-none}
+use Rattle.csr32.proofs.Single.{Single, single-none, single-hit, single-miss, single-sum}
 use borrow.Author.Needs.{needs}
 use Rattle.csr32.proofs.sum_at.Statement.{statement}
 use Rattle.csr32.proofs.sum_at.Tie as tie
 
 abbrev Inv-loop : tie.InvT-loop
-Inv-loop col-idx values from to column stored₀ sum₀ k₀ stored sum k = (from ≤ k) × (k ≤ to) × (stored ≡ some (numbersAt (λ c. eqb c column) col-idx values from k)) × (sum ≡ total (numbersAt (λ c. eqb c column) col-idx values from k))
+Inv-loop col-idx values from to column wanted count₀ at₀ k₀ count at k = (from ≤ k) × (k ≤ to) × Single (λ c. eqb c column) col-idx values from k count at
 
 abbrev μ-loop : tie.MeasureT-loop
-μ-loop col-idx values from to column stored₀ sum₀ k₀ stored sum k = to - k
+μ-loop col-idx values from to column wanted count₀ at₀ k₀ count at k = to - k
+
+cast-wanted : tie.Need-cast-wanted Inv-loop μ-loop
+cast-wanted c = search needs
 
 loop-holds : tie.Need-loop-holds Inv-loop μ-loop
-loop-holds c = let a = c .before .before .args in let z = sum-none (λ x. eqb x (a .column)) (a .col-idx .now) (a .values .now) (a .from) in (omega arith, omega arith, z .0, z .1)
+loop-holds c = let a = c .before .before .args in (omega arith, omega arith, single-none (λ x. eqb x (a .column)) (a .col-idx .now) (a .values .now) (a .from))
 
-mul-wide : tie.Need-mul-wide Inv-loop μ-loop
-mul-wide c = search needs
+mul-if1 : tie.Need-mul-if1 Inv-loop μ-loop
+mul-if1 c = search needs
 
-shared-slice-read-wide : tie.Need-shared-slice-read-wide Inv-loop μ-loop
-shared-slice-read-wide c = search needs
+shared-slice-read-if1 : tie.Need-shared-slice-read-if1 Inv-loop μ-loop
+shared-slice-read-if1 c = search needs
 
-wide-requires : tie.Need-wide-requires Inv-loop μ-loop
-wide-requires c κs = search needs
+add-count : tie.Need-add-count Inv-loop μ-loop
+add-count c = omega (arith, c .before .before .before .loop .inv .2 .few)
 
-mul-sum : tie.Need-mul-sum Inv-loop μ-loop
-mul-sum c = search needs
-
-shared-slice-read-sum : tie.Need-shared-slice-read-sum Inv-loop μ-loop
-shared-slice-read-sum c = search needs
+cast-at : tie.Need-cast-at Inv-loop μ-loop
+cast-at c = search needs
 
 add-k : tie.Need-add-k Inv-loop μ-loop
 add-k c = search needs
@@ -47,26 +43,46 @@ loop-less c = omega arith
 
 loop-again : tie.Need-loop-again Inv-loop μ-loop
 loop-again c =
-    let a = c .before .before .before .before .before .before .before .args in
-    let l = c .before .before .before .before .loop in
-    let p = c .before .before .before .before .before .before .before .pre in
-    let t = c .before .wide in
-    let h : l .k < length (a .col-idx .now) = omega arith in
-    ⊎-elim
-    (λ w.
-    let z = sum-hit (λ x. eqb x (a .column)) (a .col-idx .now) (a .values .now) (a .from) (l .k) (l .inv .0) h (p .2) (l .stored) (c .if1 .stored) (l .sum) (c .if1 .sum) (l .inv .2) (l .inv .3)
-    (eq-eqb _ _ (sym (t .ensures) ∙ w .0 .taken)) (w .2) (w .3) in
-    (omega arith, omega arith, z .0, z .1))
-    (λ w.
-    let z = sum-miss (λ x. eqb x (a .column)) (a .col-idx .now) (a .values .now) (a .from) (l .k) (l .inv .0) h (p .2) (l .stored) (c .if1 .stored) (l .sum) (c .if1 .sum) (l .inv .2) (l .inv .3)
-    (ne-eqb _ _ (λ q. w .0 .left (t .ensures ∙ q))) (w .1) (w .2) in
-    (omega arith, omega arith, z .0, z .1))
-    (c .if1 .came)
+    let s = c .before .before .before .before .before .before in
+    let a = s .args in
+    let l = c .before .before .before .loop in
+    let h : l .k < length (a .col-idx .now) = omega (arith, s .pre) in (
+      omega arith,
+      omega arith,
+      ⊎-elim
+          (λ w. single-hit (λ x. eqb x (a .column)) (a .col-idx .now) (a .values .now) (a .from) (l .k) (l .inv .0) h (s .pre .0 .2) (l .count) (l .at) (l .inv .2) (c .if1 .count) (c .if1 .at)
+          (eq-eqb _ _ (w .0 .taken)) (w .1) (w .2))
+          (λ w. single-miss (λ x. eqb x (a .column)) (a .col-idx .now) (a .values .now) (a .from) (l .k) (l .inv .0) h (s .pre .0 .2) (l .count) (l .at) (l .inv .2) (c .if1 .count) (c .if1 .at)
+          (ne-eqb _ _ (w .0 .left)) (w .1) (w .2))
+          (c .if1 .came),
+    )
+
+wide-requires : tie.Need-wide-requires Inv-loop μ-loop
+wide-requires c κs = search needs
+
+-- the single entry stands in the list
+inside : (c : tie.After-wide Inv-loop μ-loop) → c .wide .result < length (c .before .before .before .before .before .before .args .values .now)
+inside c = omega (arith, c .wide .ensures, c .before .before .before .loop .inv .2 .one (c .before .if2 .taken) .0, c .before .before .before .before .before .before .pre .0)
+
+mul-t18 : tie.Need-mul-t18 Inv-loop μ-loop
+mul-t18 c = omega (arith, inside c)
+
+shared-slice-read-t20 : tie.Need-shared-slice-read-t20 Inv-loop μ-loop
+shared-slice-read-t20 c = inside (c .before)
+
+sum-each-requires : tie.Need-sum-each-requires Inv-loop μ-loop
+sum-each-requires c κs = search needs
 
 returns : tie.Need-returns Inv-loop μ-loop
 returns c =
-    let e : c .before .loop .k ≡ c .before .before .before .before .args .to = omega arith in
-    (rw (← e) (c .before .loop .inv .2), rw (← e) (c .before .loop .inv .3))
+    let a = c .before .before .before .before .before .before .before .args in
+    let l = c .before .before .before .before .loop in
+    let e : l .k ≡ a .to = omega arith in
+    let z = single-sum (λ x. eqb x (a .column)) (a .col-idx .now) (a .values .now) (a .from) (l .k) (l .at) (rw (c .before .before .if2 .taken) at (l .inv .2)) in
+    rw (← e, c .before .wide .ensures) z
+
+returns-2 : tie.Need-returns-2 Inv-loop μ-loop
+returns-2 c = c .sum-each .ensures
 
 pub sum-at-spec : {M : Type 1} → statement M
 sum-at-spec =
@@ -74,13 +90,18 @@ sum-at-spec =
     (tie.spec
     Inv-loop
     μ-loop
+    cast-wanted
     loop-holds
-    mul-wide
-    shared-slice-read-wide
-    wide-requires
-    mul-sum
-    shared-slice-read-sum
+    mul-if1
+    shared-slice-read-if1
+    add-count
+    cast-at
     add-k
     loop-less
     loop-again
-    returns)
+    wide-requires
+    mul-t18
+    shared-slice-read-t20
+    sum-each-requires
+    returns
+    returns-2)
