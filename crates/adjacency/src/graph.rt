@@ -27,6 +27,7 @@ pub fn all_lists(
     base: usize,
     work: &mut [u32],
     floats: &mut [f64],
+    table: &root::StartTable,
 ) -> usize
     requires { ⌜ Formed nodes size (now «row_ptr») (now «col_idx») (now values) ⌝ }
     requires { ⌜ Between strong (csr (nodes * size) (nodes * size) (now «row_ptr») (now «col_idx») (now values)) size nodes 0 (now work) (now floats) ⌝ }
@@ -50,6 +51,7 @@ pub fn all_lists(
             work,
             floats,
             at,
+            table,
         );
         v += 1;
         put(work, base + wide(v), at - first);

@@ -76,6 +76,7 @@ pub fn node_list(
     work: &mut [u32],
     floats: &mut [f64],
     at: usize,
+    table: &root::StartTable,
 ) -> usize
     requires { ⌜ Formed nodes size (now «row_ptr») (now «col_idx») (now values) ⌝ }
     requires { ⌜ Between strong (csr (nodes * size) (nodes * size) (now «row_ptr») (now «col_idx») (now values)) size nodes v (now work) (now floats) ⌝ }
@@ -96,6 +97,7 @@ pub fn node_list(
         nodes,
         &work[base + at..base + end],
         floats,
+        table,
     );
     arrange(&floats[..], nodes, base, work, at, end);
     end

@@ -10,10 +10,10 @@ use Rattle.adjacency.proofs.graph.all_lists.Statement.{statement}
 use Rattle.adjacency.proofs.graph.all_lists.Tie as tie
 
 abbrev Inv-loop : tie.InvT-loop
-Inv-loop strong row-ptr col-idx values size nodes base work₀ floats₀ first at₀ v₀ work floats at v = Graphed strong (csr (nodes * size) (nodes * size) row-ptr col-idx values) size nodes base work₀ floats₀ work floats at v
+Inv-loop strong row-ptr col-idx values size nodes base work₀ floats₀ table first at₀ v₀ work floats at v = Graphed strong (csr (nodes * size) (nodes * size) row-ptr col-idx values) size nodes base work₀ floats₀ work floats at v
 
 abbrev μ-loop : tie.MeasureT-loop
-μ-loop strong row-ptr col-idx values size nodes base work₀ floats₀ first at₀ v₀ work floats at v = nodes - v
+μ-loop strong row-ptr col-idx values size nodes base work₀ floats₀ table first at₀ v₀ work floats at v = nodes - v
 
 add-first : tie.Need-add-first Inv-loop μ-loop
 add-first c = omega (arith, c .before .before .before .before .before .pre .0 .few)
@@ -61,7 +61,7 @@ wide-requires-2 : tie.Need-wide-requires-2 Inv-loop μ-loop
 wide-requires-2 c κs = search needs
 
 add-put : tie.Need-add-put Inv-loop μ-loop
-add-put c = omega (arith, c .wide2 .ensures, less (c .before .before .before .before .before .before .before .before .before), room (c .before .before .before .before .before .before .before .before .before))
+add-put c = omega (arith, c .before .before .before .before .before .before .before .before .before .before .before .before .before .before .before .before .before .before .before .before .before .good, c .wide2 .ensures, less (c .before .before .before .before .before .before .before .before .before), room (c .before .before .before .before .before .before .before .before .before))
 
 sub-put : tie.Need-sub-put Inv-loop μ-loop
 sub-put c = low (c .before .before .before .before .before .before)
