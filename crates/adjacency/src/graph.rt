@@ -39,7 +39,7 @@ pub fn all_lists(
     let mut at = first;
     let mut v: u32 = 0;
     while wide(v) < nodes {
-        at = node_list(
+        let count = node_list(
             strong,
             row_ptr,
             col_idx,
@@ -53,6 +53,7 @@ pub fn all_lists(
             at,
             table,
         );
+        at += count;
         v += 1;
         put(work, base + wide(v), at - first);
     }

@@ -63,7 +63,7 @@ fn arrange(floats: &[f64], nodes: usize, base: usize, work: &mut [u32], at: usiz
     sort(&floats[strong..], &mut work[nodes..to], nodes, from);
 }
 
-// Puts node v's list at work[base + at..], by strength if that is wanted, and returns its end.
+// Puts node v's list at work[base + at..], by strength if that is wanted, and returns how many nodes it has.
 pub fn node_list(
     strong: bool,
     row_ptr: &[u32],
@@ -81,7 +81,7 @@ pub fn node_list(
     requires { ⌜ Formed nodes size (now «row_ptr») (now «col_idx») (now values) ⌝ }
     requires { ⌜ Between strong (csr (nodes * size) (nodes * size) (now «row_ptr») (now «col_idx») (now values)) size nodes v (now work) (now floats) ⌝ }
     requires { ⌜ (v < nodes) × ((2 * nodes ≤ base) × (base + at + (getD (now «row_ptr») ((v + 1) * size) 0 - getD (now «row_ptr») (v * size) 0) ≤ length (now work))) ⌝ }
-    ensures { λ r. ⌜ Listed strong (csr (nodes * size) (nodes * size) (now («row_ptr» .entry)) (now («col_idx» .entry)) (now (values .entry))) size nodes v at r (drop base (now (work .entry))) (drop base (now (work .exit))) (now (work .exit)) (now (floats .exit)) ⌝ }
+    ensures { λ r. ⌜ Listed strong (csr (nodes * size) (nodes * size) (now («row_ptr» .entry)) (now («col_idx» .entry)) (now (values .entry))) size nodes v at (at + r) (drop base (now (work .entry))) (drop base (now (work .exit))) (now (work .exit)) (now (floats .exit)) ⌝ }
 {
     let from = start(row_ptr, v, size);
     let to = start(row_ptr, v + 1, size);
@@ -100,5 +100,5 @@ pub fn node_list(
         table,
     );
     arrange(&floats[..], nodes, base, work, at, end);
-    end
+    end - at
 }
