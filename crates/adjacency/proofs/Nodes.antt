@@ -202,3 +202,7 @@ module _ {nodes size : ℕ} {ptr cols : List ℕ} {vals : List Float} (w : Forme
 
         after : (k : ℕ) → k < nodes → getD ints₂ k 0 < v + 1 + 1
         after k i = stamps-after w s ints l (b .stamps) (b .room) ints₂ (t ∙ p) k i
+
+-- the end may be told as a sum
+pub listed-to : {strong : Bool} {a : Matrix} {size nodes v at end n : ℕ} {lists lists' ints' : List ℕ} {floats' : List Float} → n ≡ end → Listed strong a size nodes v at end lists lists' ints' floats' → Listed strong a size nodes v at n lists lists' ints' floats'
+listed-to e l = rw e l

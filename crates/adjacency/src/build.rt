@@ -24,6 +24,7 @@ fn ready(
     nodes: usize,
     work: &mut [u32],
     floats: &mut [f64],
+    table: &root::StartTable,
 )
     requires { ⌜ Formed nodes size (now «row_ptr») (now «col_idx») (now values) ⌝ }
     requires { ⌜ (2 * nodes ≤ length (now work)) × (3 * nodes ≤ length (now floats)) ⌝ }
@@ -32,7 +33,7 @@ fn ready(
     numbers::zero_ints(&mut work[..nodes]);
     numbers::zero_floats(floats);
     if strong {
-        norms(row_ptr, col_idx, values, size, nodes, floats);
+        norms(row_ptr, col_idx, values, size, nodes, floats, table);
     }
 }
 
@@ -47,12 +48,23 @@ fn linked(
     base: usize,
     work: &mut [u32],
     floats: &mut [f64],
+    table: &root::StartTable,
 )
     requires { ⌜ Formed nodes size (now «row_ptr») (now «col_idx») (now values) ⌝ }
     requires { ⌜ (2 * nodes ≤ base) × ((base + nodes + 1 + length (now «col_idx») ≤ length (now work)) × (3 * nodes ≤ length (now floats))) ⌝ }
     ensures { λ _. ⌜ now (work .exit) ≡ padded 0 (length (now (work .entry))) (replicate base 0 ++ flatOf (listOf strong (csr (nodes * size) (nodes * size) (now («row_ptr» .entry)) (now («col_idx» .entry)) (now (values .entry))) size nodes) nodes) ⌝ }
 {
-    ready(strong, row_ptr, col_idx, values, size, nodes, work, floats);
+    ready(
+        strong,
+        row_ptr,
+        col_idx,
+        values,
+        size,
+        nodes,
+        work,
+        floats,
+        table,
+    );
     let end = all_lists(
         strong,
         row_ptr,
@@ -63,6 +75,7 @@ fn linked(
         base,
         work,
         floats,
+        table,
     );
     numbers::zero_ints(&mut work[base + end..]);
     numbers::zero_ints(&mut work[..base]);
@@ -79,6 +92,7 @@ fn fill(
     base: usize,
     work: &mut [u32],
     floats: &mut [f64],
+    table: &root::StartTable,
 )
     requires { ⌜ Formed nodes size (now «row_ptr») (now «col_idx») (now values) ⌝ }
     requires { ⌜ (2 * nodes ≤ base) × ((base + nodes + 1 + length (now «col_idx») ≤ length (now work)) × (3 * nodes ≤ length (now floats))) ⌝ }
@@ -96,6 +110,7 @@ fn fill(
             base,
             work,
             floats,
+            table,
         ),
         TwoLevelAggregation::StrongGraph => linked(
             true,
@@ -107,11 +122,12 @@ fn fill(
             base,
             work,
             floats,
+            table,
         ),
     }
 }
 
-// Fills the work list, and clears the floats, of which the front is used.
+// Fills the work list, with one table for all roots, and clears the floats, of which the front is used.
 pub fn build(
     aggregation: TwoLevelAggregation,
     row_ptr: &[u32],
@@ -131,6 +147,7 @@ pub fn build(
 {
     let size = block_size as u32;
     let floats = 3 * nodes;
+    let table = root::table();
     fill(
         aggregation,
         row_ptr,
@@ -141,6 +158,7 @@ pub fn build(
         base,
         work_ints,
         &mut work_floats[..floats],
+        &table,
     );
     numbers::zero_floats(work_floats);
 }

@@ -27,6 +27,7 @@ pub fn all_lists(
     base: usize,
     work: &mut [u32],
     floats: &mut [f64],
+    table: &root::StartTable,
 ) -> usize
     requires { ⌜ Formed nodes size (now «row_ptr») (now «col_idx») (now values) ⌝ }
     requires { ⌜ Between strong (csr (nodes * size) (nodes * size) (now «row_ptr») (now «col_idx») (now values)) size nodes 0 (now work) (now floats) ⌝ }
@@ -38,7 +39,7 @@ pub fn all_lists(
     let mut at = first;
     let mut v: u32 = 0;
     while wide(v) < nodes {
-        at = node_list(
+        let count = node_list(
             strong,
             row_ptr,
             col_idx,
@@ -50,7 +51,9 @@ pub fn all_lists(
             work,
             floats,
             at,
+            table,
         );
+        at += count;
         v += 1;
         put(work, base + wide(v), at - first);
     }

@@ -63,7 +63,7 @@ fn arrange(floats: &[f64], nodes: usize, base: usize, work: &mut [u32], at: usiz
     sort(&floats[strong..], &mut work[nodes..to], nodes, from);
 }
 
-// Puts node v's list at work[base + at..], by strength if that is wanted, and returns its end.
+// Puts node v's list at work[base + at..], by strength if that is wanted, and returns how many nodes it has.
 pub fn node_list(
     strong: bool,
     row_ptr: &[u32],
@@ -76,11 +76,12 @@ pub fn node_list(
     work: &mut [u32],
     floats: &mut [f64],
     at: usize,
+    table: &root::StartTable,
 ) -> usize
     requires { ⌜ Formed nodes size (now «row_ptr») (now «col_idx») (now values) ⌝ }
     requires { ⌜ Between strong (csr (nodes * size) (nodes * size) (now «row_ptr») (now «col_idx») (now values)) size nodes v (now work) (now floats) ⌝ }
     requires { ⌜ (v < nodes) × ((2 * nodes ≤ base) × (base + at + (getD (now «row_ptr») ((v + 1) * size) 0 - getD (now «row_ptr») (v * size) 0) ≤ length (now work))) ⌝ }
-    ensures { λ r. ⌜ Listed strong (csr (nodes * size) (nodes * size) (now («row_ptr» .entry)) (now («col_idx» .entry)) (now (values .entry))) size nodes v at r (drop base (now (work .entry))) (drop base (now (work .exit))) (now (work .exit)) (now (floats .exit)) ⌝ }
+    ensures { λ r. ⌜ Listed strong (csr (nodes * size) (nodes * size) (now («row_ptr» .entry)) (now («col_idx» .entry)) (now (values .entry))) size nodes v at (at + r) (drop base (now (work .entry))) (drop base (now (work .exit))) (now (work .exit)) (now (floats .exit)) ⌝ }
 {
     let from = start(row_ptr, v, size);
     let to = start(row_ptr, v + 1, size);
@@ -96,7 +97,8 @@ pub fn node_list(
         nodes,
         &work[base + at..base + end],
         floats,
+        table,
     );
     arrange(&floats[..], nodes, base, work, at, end);
-    end
+    end - at
 }

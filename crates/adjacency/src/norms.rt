@@ -2,7 +2,7 @@
 use super::node::start;
 use super::sums::own;
 use super::words::wide;
-use root::root;
+use root::root_by;
 ghost use mathlib.Core.Path.{_≡_};
 ghost use Prim.Native.Nat.{_*_, _<_, _≤_};
 ghost use lib.ListN.{length};
@@ -13,14 +13,22 @@ ghost use Rattle.adjacency.specs.Norms.{Normed};
 ghost use Rattle.adjacency.specs.Strengths.{AllPlain, plain};
 
 // The norm of node v's own block.
-fn norm(row_ptr: &[u32], col_idx: &[u32], values: &[f64], size: u32, v: u32, nodes: usize) -> f64
+fn norm(
+    row_ptr: &[u32],
+    col_idx: &[u32],
+    values: &[f64],
+    size: u32,
+    v: u32,
+    nodes: usize,
+    table: &root::StartTable,
+) -> f64
     requires { ⌜ Formed nodes size (now «row_ptr») (now «col_idx») (now values) ⌝ }
     requires { ⌜ v < nodes ⌝ }
     ensures { λ r. ⌜ r ≡ normTowards (csr (nodes * size) (nodes * size) (now («row_ptr» .entry)) (now («col_idx» .entry)) (now (values .entry))) size v v ⌝ }
 {
     let from = start(row_ptr, v, size);
     let to = start(row_ptr, v + 1, size);
-    root(own(col_idx, values, from, to, size, v))
+    root_by(table, own(col_idx, values, from, to, size, v))
 }
 
 pub fn norms(
@@ -30,6 +38,7 @@ pub fn norms(
     size: u32,
     nodes: usize,
     floats: &mut [f64],
+    table: &root::StartTable,
 )
     requires { ⌜ Formed nodes size (now «row_ptr») (now «col_idx») (now values) ⌝ }
     requires { ⌜ 3 * nodes ≤ length (now floats) ⌝ }
@@ -38,7 +47,7 @@ pub fn norms(
 {
     let mut v: u32 = 0;
     while wide(v) < nodes {
-        let x = norm(row_ptr, col_idx, values, size, v, nodes);
+        let x = norm(row_ptr, col_idx, values, size, v, nodes, table);
         let at = nodes + wide(v);
         floats[at] = x;
         v += 1;

@@ -2,7 +2,7 @@
 use super::sums::clear;
 use super::sums::weigh;
 use super::words::wide;
-use root::root;
+use root::root_by;
 ghost use mathlib.Core.Path.{_≡_};
 ghost use Prim.Native.Nat.{_*_, _<_, _≤_};
 ghost use lib.ListN.{length};
@@ -12,11 +12,11 @@ ghost use Rattle.adjacency.specs.Order.{Below};
 ghost use Rattle.adjacency.specs.Strengths.{strongOf, measured};
 
 // From the sum of squares towards a node, and both nodes' diagonal norms: undivided where the divisor is zero or not finite.
-fn strength(sum: f64, p: f64, q: f64) -> f64
+fn strength(sum: f64, p: f64, q: f64, table: &root::StartTable) -> f64
     ensures { λ r. ⌜ r ≡ strongOf sum p q ⌝ }
 {
-    let norm = root(sum);
-    let d = root(p * q);
+    let norm = root_by(table, sum);
+    let d = root_by(table, p * q);
     if numbers::finite(d) {
         if 0.0 < d {
             return norm / d;
@@ -26,7 +26,7 @@ fn strength(sum: f64, p: f64, q: f64) -> f64
 }
 
 // The strengths of node v towards the listed nodes.
-fn measure(list: &[u32], v: usize, nodes: usize, floats: &mut [f64])
+fn measure(list: &[u32], v: usize, nodes: usize, floats: &mut [f64], table: &root::StartTable)
     requires { ⌜ (v < nodes) × (3 * nodes ≤ length (now floats)) ⌝ }
     requires { ⌜ Below nodes (now list) ⌝ }
     ensures { λ _. ⌜ now (floats .exit) ≡ measured nodes v (now (list .entry)) (now (floats .entry)) ⌝ }
@@ -39,7 +39,7 @@ fn measure(list: &[u32], v: usize, nodes: usize, floats: &mut [f64])
         let sum = floats[w];
         let p = floats[own];
         let q = floats[other];
-        let x = strength(sum, p, q);
+        let x = strength(sum, p, q, table);
         let at = nodes + other;
         floats[at] = x;
         k += 1;
@@ -58,6 +58,7 @@ pub fn strengths(
     nodes: usize,
     list: &[u32],
     floats: &mut [f64],
+    table: &root::StartTable,
 )
     requires { ⌜ (from ≤ to) × ((to ≤ length (now «col_idx»)) × ((to ≤ length (now values)) × (0 < size))) ⌝ }
     requires { ⌜ (v < nodes) × (3 * nodes ≤ length (now floats)) ⌝ }
@@ -68,6 +69,6 @@ pub fn strengths(
     if wanted {
         clear(list, floats);
         weigh(col_idx, values, from, to, size, floats);
-        measure(list, wide(v), nodes, floats);
+        measure(list, wide(v), nodes, floats, table);
     }
 }

@@ -15,17 +15,20 @@ cast-size c = search needs
 mul-floats : tie.Need-mul-floats
 mul-floats c = search needs
 
+table-requires : tie.Need-table-requires
+table-requires c κs = search needs
+
 slice-relend-prefix-fill : tie.Need-slice-relend-prefix-fill
 slice-relend-prefix-fill c = search needs
 
 slice-aggregate-fill : tie.Need-slice-aggregate-fill
 slice-aggregate-fill c =
-    let b = c .before .before .before .before .before .before .before in
+    let b = c .before .before .before .before .before .before .before .before in
     sym (length-take-le (3 * b .args .nodes) (b .args .work-floats .now) (omega (arith, b .pre .1 .0 .1 .1)))
 
 fill-requires : tie.Need-fill-requires
 fill-requires c κs =
-    let b = c .before .before .before .before .before .before .before in
+    let b = c .before .before .before .before .before .before .before .before .before in
     let f = length-take-le (3 * b .args .nodes) (b .args .work-floats .now) (omega (arith, b .pre .1 .0 .1 .1)) in
     (b .pre .0, (b .pre .1 .0 .0, (b .pre .1 .0 .1 .0, omega (arith, f))))
 
@@ -40,7 +43,7 @@ same-length-2 c = search needs
 
 returns : tie.Need-returns
 returns c =
-    let b = c .before .before .before .before .before .before .before .before .before .before .before .before .before .before .before .before in
+    let b = c .before .before .before .before .before .before .before .before .before .before .before .before .before .before .before .before .before .before in
     let g = c .before .before .before .before .before .before .before .before .fill in
     (g .ensures, c .before .before .zero-floats .ensures ∙ ap (λ n. replicate n zeroᶠ) (length-front (b .args .work-floats .now) (g .last .1 .1 .1 .1 .1 .1 .1 .1 .0) (3 * b .args .nodes) (g .kept .1 .1 .1 .1 .1 .1 .1 .1 .0)))
 
@@ -50,6 +53,7 @@ build-spec =
     (tie.spec
     cast-size
     mul-floats
+    table-requires
     slice-relend-prefix-fill
     slice-aggregate-fill
     fill-requires

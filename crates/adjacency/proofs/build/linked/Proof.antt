@@ -31,10 +31,10 @@ within : (c : tie.After-all-lists) → c .before .before .before .before .before
 within c = lined-within (c .before .before .before .before .before .before .before .before .before .before .before .before .before .before .before .args .base) (c .all-lists .last .1 .1 .1 .1 .1 .1 .1 .0) (c .all-lists .ensures) (whole c)
 
 add-zero-ints : tie.Need-add-zero-ints
-add-zero-ints c = omega (arith, within (c .before .before .before .before))
+add-zero-ints c = omega (arith, c .before .before .before .before .before .before .before .before .before .before .before .before .before .before .before .before .before .before .before .good, within (c .before .before .before .before))
 
 mul-zero-ints : tie.Need-mul-zero-ints
-mul-zero-ints c = omega (arith, within (c .before .before .before .before))
+mul-zero-ints c = omega (arith, c .before .before .before .before .before .before .before .before .before .before .before .before .before .before .before .before .before .before .before .good, within (c .before .before .before .before))
 
 sub-zero-ints : tie.Need-sub-zero-ints
 sub-zero-ints c = omega (arith, within (c .before .before .before .before))
@@ -48,17 +48,19 @@ part-zero-ints-end c = search needs
 zero-ints-requires : tie.Need-zero-ints-requires
 zero-ints-requires c κs = search needs
 
+still : (c : tie.After-zero-ints) → c .before .before .before .before .before .before .before .before .before .before .before .before .before .before .before .before .before .before .before .before .before .args .base ≤ length (putMid (c .before .before .before .before .before .before .before .before .before .before .before .before .before .before .before .before .before .before .before .before .before .args .base + c .before .before .before .before .before .before .all-lists .result) (length (c .before .before .before .before .before .before .all-lists .last .1 .1 .1 .1 .1 .1 .1 .0) - (c .before .before .before .before .before .before .before .before .before .before .before .before .before .before .before .before .before .before .before .before .before .args .base + c .before .before .before .before .before .before .all-lists .result)) (c .before .before .before .before .before .before .all-lists .last .1 .1 .1 .1 .1 .1 .1 .0) (c .zero-ints .last .0))
+still c =
+    let d = c .before .before .before .before .before .before .before .before .before .before .before .before .before .before .before .before .before .before .before .before .before .args .base in
+    let a = c .before .before .before .before .before .before .all-lists in
+    let l = a .last .1 .1 .1 .1 .1 .1 .1 .0 in
+    let z = c .zero-ints in
+    omega (arith, whole (c .before .before .before .before .before .before), same-len-mid (d + a .result) (length l - (d + a .result)) l (z .last .0) (z .kept .0))
+
 slice-relend-prefix-zero-ints : tie.Need-slice-relend-prefix-zero-ints
-slice-relend-prefix-zero-ints c = search needs
+slice-relend-prefix-zero-ints c = still (c .before .before)
 
 slice-aggregate-zero-ints : tie.Need-slice-aggregate-zero-ints
-slice-aggregate-zero-ints c =
-    let d = c .before .before .before .before .before .before .before .before .before .before .before .before .before .before .before .before .before .before .before .before .before .before .before .before .args .base in
-    let a = c .before .before .before .before .before .before .before .before .before .all-lists in
-    let l = a .last .1 .1 .1 .1 .1 .1 .1 .0 in
-    let z = c .before .before .before .zero-ints in
-    let m = putMid (d + a .result) (length l - (d + a .result)) l (z .last .0) in
-    sym (length-take-le _ m (omega (arith, whole (c .before .before .before .before .before .before .before .before .before), same-len-mid (d + a .result) (length l - (d + a .result)) l (z .last .0) (z .kept .0))))
+slice-aggregate-zero-ints c = sym (length-take-le _ _ (still (c .before .before .before)))
 
 zero-ints-requires-2 : tie.Need-zero-ints-requires-2
 zero-ints-requires-2 c κs = search needs

@@ -10,10 +10,10 @@ use Rattle.adjacency.proofs.graph.all_lists.Statement.{statement}
 use Rattle.adjacency.proofs.graph.all_lists.Tie as tie
 
 abbrev Inv-loop : tie.InvT-loop
-Inv-loop strong row-ptr col-idx values size nodes base work₀ floats₀ first at₀ v₀ work floats at v = Graphed strong (csr (nodes * size) (nodes * size) row-ptr col-idx values) size nodes base work₀ floats₀ work floats at v
+Inv-loop strong row-ptr col-idx values size nodes base work₀ floats₀ table first at₀ v₀ work floats at v = Graphed strong (csr (nodes * size) (nodes * size) row-ptr col-idx values) size nodes base work₀ floats₀ work floats at v
 
 abbrev μ-loop : tie.MeasureT-loop
-μ-loop strong row-ptr col-idx values size nodes base work₀ floats₀ first at₀ v₀ work floats at v = nodes - v
+μ-loop strong row-ptr col-idx values size nodes base work₀ floats₀ table first at₀ v₀ work floats at v = nodes - v
 
 add-first : tie.Need-add-first Inv-loop μ-loop
 add-first c = omega (arith, c .before .before .before .before .before .pre .0 .few)
@@ -42,26 +42,29 @@ node-list-requires c κs =
     let h = less (c .before .before) in
     (b .pre .0, (l .inv .ready, (h, (b .pre .1 .1 .0, room-left (b .pre .0) (b .args .base) (b .pre .1 .1 .0) (l .inv) h (room (c .before .before))))))
 
-add-v : tie.Need-add-v Inv-loop μ-loop
-add-v c = omega (arith, less (c .before .before .before .before .before .before .before), c .before .before .before .before .before .before .before .before .before .before .before .before .before .before .before .before .before .before .before .pre .0 .few)
-
-low : (c : tie.After-node-list Inv-loop μ-loop) → c .before .before .before .before .before .before .before .before .before .before .before .before .before .before .before .args .nodes + 1 ≤ c .node-list .result
+low : (c : tie.After-node-list Inv-loop μ-loop) → c .before .before .before .before .before .before .before .before .before .before .before .before .before .before .before .args .nodes + 1 ≤ c .before .before .before .before .before .loop .at + c .node-list .result
 low c =
     let b = c .before .before .before .before .before .before .before .before .before .before .before .before .before .before .before in
     let n = c .node-list in
-    end-low (b .pre .0) (b .args .base) (b .pre .1 .1 .0) (c .before .before .before .before .before .loop .inv) (less (c .before .before .before)) (n .result) (n .last .1 .1 .1 .1 .1 .1 .1 .1 .0) (n .last .1 .1 .1 .1 .1 .1 .1 .1 .1 .0) (room (c .before .before .before)) (n .ensures)
+    end-low (b .pre .0) (b .args .base) (b .pre .1 .1 .0) (c .before .before .before .before .before .loop .inv) (less (c .before .before .before)) (c .before .before .before .before .before .loop .at + n .result) (n .last .1 .1 .1 .1 .1 .1 .1 .1 .0) (n .last .1 .1 .1 .1 .1 .1 .1 .1 .1 .0) (room (c .before .before .before)) (n .ensures)
 
-high : (c : tie.After-node-list Inv-loop μ-loop) → c .node-list .result ≤ c .before .before .before .before .before .before .before .before .before .before .before .before .before .before .before .args .nodes + 1 + length (c .before .before .before .before .before .before .before .before .before .before .before .before .before .before .before .args .col-idx .now)
+high : (c : tie.After-node-list Inv-loop μ-loop) → c .before .before .before .before .before .loop .at + c .node-list .result ≤ c .before .before .before .before .before .before .before .before .before .before .before .before .before .before .before .args .nodes + 1 + length (c .before .before .before .before .before .before .before .before .before .before .before .before .before .before .before .args .col-idx .now)
 high c =
     let b = c .before .before .before .before .before .before .before .before .before .before .before .before .before .before .before in
     let n = c .node-list in
-    end-high (b .pre .0) (b .args .base) (b .pre .1 .1 .0) (c .before .before .before .before .before .loop .inv) (less (c .before .before .before)) (n .result) (n .last .1 .1 .1 .1 .1 .1 .1 .1 .0) (n .last .1 .1 .1 .1 .1 .1 .1 .1 .1 .0) (room (c .before .before .before)) (n .ensures)
+    end-high (b .pre .0) (b .args .base) (b .pre .1 .1 .0) (c .before .before .before .before .before .loop .inv) (less (c .before .before .before)) (c .before .before .before .before .before .loop .at + n .result) (n .last .1 .1 .1 .1 .1 .1 .1 .1 .0) (n .last .1 .1 .1 .1 .1 .1 .1 .1 .1 .0) (room (c .before .before .before)) (n .ensures)
+
+add-at : tie.Need-add-at Inv-loop μ-loop
+add-at c = omega (arith, high (c .before .before .before .before), c .before .before .before .before .before .before .before .before .before .before .before .before .before .before .before .before .before .before .before .pre .0 .short)
+
+add-v : tie.Need-add-v Inv-loop μ-loop
+add-v c = omega (arith, less (c .before .before .before .before .before .before .before), c .before .before .before .before .before .before .before .before .before .before .before .before .before .before .before .before .before .before .before .pre .0 .few)
 
 wide-requires-2 : tie.Need-wide-requires-2 Inv-loop μ-loop
 wide-requires-2 c κs = search needs
 
 add-put : tie.Need-add-put Inv-loop μ-loop
-add-put c = omega (arith, c .wide2 .ensures, less (c .before .before .before .before .before .before .before .before .before), room (c .before .before .before .before .before .before .before .before .before))
+add-put c = omega (arith, c .before .before .before .before .before .before .before .before .before .before .before .before .before .before .before .before .before .before .before .before .before .good, c .wide2 .ensures, less (c .before .before .before .before .before .before .before .before .before), room (c .before .before .before .before .before .before .before .before .before))
 
 sub-put : tie.Need-sub-put Inv-loop μ-loop
 sub-put c = low (c .before .before .before .before .before .before)
@@ -79,8 +82,8 @@ loop-again : tie.Need-loop-again Inv-loop μ-loop
 loop-again c =
     let b = c .before .before .before .before .before .before .before .before .before .before .before .before .before .before .before .before .before .before .before .before .before .before .before .before in
     let n = c .before .before .before .before .before .before .before .before .before .node-list in
-    graphed-more (b .pre .0) (b .args .base) (b .pre .1 .1 .0) (c .before .before .before .before .before .before .before .before .before .before .before .before .before .before .loop .inv) (less (c .before .before .before .before .before .before .before .before .before .before .before .before)) (n .result) (n .last .1 .1 .1 .1 .1 .1 .1 .1 .0) (n .last .1 .1 .1 .1 .1 .1 .1 .1 .1 .0) (room (c .before .before .before .before .before .before .before .before .before .before .before .before)) (n .ensures)
-    (c .before .before .before .wide2 .result) (n .result - (b .args .nodes + 1)) (c .before .before .put2 .last .0) (n .kept .1 .1 .1 .1 .1 .1 .1 .1 .0) (n .kept .1 .1 .1 .1 .1 .1 .1 .1 .1 .0) (c .before .before .before .wide2 .ensures) refl (c .before .before .put2 .ensures)
+    graphed-more (b .pre .0) (b .args .base) (b .pre .1 .1 .0) (c .before .before .before .before .before .before .before .before .before .before .before .before .before .before .loop .inv) (less (c .before .before .before .before .before .before .before .before .before .before .before .before)) (c .before .before .before .before .before .before .before .before .before .before .before .before .before .before .loop .at + n .result) (n .last .1 .1 .1 .1 .1 .1 .1 .1 .0) (n .last .1 .1 .1 .1 .1 .1 .1 .1 .1 .0) (room (c .before .before .before .before .before .before .before .before .before .before .before .before)) (n .ensures)
+    (c .before .before .before .wide2 .result) (c .before .before .before .before .before .before .before .before .before .before .before .before .before .before .loop .at + n .result - (b .args .nodes + 1)) (c .before .before .put2 .last .0) (n .kept .1 .1 .1 .1 .1 .1 .1 .1 .0) (n .kept .1 .1 .1 .1 .1 .1 .1 .1 .1 .0) (c .before .before .before .wide2 .ensures) refl (c .before .before .put2 .ensures)
 
 same-length : tie.Need-same-length Inv-loop μ-loop
 same-length c = c .before .before .loop .inv .longs ∙ c .before .before .before .before .before .put .kept .0
@@ -104,6 +107,7 @@ all-lists-spec =
     loop-holds
     wide-requires
     node-list-requires
+    add-at
     add-v
     wide-requires-2
     add-put

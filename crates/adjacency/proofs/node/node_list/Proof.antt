@@ -7,7 +7,7 @@ use Rattle.adjacency.specs.Formed.{Spans}
 use Rattle.adjacency.specs.Lists.{weights}
 use Rattle.adjacency.proofs.Parts.{part-behind}
 use Rattle.adjacency.proofs.Rows.{next-row, row-fits, span-rises, span-within}
-use Rattle.adjacency.proofs.Nodes.{part-below, part-fits, plain-after, long-after, node-listed}
+use Rattle.adjacency.proofs.Nodes.{part-below, part-fits, plain-after, long-after, node-listed, listed-to}
 use borrow.Author.Needs.{needs}
 use Rattle.adjacency.proofs.node.node_list.Statement.{statement}
 use Rattle.adjacency.proofs.node.node_list.Tie as tie
@@ -104,6 +104,9 @@ arrange-requires c κs =
       ),
     )
 
+sub-result : tie.Need-sub-result
+sub-result c = fits (c .before .before .before .before .before .before .before .before .before .before .before .before .before) .0
+
 same-length : tie.Need-same-length
 same-length c = c .before .before .arrange .kept .1 .1 .1 .0 ∙ c .before .before .before .before .before .before .before .before .before .before .before .before .before .find .kept .1 .1 .1 .1 .1 .1 .1 .0
 
@@ -118,8 +121,8 @@ returns c =
     let d = b .args .base in
     let w₁ = g .last .1 .1 .1 .1 .1 .1 .1 .0 in
     let w₂ = r .last .1 .1 .1 .0 in
-    node-listed (b .pre .0) (spans (c .before .before .before .before .before .before .before .before .before .before .before .before .before .before .before)) (b .pre .1 .0) (b .args .at) (g .result) (drop d (b .args .work .now)) (drop d w₁) (room (c .before .before .before .before .before .before .before .before .before .before .before .before .before .before .before)) (g .ensures .0) (g .ensures .1 .0) (c .before .before .before .before .before .before .before .strengths .last .1 .1 .1 .1 .1 .1 .1 .1 .1 .0) (weighed (c .before .before .before .before .before .before .before))
-    (drop d w₂) w₁ w₂ (g .ensures .1 .1) (r .ensures .0) (r .ensures .1) (r .kept .1 .1 .1 .0 ∙ g .kept .1 .1 .1 .1 .1 .1 .1 .0)
+    listed-to (omega (arith, fits (c .before .before .before .before .before .before .before .before .before .before .before .before .before), b .pre .0 .few)) (node-listed (b .pre .0) (spans (c .before .before .before .before .before .before .before .before .before .before .before .before .before .before .before)) (b .pre .1 .0) (b .args .at) (g .result) (drop d (b .args .work .now)) (drop d w₁) (room (c .before .before .before .before .before .before .before .before .before .before .before .before .before .before .before)) (g .ensures .0) (g .ensures .1 .0) (c .before .before .before .before .before .before .before .strengths .last .1 .1 .1 .1 .1 .1 .1 .1 .1 .0) (weighed (c .before .before .before .before .before .before .before))
+    (drop d w₂) w₁ w₂ (g .ensures .1 .1) (r .ensures .0) (r .ensures .1) (r .kept .1 .1 .1 .0 ∙ g .kept .1 .1 .1 .1 .1 .1 .1 .0))
 
 pub node-list-spec : {M : Type 1} → statement M
 node-list-spec =
@@ -137,6 +140,7 @@ node-list-spec =
     part-strengths-end
     strengths-requires
     arrange-requires
+    sub-result
     same-length
     same-length-2
     returns)

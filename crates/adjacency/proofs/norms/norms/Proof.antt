@@ -10,10 +10,10 @@ use Rattle.adjacency.proofs.norms.norms.Statement.{statement}
 use Rattle.adjacency.proofs.norms.norms.Tie as tie
 
 abbrev Inv-loop : tie.InvT-loop
-Inv-loop row-ptr col-idx values size nodes floats₀ v₀ floats v = Norming (csr (nodes * size) (nodes * size) row-ptr col-idx values) size nodes floats₀ floats v
+Inv-loop row-ptr col-idx values size nodes floats₀ table v₀ floats v = Norming (csr (nodes * size) (nodes * size) row-ptr col-idx values) size nodes floats₀ floats v
 
 abbrev μ-loop : tie.MeasureT-loop
-μ-loop row-ptr col-idx values size nodes floats₀ v₀ floats v = nodes - v
+μ-loop row-ptr col-idx values size nodes floats₀ table v₀ floats v = nodes - v
 
 loop-holds : tie.Need-loop-holds Inv-loop μ-loop
 loop-holds c = norming-first (c .before .before .before .before .pre .0) (c .before .before .before .before .args .floats .now) (c .before .before .before .before .pre .1 .1)

@@ -9,10 +9,10 @@ use Rattle.adjacency.proofs.strengths.measure.Statement.{statement}
 use Rattle.adjacency.proofs.strengths.measure.Tie as tie
 
 abbrev Inv-loop : tie.InvT-loop
-Inv-loop list v nodes floats₀ own k₀ floats k = Measuring list v nodes floats₀ floats k × (own ≡ nodes + v)
+Inv-loop list v nodes floats₀ table own k₀ floats k = Measuring list v nodes floats₀ floats k × (own ≡ nodes + v)
 
 abbrev μ-loop : tie.MeasureT-loop
-μ-loop list v nodes floats₀ own k₀ floats k = length list - k
+μ-loop list v nodes floats₀ table own k₀ floats k = length list - k
 
 add-own : tie.Need-add-own Inv-loop μ-loop
 add-own c = search needs

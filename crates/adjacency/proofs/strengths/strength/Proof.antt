@@ -5,11 +5,11 @@ use borrow.Author.Needs.{needs}
 use Rattle.adjacency.proofs.strengths.strength.Statement.{statement}
 use Rattle.adjacency.proofs.strengths.strength.Tie as tie
 
-root-requires : tie.Need-root-requires
-root-requires c κs = search needs
+root-by-requires : tie.Need-root-by-requires
+root-by-requires c κs = search needs
 
-root-requires-2 : tie.Need-root-requires-2
-root-requires-2 c κs = search needs
+root-by-requires-2 : tie.Need-root-by-requires-2
+root-by-requires-2 c κs = search needs
 
 finite-requires : tie.Need-finite-requires
 finite-requires c κs = search needs
@@ -17,18 +17,18 @@ finite-requires c κs = search needs
 returns : tie.Need-returns
 returns c =
     let b = c .before .before .before .before .before .args in
-    strong-divided (b .sum) (b .p) (b .q) (c .before .before .before .before .root .result) (c .before .before .before .root2 .result) (c .before .before .before .before .root .ensures) (c .before .before .before .root2 .ensures) (sym (c .before .before .finite .ensures) ∙ c .before .if1 .taken) (c .if2 .taken)
+    strong-divided (b .sum) (b .p) (b .q) (c .before .before .before .before .root-by .result) (c .before .before .before .root-by2 .result) (c .before .before .before .before .root-by .ensures) (c .before .before .before .root-by2 .ensures) (sym (c .before .before .finite .ensures) ∙ c .before .if1 .taken) (c .if2 .taken)
 
 returns-2 : tie.Need-returns-2
 returns-2 c =
     let b = c .before .before .before .before .before .args in
-    strong-not-above (b .sum) (b .p) (b .q) (c .before .before .before .before .root .result) (c .before .before .before .root2 .result) (c .before .before .before .before .root .ensures) (c .before .before .before .root2 .ensures) (sym (c .before .before .finite .ensures) ∙ c .before .if1 .taken) (c .if2 .left)
+    strong-not-above (b .sum) (b .p) (b .q) (c .before .before .before .before .root-by .result) (c .before .before .before .root-by2 .result) (c .before .before .before .before .root-by .ensures) (c .before .before .before .root-by2 .ensures) (sym (c .before .before .finite .ensures) ∙ c .before .if1 .taken) (c .if2 .left)
 
 returns-3 : tie.Need-returns-3
 returns-3 c =
     let b = c .before .before .before .before .args in
-    strong-not-finite (b .sum) (b .p) (b .q) (c .before .before .before .root .result) (c .before .before .root2 .result) (c .before .before .before .root .ensures) (c .before .before .root2 .ensures) (sym (c .before .finite .ensures) ∙ c .if1 .left)
+    strong-not-finite (b .sum) (b .p) (b .q) (c .before .before .before .root-by .result) (c .before .before .root-by2 .result) (c .before .before .before .root-by .ensures) (c .before .before .root-by2 .ensures) (sym (c .before .finite .ensures) ∙ c .if1 .left)
 
 pub strength-spec : {M : Type 1} → statement M
 strength-spec =
-    tie.close (tie.spec root-requires root-requires-2 finite-requires returns returns-2 returns-3)
+    tie.close (tie.spec root-by-requires root-by-requires-2 finite-requires returns returns-2 returns-3)
