@@ -10,7 +10,7 @@ pub fn node_of(col_idx: &[u32], k: usize, size: u32) -> u32
     requires { ⌜ (k < length (now «col_idx»)) × (0 < size) ⌝ }
     ensures { λ r. ⌜ r ≡ getD (now («col_idx» .entry)) k 0 / size ⌝ }
 {
-    col_idx[k] / size
+    numbers::short_quotient(col_idx[k], size)
 }
 
 // Puts the nodes that col_idx[from..to] names and that don't bear the stamp at work[base + at..], each once, stamps them, and returns their end.

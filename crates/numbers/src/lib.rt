@@ -77,6 +77,13 @@ pub fn quotient(x: usize, d: usize) -> usize
     x / d
 }
 
+// The same of 32 bits.
+pub fn short_quotient(x: u32, d: u32) -> u32
+    ensures { λ r. ⌜ r ≡ x / d ⌝ }
+{
+    quotient(x as usize, d as usize) as u32
+}
+
 pub fn zero_ints(s: &mut [u32])
     ensures { λ _. ⌜ now (s .exit) ≡ replicate (length (now (s .entry))) 0 ⌝ }
 {
