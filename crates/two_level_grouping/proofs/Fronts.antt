@@ -1,14 +1,17 @@
--- The answer of causes 1 to 12, from validate's and the shape's.
+-- The answer of causes 1 to 12, from validate's and the shape's, and that they leave few nodes.
 use mathlib.Core.Path.{_≡_, ap, sym, _∙_}
-use Rattle.definitions.specs.Matrix.{Matrix, validOf}
-use Rattle.definitions.specs.Setup.{frontOf}
+use Prim.Native.Nat.{_≤_}
+use native.Mathlib.Omega.{arith}
+use native.Mathlib.Nat.{div-le-self}
+use Rattle.definitions.specs.Matrix.{Matrix, validOf, maxRows}
+use Rattle.definitions.specs.Setup.{frontOf, nodeCount}
 use Rattle.definitions.specs.Answers.{answerOf}
 use Rattle.definitions.specs.declared.Options.{Options}
 use Rattle.definitions.specs.declared.Refusal.{Refusal}
 use Rattle.definitions.specs.declared.Answer.{Answer}
 use Rattle.definitions.specs.declared.Answer.the-variants.{Accepted, Refused}
 use Rattle.csr32.specs.Valid.{valid-goes, valid-stops}
-use Rattle.two_level_grouping.specs.Front.{shapeOf, front-splits}
+use Rattle.two_level_grouping.specs.Front.{shapeOf, Front, front-splits, front-rows}
 
 module _ (a : Matrix) (o : Options) (x : Answer) (ex : x ≡ answerOf (validOf a)) where
   pub invalid : (r : Refusal) → x ≡ Refused r → Refused r ≡ answerOf (frontOf a o)
@@ -17,3 +20,6 @@ module _ (a : Matrix) (o : Options) (x : Answer) (ex : x ≡ answerOf (validOf a
 
   pub shaped : x ≡ Accepted → (y : Answer) → y ≡ answerOf (shapeOf (a .rows) (a .cols) (o .block) (o .group)) → y ≡ answerOf (frontOf a o)
   shaped e y ey = ey ∙ sym (ap answerOf (front-splits a o ∙ valid-goes a (λ _. shapeOf (a .rows) (a .cols) (o .block) (o .group)) (sym ex ∙ e)))
+
+pub few-nodes : (a : Matrix) (o : Options) → Front a o → nodeCount a o ≤ maxRows
+few-nodes a o f = omega (arith, div-le-self (a .rows) (o .block), front-rows a o f .fewRows)

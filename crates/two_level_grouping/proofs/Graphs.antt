@@ -1,38 +1,43 @@
--- The grouping by the nodes' lists: no check of its two stages fails, and the lists are where the second reads them.
-use mathlib.Core.Path.{_≡_, ap, _∙_}
+-- The grouping by the nodes' lists: of its two stages only the first can refuse, by 1 to 8, and else the lists are where the second reads them.
+use mathlib.Core.Path.{_≡_, ap, sym, _∙_}
 use mathlib.Core.Bool.{true, false}
 use mathlib.Core.List.{List, [], _++_, append-assoc}
 use Prim.Native.Nat.{ℕ, suc, _+_, _-_, _*_, _%_, _<_, _≤_}
 use native.Mathlib.Omega.{arith}
-use native.Mathlib.Nat.{div-le-self}
 use lib.Dec.{ltb}
 use lib.ListN.{length, getD, drop, replicate, length-append, length-replicate, length-take}
 use lib.Seq.{drop-at}
 use lib.Ieee.{Float}
 use borrow.Author.Tests.{le-leb, lt-ltb, le-ltb, eq-eqb}
-use borrow.Rule.Slice.PartMut.{putMid, same-len-mid}
+use borrow.Rule.Slice.PartMut.{putMid, same-len-mid, put-same}
 use Rattle.definitions.specs.Lists.{part, padded, pointersFrom, joinedLists}
 use Rattle.definitions.specs.Numbers.{zeroᶠ}
-use Rattle.definitions.specs.Refusal.{done, require, _>>=_, resultLeft, workLeft, keepsAll, numberOf}
-use Rattle.definitions.specs.Matrix.{Matrix, validOf, maxRows}
+use Rattle.definitions.specs.Refusal.{Outcome, refused, done, require, _>>=_, resultLeft, workLeft, keepsAll}
+use Rattle.definitions.specs.Matrix.{Matrix, validOf}
 use Rattle.definitions.specs.Block.{maxBlock}
 use Rattle.definitions.specs.Neighbours.{listFor, neighbourLists, flatNeighbours}
 use Rattle.definitions.specs.Groups.{graphGrouping, noAnchor}
 use Rattle.definitions.specs.Setup.{nodeCount, graphOf}
-use Rattle.definitions.specs.Answers.{groupingAnswer}
+use Rattle.definitions.specs.Answers.{answerOf, groupingAnswer}
 use Rattle.definitions.specs.declared.Options.{Options}
+use Rattle.definitions.specs.declared.Answer.{Answer}
+use Rattle.definitions.specs.declared.Answer.the-variants.{Accepted, Refused}
 use Rattle.definitions.specs.declared.GroupingAnswer.{GroupingAnswer}
 use Rattle.definitions.specs.declared.GroupingAnswer.the-variants.{Refused as NoGroups}
 use Rattle.definitions.specs.declared.TwoLevelAggregation.{TwoLevelAggregation}
-use Rattle.definitions.specs.declared.Refusal.the-variants.{NoNode, NotSquare, BlockSize, NotMultiple, ListTooShort}
+use Rattle.definitions.specs.declared.Refusal.{Refusal}
+use Rattle.definitions.specs.declared.Refusal.the-variants.{NotSquare, BlockSize, NotMultiple, ListTooShort}
 use Rattle.laws.specs.Lists.{length-tab}
 use Rattle.laws.specs.Csr.{pointers-length}
 use Rattle.separation.specs.GroupsApart.{grouping-length}
-use Rattle.csr32.specs.Calls.{goes-on, passed}
+use Rattle.csr32.specs.Calls.{goes-on, stops, passed, keeps-refused, result-kept, work-kept}
+use Rattle.csr32.specs.Valid.{valid-keeps}
 use Rattle.adjacency.specs.Within.{neighboursWithin}
 use Rattle.aggregates.specs.Within.{withinCall}
-use Rattle.two_level_grouping.specs.Front.{Front, front-rows}
-use Rattle.two_level_grouping.specs.Calls.{Grouped, Settled, Ready, idsLeft, listsOf}
+use Rattle.two_level_grouping.specs.Front.{Front, front-with, front-rows}
+use Rattle.two_level_grouping.specs.Calls.{Grouped, Settled, Ready, idsLeft, listsOf, validThen, noNode}
+use Rattle.two_level_grouping.proofs.Fronts.{few-nodes}
+use Rattle.two_level_grouping.proofs.Settling.{accepted-first, refused-first, invalid-kept, valid-settled}
 use Rattle.two_level_grouping.proofs.Below.{lists-inside}
 use Rattle.two_level_grouping.proofs.Flat.{grouping-passes}
 
@@ -47,8 +52,26 @@ module _ (a : Matrix) (o : Options) where
   abbrev ending : ℕ
   ending = base + n + 1 + length (a .values)
 
-  -- the first stage's checks
-  pub neighbours-pass : Front a o → (k : TwoLevelAggregation) (room floatRoom : ℕ) → ending ≤ room → 3 * n ≤ floatRoom
+  -- ---- what is answered and left
+
+  module _ (k : TwoLevelAggregation) (ids work : List ℕ) (floats : List Float) where
+    pub none-ends : n ≡ 0 → (r : GroupingAnswer) (ids' work' : List ℕ) (floats' : List Float) → Settled (validThen a noNode) ids work floats r ids' work' floats'
+        → Settled (validThen a (listsOf k a o)) ids work floats r ids' work' floats'
+    unfolding graphOf require _>>=_
+    none-ends h r ids' work' floats' s = let b : ltb 0 n ≡ false = le-ltb 0 n (omega arith) in rw b s
+
+    grouped : 0 < n → (after ids' work' : List ℕ) (floats' : List Float) (r : GroupingAnswer) → 1 ≤ o .group → length after ≡ length work
+        → withinCall n (o .group) base after ≡ done (graphGrouping (λ v. getD (neighbourLists k a (o .block) n) v []) noAnchor n (o .group))
+        → Grouped n (o .group) base ids after r ids' work' → floats' ≡ replicate (length floats) zeroᶠ → Settled (listsOf k a o) ids work floats r ids' work' floats'
+    unfolding graphOf require _>>=_ groupingAnswer idsLeft resultLeft workLeft
+    grouped h after ids' work' floats' r p la e g ef =
+        let b : ltb 0 n ≡ true = lt-ltb 0 n h in
+        let l = grouping-length (λ v. getD (neighbourLists k a (o .block) n) v []) noAnchor n (o .group) p in
+        record { answer = rw b (g .answer ∙ ap groupingAnswer e); groups = rw b (g .ids _ e l); ints = rw (b, ← la) (g .zeros _ e l); floats = rw b ef }
+
+  -- ---- the first stage's checks
+
+  neighbours-pass : Front a o → (k : TwoLevelAggregation) (room floatRoom : ℕ) → ending ≤ room → 3 * n ≤ floatRoom
       → neighboursWithin k a (o .block) base room floatRoom ≡ done (replicate base 0 ++ flatNeighbours k a (o .block) n)
   unfolding neighboursWithin
   neighbours-pass f k room floatRoom h1 h2 =
@@ -62,20 +85,20 @@ module _ (a : Matrix) (o : Options) where
     abbrev lists : List (List ℕ)
     lists = neighbourLists k a (o .block) n
 
-    few-nodes : n ≤ maxRows
-    few-nodes = omega (arith, div-le-self (a .rows) (o .block), front-rows a o (y .front) .fewRows)
-
     list-count : length lists ≡ n
     unfolding neighbourLists
     list-count = length-tab (listFor k a (o .block) n) n
 
-    pub reach : ending ≤ workRoom
+    reach : ending ≤ workRoom
     reach = omega (arith, y .work)
 
     module _ (work work1 : List ℕ) (long : length work ≡ workRoom)
         (came : work1 ≡ resultLeft 0 (neighboursWithin k a (o .block) base (length (part 0 ending work)) floatRoom) (part 0 ending work)) (kept : length work1 ≡ length (part 0 ending work)) where
       abbrev lent : List ℕ
       lent = part 0 ending work
+
+      abbrev within : Outcome (List ℕ)
+      within = neighboursWithin k a (o .block) base (length lent) floatRoom
 
       abbrev after : List ℕ
       after = putMid 0 (ending - 0) work work1
@@ -89,64 +112,68 @@ module _ (a : Matrix) (o : Options) where
       lent-long : length lent ≡ ending
       lent-long = let z : ending - 0 ≡ ending = omega arith in rw z (length-take ending work ∙ omega (arith, reach))
 
-      first-passes : neighboursWithin k a (o .block) base (length lent) floatRoom ≡ done flat
-      first-passes = neighbours-pass (y .front) k (length lent) floatRoom (omega (arith, lent-long)) (y .floats)
-
-      came-is : work1 ≡ resultLeft 0 (done flat) lent
-      came-is = came ∙ ap (λ x. resultLeft 0 x lent) first-passes
-
-      stands : drop base after ≡ pointersFrom 0 lists ++ (joinedLists lists ++ rest)
-      unfolding resultLeft padded flatNeighbours
-      stands =
-          rw (came-is, append-assoc flat (replicate (length lent - length flat) 0) (drop (ending - 0) work), append-assoc (replicate base 0) (flatNeighbours k a (o .block) n) rest)
-          (drop-at (replicate base 0) (flatNeighbours k a (o .block) n ++ rest) base (length-replicate base 0) ∙ append-assoc (pointersFrom 0 lists) (joinedLists lists) rest)
-
-      fits : length flat ≤ ending
-      unfolding resultLeft padded
-      fits =
-          let e : length (flat ++ replicate (length lent - length flat) 0) ≡ length lent = rw (← came-is) kept in
-          let d : length flat + (length lent - length flat) ≡ length lent
-          = rw (length-append flat (replicate (length lent - length flat) 0), length-replicate {A = ℕ} (length lent - length flat) 0) at e in
-          omega (arith, lent-long, d)
-
-      few : length (joinedLists lists) ≤ length (a .values)
-      unfolding flatNeighbours
-      few =
-          let b : length flat ≡ base + length (pointersFrom 0 lists ++ joinedLists lists) = length-append (replicate base 0) (pointersFrom 0 lists ++ joinedLists lists) ∙ ap (λ m. m + length (pointersFrom 0 lists ++ joinedLists lists)) (length-replicate base 0) in
-          let s : length (pointersFrom 0 lists ++ joinedLists lists) ≡ suc n + length (joinedLists lists)
-          = length-append (pointersFrom 0 lists) (joinedLists lists) ∙ ap (λ m. m + length (joinedLists lists)) (pointers-length 0 lists ∙ ap suc list-count) in
-          omega (arith, fits, b, s)
-
-      pub after-long : length after ≡ length work
+      after-long : length after ≡ length work
       after-long = same-len-mid 0 (ending - 0) work work1 kept
 
-      pub room-for : n ≤ length after
-      room-for = rw (after-long, long) (omega (arith, y .work))
+      passes-valid : validOf a ≡ done tt → within ≡ done flat
+      passes-valid v = neighbours-pass (front-with a o v (y .shape)) k (length lent) floatRoom (omega (arith, lent-long)) (y .floats)
 
-      pub floats-clear : (floats floats1 : List Float) → floats1 ≡ workLeft zeroᶠ (neighboursWithin k a (o .block) base (length lent) floatRoom) floats → floats1 ≡ replicate (length floats) zeroᶠ
-      unfolding workLeft
-      floats-clear floats floats1 e = e ∙ ap (λ x. workLeft zeroᶠ x floats) first-passes
+      module _ (x : Answer) (ex : x ≡ answerOf within) where
+        -- refused: by 1 to 8, and all lists are as they were
+        pub unchanged : (r : Refusal) → x ≡ Refused r → (ids : List ℕ) (floats floats1 : List Float) → floats1 ≡ workLeft zeroᶠ within floats
+            → Settled (validThen a (listsOf k a o)) ids work floats (NoGroups r) ids after floats1
+        unfolding neighboursWithin
+        unchanged r e ids floats floats1 ef =
+            let v : validOf a ≡ refused r = refused-first _ (validOf a) flat passes-valid r (sym ex ∙ e) in
+            let q : keepsAll r ≡ true = keeps-refused (validOf a) r (valid-keeps a) v in
+            let c : within ≡ refused r = stops (validOf a) r _ v in
+            let w : work1 ≡ lent = came ∙ result-kept 0 lent r q within c in
+            let p : after ≡ work = ap (λ l. putMid 0 (ending - 0) work l) w ∙ put-same 0 (ending - 0) work in
+            rw (p, ef ∙ work-kept zeroᶠ floats r q within c) (invalid-kept ids work floats a (listsOf k a o) r v)
 
-      pub grouping-is : withinCall n (o .group) base after ≡ done (graphGrouping (λ v. getD lists v []) noAnchor n (o .group))
-      grouping-is =
-          grouping-passes n base lists list-count rest after stands (o .group) few-nodes (omega (arith, few, front-rows a o (y .front) .fewEntries)) (y .front .some) (y .front .fewest) some
-          (lists-inside k a (o .block) n) (omega (arith, few))
+        module _ (e : x ≡ Accepted) where
+          valid : validOf a ≡ done tt
+          unfolding neighboursWithin
+          valid = accepted-first _ (validOf a) (sym ex ∙ e)
 
-  -- ---- what is answered and left
+          front : Front a o
+          front = front-with a o valid (y .shape)
 
-  module _ (k : TwoLevelAggregation) (ids work : List ℕ) (floats : List Float) where
-    pub no-node : n ≡ 0 → (ids' work' : List ℕ) (floats' : List Float) → ids' ≡ replicate (length ids) 0 → work' ≡ replicate (length work) 0 → floats' ≡ replicate (length floats) zeroᶠ
-        → Settled (listsOf k a o) ids work floats (NoGroups NoNode) ids' work' floats'
-    unfolding graphOf require _>>=_ groupingAnswer idsLeft resultLeft workLeft keepsAll numberOf
-    no-node h ids' work' floats' e1 e2 e3 =
-        let b : ltb 0 n ≡ false = le-ltb 0 n (omega arith) in
-        record { answer = rw b; groups = rw b e1; ints = rw b e2; floats = rw b e3 }
+          came-is : work1 ≡ resultLeft 0 (done flat) lent
+          came-is = came ∙ ap (λ c. resultLeft 0 c lent) (passes-valid valid)
 
-    pub grouped : 0 < n → (after ids' work' : List ℕ) (floats' : List Float) (r : GroupingAnswer) → 1 ≤ o .group → length after ≡ length work
-        → withinCall n (o .group) base after ≡ done (graphGrouping (λ v. getD (neighbourLists k a (o .block) n) v []) noAnchor n (o .group))
-        → Grouped n (o .group) base ids after r ids' work' → floats' ≡ replicate (length floats) zeroᶠ → Settled (listsOf k a o) ids work floats r ids' work' floats'
-    unfolding graphOf require _>>=_ groupingAnswer idsLeft resultLeft workLeft
-    grouped h after ids' work' floats' r p la e g ef =
-        let b : ltb 0 n ≡ true = lt-ltb 0 n h in
-        let l = grouping-length (λ v. getD (neighbourLists k a (o .block) n) v []) noAnchor n (o .group) p in
-        record { answer = rw b (g .answer ∙ ap groupingAnswer e); groups = rw b (g .ids _ e l); ints = rw (b, ← la) (g .zeros _ e l); floats = rw b ef }
+          stands : drop base after ≡ pointersFrom 0 lists ++ (joinedLists lists ++ rest)
+          unfolding resultLeft padded flatNeighbours
+          stands =
+              rw (came-is, append-assoc flat (replicate (length lent - length flat) 0) (drop (ending - 0) work), append-assoc (replicate base 0) (flatNeighbours k a (o .block) n) rest)
+              (drop-at (replicate base 0) (flatNeighbours k a (o .block) n ++ rest) base (length-replicate base 0) ∙ append-assoc (pointersFrom 0 lists) (joinedLists lists) rest)
+
+          fits : length flat ≤ ending
+          unfolding resultLeft padded
+          fits =
+              let e : length (flat ++ replicate (length lent - length flat) 0) ≡ length lent = rw (← came-is) kept in
+              let d : length flat + (length lent - length flat) ≡ length lent
+              = rw (length-append flat (replicate (length lent - length flat) 0), length-replicate {A = ℕ} (length lent - length flat) 0) at e in
+              omega (arith, lent-long, d)
+
+          few : length (joinedLists lists) ≤ length (a .values)
+          unfolding flatNeighbours
+          few =
+              let b : length flat ≡ base + length (pointersFrom 0 lists ++ joinedLists lists) = length-append (replicate base 0) (pointersFrom 0 lists ++ joinedLists lists) ∙ ap (λ m. m + length (pointersFrom 0 lists ++ joinedLists lists)) (length-replicate base 0) in
+              let s : length (pointersFrom 0 lists ++ joinedLists lists) ≡ suc n + length (joinedLists lists)
+              = length-append (pointersFrom 0 lists) (joinedLists lists) ∙ ap (λ m. m + length (joinedLists lists)) (pointers-length 0 lists ∙ ap suc list-count) in
+              omega (arith, fits, b, s)
+
+          floats-clear : (floats floats1 : List Float) → floats1 ≡ workLeft zeroᶠ within floats → floats1 ≡ replicate (length floats) zeroᶠ
+          unfolding workLeft
+          floats-clear floats floats1 ef = ef ∙ ap (λ c. workLeft zeroᶠ c floats) (passes-valid valid)
+
+          grouping-is : withinCall n (o .group) base after ≡ done (graphGrouping (λ v. getD lists v []) noAnchor n (o .group))
+          grouping-is =
+              grouping-passes n base lists list-count rest after stands (o .group) (few-nodes a o front) (omega (arith, few, front-rows a o front .fewEntries)) (front .some) (front .fewest) some
+              (lists-inside k a (o .block) n) (omega (arith, few))
+
+          pub grouped-settled : (ids : List ℕ) (floats floats1 : List Float) → floats1 ≡ workLeft zeroᶠ within floats → (r : GroupingAnswer) (ids' work' : List ℕ) → Grouped n (o .group) base ids after r ids' work'
+              → Settled (validThen a (listsOf k a o)) ids work floats r ids' work' floats1
+          grouped-settled ids floats floats1 ef r ids' work' g =
+              valid-settled ids work floats a (listsOf k a o) valid _ _ _ _ (grouped k ids work floats some after ids' work' floats1 r (front .some) after-long grouping-is g (floats-clear floats floats1 ef))

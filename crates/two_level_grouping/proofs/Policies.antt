@@ -1,17 +1,15 @@
--- The grouping call: its checks in their order, then the policy asked for.
-use mathlib.Core.Path.{_≡_, refl, sym, _∙_, subst}
+-- The grouping call: where the sizes fit, 1 to 8 and the policy asked for; else the first cause in order.
+use mathlib.Core.Path.{_≡_, refl, ap, sym, _∙_, subst}
 use mathlib.Core.Bool.{Bool, true, false}
 use mathlib.Core.List.{List}
-use Prim.Native.Nat.{ℕ, _+_, _-_, _/_, _≤_}
-use native.Mathlib.Omega.{arith}
-use native.Mathlib.Nat.{div-le-self}
+use Prim.Native.Nat.{ℕ, _+_, _-_, _/_}
 use lib.ListN.{length, replicate}
 use lib.Ieee.{Float}
-use borrow.Author.Tests.{leb-true}
+use borrow.Author.Tests.{leb-true, le-leb}
 use Rattle.definitions.specs.Lists.{padded, tab}
 use Rattle.definitions.specs.Numbers.{zeroᶠ}
-use Rattle.definitions.specs.Refusal.{Outcome, refused, done, _>>=_, resultLeft, workLeft, keepsAll, numberOf}
-use Rattle.definitions.specs.Matrix.{Matrix, maxRows}
+use Rattle.definitions.specs.Refusal.{Outcome, refused, done, Checked, _>>=_, resultLeft, workLeft, keepsAll, numberOf}
+use Rattle.definitions.specs.Matrix.{Matrix, validOf, maxRows, maxEntries}
 use Rattle.definitions.specs.Groups.{Grouping, contiguousGrouping}
 use Rattle.definitions.specs.Setup.{frontOf, nodeCount, groupingOf}
 use Rattle.definitions.specs.Answers.{answerOf, groupingAnswer}
@@ -23,80 +21,114 @@ use Rattle.definitions.specs.declared.GroupingAnswer.the-variants.{Groups, Refu
 use Rattle.definitions.specs.declared.TwoLevelAggregation.the-variants.{Contiguous, Graph, StrongGraph}
 use Rattle.definitions.specs.declared.Refusal.{Refusal}
 use Rattle.definitions.specs.declared.Refusal.the-variants.{ListTooShort}
-use Rattle.csr32.specs.Calls.{accepted-done, refused-is, goes-on, stops, passed, failed, result-kept, work-kept}
+use Rattle.csr32.specs.Calls.{accepted-done, refused-is, goes-on, stops, passed, failed}
 use Rattle.laws.specs.Tests.{three-true}
-use Rattle.two_level_grouping.specs.Front.{Front, front-of, front-rows, front-kept}
-use Rattle.two_level_grouping.specs.Calls.{hasRoom, aggregateCall, idsLeft, Settled, Ready, listsOf}
+use Rattle.two_level_grouping.specs.Front.{Front, shapeOf, shape-least, front-splits, front-parts, front-with, front-of, front-rows, front-kept}
+use Rattle.two_level_grouping.specs.Calls.{hasRoom, small, passes, sizesFit, aggregateCall, idsLeft, Settled, Ready, numbersOf, listsOf, validThen}
+use Rattle.two_level_grouping.proofs.Settling.{kept, valid-settled}
+
+passes-done : (o : Checked) → passes o ≡ true → o ≡ done tt
+unfolding passes
+passes-done (done tt) e = refl
+passes-done (refused r) e = cc
+
+-- a check between a first one and what follows is dropped where it passes
+drops : {B : Type 0} (o : Checked) (mid : Unit {0} → Checked) (next end : Unit {0} → Outcome B) → (mid tt >>= next) ≡ end tt → ((o >>= mid) >>= next) ≡ (o >>= end)
+unfolding _>>=_
+drops (done tt) mid next end e = e
+drops (refused r) mid next end e = refl
 
 module _ (a : Matrix) (o : Options) where
   abbrev n : ℕ
   n = nodeCount a o
 
-  pub few-nodes : Front a o → n ≤ maxRows
-  few-nodes f = omega (arith, div-le-self (a .rows) (o .block), front-rows a o f .fewRows)
-
   module _ (ids work : List ℕ) (floats : List Float) where
-    pub contiguous-settled : o .aggregation ≡ Contiguous → (r : ℕ) (ids' work' : List ℕ) (floats' : List Float) → r ≡ (n + (o .group - 1)) / o .group
-        → ids' ≡ padded 0 (length ids) (tab (λ v. v / o .group) n) → work' ≡ replicate (length work) 0 → floats' ≡ replicate (length floats) zeroᶠ
-        → Settled (groupingOf (o .aggregation) a o) ids work floats (Groups r) ids' work' floats'
-    unfolding groupingOf contiguousGrouping groupingAnswer idsLeft _>>=_ resultLeft workLeft
-    contiguous-settled e r ids' work' floats' er e1 e2 e3 = record { answer = rw (e, er); groups = rw e e1; ints = rw e e2; floats = rw e e3 }
+    -- ---- the groups by the nodes' numbers
 
-    pub graph-settled : (r : GroupingAnswer) (ids' work' : List ℕ) (floats' : List Float) → o .aggregation ≡ Graph → Settled (listsOf Graph a o) ids work floats r ids' work' floats'
-        → Settled (groupingOf (o .aggregation) a o) ids work floats r ids' work' floats'
-    unfolding groupingOf
-    graph-settled r ids' work' floats' e s = rw e s
+    module _ (y : Ready a o (length ids) (length work) (length floats)) (x : Answer) (ex : x ≡ answerOf (validOf a)) (e : x ≡ Accepted) where
+      valid : validOf a ≡ done tt
+      valid = accepted-done (validOf a) (sym ex ∙ e)
 
-    pub strong-settled : (r : GroupingAnswer) (ids' work' : List ℕ) (floats' : List Float) → o .aggregation ≡ StrongGraph → Settled (listsOf StrongGraph a o) ids work floats r ids' work' floats'
-        → Settled (groupingOf (o .aggregation) a o) ids work floats r ids' work' floats'
-    unfolding groupingOf
-    strong-settled r ids' work' floats' e s = rw e s
+      pub numbers-front : Front a o
+      numbers-front = front-with a o valid (y .shape)
+
+      pub numbers-settled : (r : ℕ) (ids' work' : List ℕ) (floats' : List Float) → r ≡ (n + (o .group - 1)) / o .group
+          → ids' ≡ padded 0 (length ids) (tab (λ v. v / o .group) n) → work' ≡ replicate (length work) 0 → floats' ≡ replicate (length floats) zeroᶠ
+          → Settled (validThen a (numbersOf a o)) ids work floats (Groups r) ids' work' floats'
+      unfolding contiguousGrouping groupingAnswer idsLeft _>>=_ resultLeft workLeft
+      numbers-settled r ids' work' floats' er e1 e2 e3 =
+          valid-settled ids work floats a (numbersOf a o) valid _ _ _ _ (record { answer = rw er; groups = e1; ints = e2; floats = e3 })
+
+    -- ---- the policies
+
+    module _ (r : GroupingAnswer) (ids' work' : List ℕ) (floats' : List Float) where
+      abbrev Ends : Outcome Grouping → Type 0
+      Ends g = Settled (validThen a g) ids work floats r ids' work' floats'
+
+      pub contiguous-ends : o .aggregation ≡ Contiguous → Ends (numbersOf a o) → Ends (groupingOf (o .aggregation) a o)
+      unfolding groupingOf
+      contiguous-ends e s = rw e s
+
+      pub graph-ends : o .aggregation ≡ Graph → Ends (listsOf Graph a o) → Ends (groupingOf (o .aggregation) a o)
+      unfolding groupingOf
+      graph-ends e s = rw e s
+
+      pub strong-ends : o .aggregation ≡ StrongGraph → Ends (listsOf StrongGraph a o) → Ends (groupingOf (o .aggregation) a o)
+      unfolding groupingOf
+      strong-ends e s = rw e s
 
     -- ---- the checks
 
     abbrev call : Outcome Grouping
     call = aggregateCall a o (length ids) (length work) (length floats)
 
+    abbrev shape : Checked
+    shape = shapeOf (a .rows) (a .cols) (o .block) (o .group)
+
     abbrev room : Bool
     room = hasRoom n (length (a .values)) (length ids) (length work) (length floats)
 
-    kept : (r : Refusal) → keepsAll r ≡ true → call ≡ refused r → Settled call ids work floats (NoGroups r) ids work floats
-    unfolding groupingAnswer idsLeft
-    kept r k e = record {
-      answer = rw e;
-      groups = sym (result-kept 0 ids r k (call >>= (λ g. done (g .ids))) (stops call r (λ g. done (g .ids)) e));
-      ints = sym (work-kept 0 work r k call e);
-      floats = sym (work-kept zeroᶠ floats r k call e);
-    }
+    abbrev limits : Bool
+    limits = small (a .rows) (a .cols) (length (a .values))
 
-    module _ (x : Answer) (ex : x ≡ answerOf (frontOf a o)) where
-      pub stopped : (r : Refusal) → x ≡ Refused r → Settled call ids work floats (NoGroups r) ids work floats
-      unfolding aggregateCall
-      stopped r e =
-          let f : frontOf a o ≡ refused r = refused-is (frontOf a o) r (sym ex ∙ e) in
-          kept r (front-kept a o r f) (stops (frontOf a o) r _ f)
+    module _ (t : Bool) (et : t ≡ sizesFit (a .rows) (a .cols) (length (a .values)) (o .block) (o .group) (length ids) (length work) (length floats)) where
+      -- sizes that fit leave 1 to 8 and 16
+      module _ (f : t ≡ true) where
+        fit : (limits ≡ true) × (passes shape ≡ true) × (room ≡ true)
+        unfolding sizesFit
+        fit = three-true limits (passes shape) room (sym et ∙ f)
 
-      module _ (e : x ≡ Accepted) where
-        fronted : frontOf a o ≡ done tt
-        fronted = accepted-done (frontOf a o) (sym ex ∙ e)
+        shaped : shape ≡ done tt
+        shaped = passes-done shape (fit .1)
 
-        pub front-holds : Front a o
-        front-holds = front-of a o fronted
+        pub ready-of : Ready a o (length ids) (length work) (length floats)
+        unfolding hasRoom
+        ready-of =
+            let p = three-true _ _ _ (fit .2) in
+            record { shape = shaped; least = shape-least (a .rows) (a .cols) (o .block) (o .group) shaped; ids = leb-true _ _ (p .0); work = leb-true _ _ (p .1); floats = leb-true _ _ (p .2) }
 
-        pub short : (t : Bool) → t ≡ room → t ≡ false → Settled call ids work floats (NoGroups ListTooShort) ids work floats
-        unfolding aggregateCall keepsAll numberOf
-        short t et f = kept ListTooShort refl (goes-on (frontOf a o) tt _ fronted ∙ stops _ ListTooShort _ (failed room ListTooShort (sym et ∙ f)))
+        left : call ≡ validThen a (groupingOf (o .aggregation) a o)
+        unfolding aggregateCall
+        left = rw (front-splits a o) (drops (validOf a) _ _ _ (goes-on shape tt _ shaped ∙ goes-on _ tt _ (passed room ListTooShort (fit .2))))
 
-        module _ (t : Bool) (et : t ≡ room) (f : t ≡ true) where
-          pub ready-of : Ready a o (length ids) (length work) (length floats)
-          unfolding hasRoom
-          ready-of =
-              let p = three-true _ _ _ (sym et ∙ f) in
-              record { front = front-holds; ids = leb-true _ _ (p .0); work = leb-true _ _ (p .1); floats = leb-true _ _ (p .2) }
+        pub went : (r : GroupingAnswer) (ids' work' : List ℕ) (floats' : List Float) → Settled (validThen a (groupingOf (o .aggregation) a o)) ids work floats r ids' work' floats'
+            → Settled call ids work floats r ids' work' floats'
+        went r ids' work' floats' s = subst (λ c. Settled c ids work floats r ids' work' floats') (sym left) s
 
-          pub went : (r : GroupingAnswer) (ids' work' : List ℕ) (floats' : List Float) → Settled (groupingOf (o .aggregation) a o) ids work floats r ids' work' floats'
-              → Settled call ids work floats r ids' work' floats'
-          unfolding aggregateCall
-          went r ids' work' floats' s =
-              let k : call ≡ groupingOf (o .aggregation) a o = goes-on (frontOf a o) tt _ fronted ∙ goes-on _ tt _ (passed room ListTooShort (sym et ∙ f)) in
-              subst (λ c. Settled c ids work floats r ids' work' floats') (sym k) s
+      -- sizes that do not fit leave a first cause among 1 to 13
+      module _ (f : t ≡ false) (x : Answer) (ex : x ≡ answerOf (frontOf a o)) where
+        pub stopped : (r : Refusal) → x ≡ Refused r → Settled call ids work floats (NoGroups r) ids work floats
+        unfolding aggregateCall
+        stopped r e =
+            let q : frontOf a o ≡ refused r = refused-is (frontOf a o) r (sym ex ∙ e) in
+            kept ids work floats call r (front-kept a o r q) (stops (frontOf a o) r _ q)
+
+        pub short : x ≡ Accepted → Settled call ids work floats (NoGroups ListTooShort) ids work floats
+        unfolding aggregateCall keepsAll numberOf sizesFit passes
+        short e =
+            let d : frontOf a o ≡ done tt = accepted-done (frontOf a o) (sym ex ∙ e) in
+            let w = front-rows a o (front-of a o d) in
+            let s : limits ≡ true = rw (le-leb (a .rows) maxRows (w .fewRows), le-leb (a .cols) maxRows (w .fewCols), le-leb (length (a .values)) maxEntries (w .fewEntries)) in
+            let h : passes shape ≡ true = ap passes (front-parts a o d .1) in
+            let g : room ≡ false = rw (s, h) at (sym et ∙ f) in
+            kept ids work floats call ListTooShort refl (goes-on (frontOf a o) tt _ d ∙ stops _ ListTooShort _ (failed room ListTooShort g))

@@ -47,17 +47,17 @@ unfolding _>>=_
 then-done (done tt) next x e = (refl, e)
 then-done (refused r) next x e = (cc, cc)
 
-pub front-of : (a : Matrix) (o : Options) → frontOf a o ≡ done tt → Front a o
+-- 1 to 8, and 9 to 12 by sizes
+pub front-with : (a : Matrix) (o : Options) → validOf a ≡ done tt → shapeOf (a .rows) (a .cols) (o .block) (o .group) ≡ done tt → Front a o
 unfolding shapeOf
-front-of a o e =
-    let p = then-done _ _ _ (sym (front-splits a o) ∙ e) in
-    let p9 = then-done _ _ _ (p .1) in
+front-with a o v e =
+    let p9 = then-done _ _ _ e in
     let p10 = then-done _ _ _ (p9 .1) in
     let p11 = then-done _ _ _ (p10 .1) in
     let b = both-true _ _ (last-true _ _ (p10 .0)) in
     let g = both-true _ _ (last-true _ _ (p11 .0)) in
     record {
-      valid = p .0;
+      valid = v;
       square = eqb-true _ _ (last-true _ _ (p9 .0));
       least = leb-true _ _ (b .0);
       most = leb-true _ _ (b .1);
@@ -65,6 +65,19 @@ front-of a o e =
       fewest = leb-true _ _ (g .1);
       whole = eqb-true _ _ (last-true _ _ (p11 .1));
     }
+
+-- 10 alone
+pub shape-least : (rows cols block group : ℕ) → shapeOf rows cols block group ≡ done tt → 1 ≤ block
+unfolding shapeOf
+shape-least rows cols block group e =
+    let p10 = then-done _ _ _ (then-done _ _ _ e .1) in
+    leb-true _ _ (both-true _ _ (last-true _ _ (p10 .0)) .0)
+
+pub front-parts : (a : Matrix) (o : Options) → frontOf a o ≡ done tt → (validOf a ≡ done tt) × (shapeOf (a .rows) (a .cols) (o .block) (o .group) ≡ done tt)
+front-parts a o e = then-done _ _ _ (sym (front-splits a o) ∙ e)
+
+pub front-of : (a : Matrix) (o : Options) → frontOf a o ≡ done tt → Front a o
+front-of a o e = let p = front-parts a o e in front-with a o (p .0) (p .1)
 
 -- the nodes' rows are all of them
 pub rows-whole : (a : Matrix) (o : Options) → Front a o → nodeCount a o * o .block ≡ a .rows

@@ -6,18 +6,13 @@ use definitions::Refusal;
 use definitions::TwoLevelAggregation;
 ghost use mathlib.Core.Path.{_≡_};
 ghost use Prim.Native.Nat.{_+_, _-_, _*_, _/_, _<_, _≤_};
-ghost use mathlib.Core.Bool.{true};
-ghost use lib.ListN.{length, replicate};
+ghost use lib.ListN.{length};
 ghost use Rattle.definitions.specs.Lists.{tab, padded};
-ghost use Rattle.definitions.specs.Numbers.{zeroᶠ};
-ghost use Rattle.definitions.specs.Refusal.{resultLeft, workLeft};
 ghost use Rattle.definitions.specs.Matrix.{csr};
-ghost use Rattle.definitions.specs.Neighbours.{neighbourLists, flatNeighbours};
-ghost use Rattle.definitions.specs.Groups.{graphGrouping, noAnchor};
-ghost use Rattle.definitions.specs.Setup.{frontOf, groupingOf, graphOf};
-ghost use Rattle.definitions.specs.Answers.{answerOf, groupingAnswer};
-ghost use Rattle.two_level_grouping.specs.Front.{shapeOf, Front};
-ghost use Rattle.two_level_grouping.specs.Calls.{hasRoom, aggregateCall, idsLeft, Grouped, Settled, Ready, listsOf};
+ghost use Rattle.definitions.specs.Setup.{frontOf, groupingOf};
+ghost use Rattle.definitions.specs.Answers.{answerOf};
+ghost use Rattle.two_level_grouping.specs.Front.{shapeOf};
+ghost use Rattle.two_level_grouping.specs.Calls.{hasRoom, sizesFit, aggregateCall, Grouped, Settled, Ready, noNode, numbersOf, listsOf, validThen};
 
 // Causes 9 to 12, in this order.
 fn shape(rows: usize, cols: usize, block: u64, group: u64) -> Answer
@@ -76,6 +71,38 @@ fn has_room(nodes: usize, entries: usize, room: usize, work_room: usize, float_r
     3 * nodes <= float_room
 }
 
+// Whether all pass that sizes alone decide: the limits of cause 1, 9 to 12, and 13.
+fn sizes_fit(
+    rows: usize,
+    cols: usize,
+    entries: usize,
+    block: u64,
+    group: u64,
+    room: usize,
+    work_room: usize,
+    float_room: usize,
+) -> bool
+    ensures { λ r. ⌜ r ≡ sizesFit rows cols entries block group room «work_room» «float_room» ⌝ }
+{
+    if 1_048_576 < rows {
+        return false;
+    }
+    if 1_048_576 < cols {
+        return false;
+    }
+    if 16_777_216 < entries {
+        return false;
+    }
+    let shaped = shape(rows, cols, block, group);
+    match shaped {
+        Answer::Refused(_) => false,
+        Answer::Accepted => {
+            let size = block as usize;
+            has_room(rows / size, entries, room, work_room, float_room)
+        }
+    }
+}
+
 // Contiguous: the group of a node is its number over the group size.
 fn contiguous(nodes: usize, size: usize, ids: &mut [u32]) -> u64
     requires { ⌜ (0 < size) × ((nodes ≤ length (now ids)) × ((nodes ≤ 1_048_576) × (size ≤ 1_048_576))) ⌝ }
@@ -109,7 +136,60 @@ fn by_lists(
     answer
 }
 
-// Graph and StrongGraph: cause 16, then the groups by the nodes' lists, which stand behind the grouping's room in the work list.
+// Contiguous: causes 1 to 8, then the groups by the nodes' numbers.
+fn by_number(
+    rows: usize,
+    cols: usize,
+    row_ptr: &[u32],
+    col_idx: &[u32],
+    values: &[f64],
+    options: Options,
+    ids: &mut [u32],
+    work_ints: &mut [u32],
+    work_floats: &mut [f64],
+) -> GroupingAnswer
+    requires { ⌜ Ready (csr rows cols (now «row_ptr») (now «col_idx») (now values)) options (length (now ids)) (length (now «work_ints»)) (length (now «work_floats»)) ⌝ }
+    ensures { λ r. ⌜ Settled (validThen (csr rows cols (now («row_ptr» .entry)) (now («col_idx» .entry)) (now (values .entry))) (numbersOf (csr rows cols (now («row_ptr» .entry)) (now («col_idx» .entry)) (now (values .entry))) options)) (now (ids .entry)) (now («work_ints» .entry)) (now («work_floats» .entry)) r (now (ids .exit)) (now («work_ints» .exit)) (now («work_floats» .exit)) ⌝ }
+{
+    let valid = csr32::validate(rows, cols, row_ptr, col_idx, values);
+    match valid {
+        Answer::Refused(cause) => GroupingAnswer::Refused(cause),
+        Answer::Accepted => {
+            let size = options.block as usize;
+            let groups = contiguous(rows / size, options.group as usize, ids);
+            numbers::zero_ints(work_ints);
+            numbers::zero_floats(work_floats);
+            GroupingAnswer::Groups(groups)
+        }
+    }
+}
+
+// Causes 1 to 8, then 16.
+fn no_node(
+    rows: usize,
+    cols: usize,
+    row_ptr: &[u32],
+    col_idx: &[u32],
+    values: &[f64],
+    ids: &mut [u32],
+    work_ints: &mut [u32],
+    work_floats: &mut [f64],
+) -> GroupingAnswer
+    ensures { λ r. ⌜ Settled (validThen (csr rows cols (now («row_ptr» .entry)) (now («col_idx» .entry)) (now (values .entry))) noNode) (now (ids .entry)) (now («work_ints» .entry)) (now («work_floats» .entry)) r (now (ids .exit)) (now («work_ints» .exit)) (now («work_floats» .exit)) ⌝ }
+{
+    let valid = csr32::validate(rows, cols, row_ptr, col_idx, values);
+    match valid {
+        Answer::Refused(cause) => GroupingAnswer::Refused(cause),
+        Answer::Accepted => {
+            numbers::zero_ints(ids);
+            numbers::zero_ints(work_ints);
+            numbers::zero_floats(work_floats);
+            GroupingAnswer::Refused(Refusal::NoNode)
+        }
+    }
+}
+
+// Graph and StrongGraph: causes 1 to 8, which the search for neighbours asks, and 16; then the groups by the nodes' lists, which stand behind the grouping's room in the work list.
 fn by_graph(
     rows: usize,
     cols: usize,
@@ -123,20 +203,26 @@ fn by_graph(
     work_floats: &mut [f64],
 ) -> GroupingAnswer
     requires { ⌜ Ready (csr rows cols (now «row_ptr») (now «col_idx») (now values)) options (length (now ids)) (length (now «work_ints»)) (length (now «work_floats»)) ⌝ }
-    ensures { λ r. ⌜ Settled (listsOf aggregation (csr rows cols (now («row_ptr» .entry)) (now («col_idx» .entry)) (now (values .entry))) options) (now (ids .entry)) (now («work_ints» .entry)) (now («work_floats» .entry)) r (now (ids .exit)) (now («work_ints» .exit)) (now («work_floats» .exit)) ⌝ }
+    ensures { λ r. ⌜ Settled (validThen (csr rows cols (now («row_ptr» .entry)) (now («col_idx» .entry)) (now (values .entry))) (listsOf aggregation (csr rows cols (now («row_ptr» .entry)) (now («col_idx» .entry)) (now (values .entry))) options)) (now (ids .entry)) (now («work_ints» .entry)) (now («work_floats» .entry)) r (now (ids .exit)) (now («work_ints» .exit)) (now («work_floats» .exit)) ⌝ }
 {
     let size = options.block as usize;
     let nodes = rows / size;
     if nodes == 0 {
-        numbers::zero_ints(ids);
-        numbers::zero_ints(work_ints);
-        numbers::zero_floats(work_floats);
-        return GroupingAnswer::Refused(Refusal::NoNode);
+        return no_node(
+            rows,
+            cols,
+            row_ptr,
+            col_idx,
+            values,
+            ids,
+            work_ints,
+            work_floats,
+        );
     }
     let zero = 0;
     let base = 6 * nodes + values.len() + 16;
     let need = base + nodes + 1 + values.len();
-    adjacency::neighbours(
+    let found = adjacency::neighbours(
         rows,
         cols,
         row_ptr,
@@ -148,10 +234,13 @@ fn by_graph(
         &mut work_ints[zero..need],
         work_floats,
     );
-    by_lists(nodes, options.group as usize, base, ids, work_ints)
+    match found {
+        Answer::Refused(cause) => GroupingAnswer::Refused(cause),
+        Answer::Accepted => by_lists(nodes, options.group as usize, base, ids, work_ints),
+    }
 }
 
-// The groups by the policy asked for, of a matrix that has passed causes 1 to 12.
+// The groups by the policy asked for, where the sizes fit: causes 1 to 8 and 16.
 fn by_policy(
     rows: usize,
     cols: usize,
@@ -164,17 +253,21 @@ fn by_policy(
     work_floats: &mut [f64],
 ) -> GroupingAnswer
     requires { ⌜ Ready (csr rows cols (now «row_ptr») (now «col_idx») (now values)) options (length (now ids)) (length (now «work_ints»)) (length (now «work_floats»)) ⌝ }
-    ensures { λ r. ⌜ Settled (groupingOf (options .aggregation) (csr rows cols (now («row_ptr» .entry)) (now («col_idx» .entry)) (now (values .entry))) options) (now (ids .entry)) (now («work_ints» .entry)) (now («work_floats» .entry)) r (now (ids .exit)) (now («work_ints» .exit)) (now («work_floats» .exit)) ⌝ }
+    ensures { λ r. ⌜ Settled (validThen (csr rows cols (now («row_ptr» .entry)) (now («col_idx» .entry)) (now (values .entry))) (groupingOf (options .aggregation) (csr rows cols (now («row_ptr» .entry)) (now («col_idx» .entry)) (now (values .entry))) options)) (now (ids .entry)) (now («work_ints» .entry)) (now («work_floats» .entry)) r (now (ids .exit)) (now («work_ints» .exit)) (now («work_floats» .exit)) ⌝ }
 {
     let aggregation = options.aggregation;
     match aggregation {
-        TwoLevelAggregation::Contiguous => {
-            let size = options.block as usize;
-            let groups = contiguous(rows / size, options.group as usize, ids);
-            numbers::zero_ints(work_ints);
-            numbers::zero_floats(work_floats);
-            GroupingAnswer::Groups(groups)
-        }
+        TwoLevelAggregation::Contiguous => by_number(
+            rows,
+            cols,
+            row_ptr,
+            col_idx,
+            values,
+            options,
+            ids,
+            work_ints,
+            work_floats,
+        ),
         TwoLevelAggregation::Graph => by_graph(
             rows,
             cols,
@@ -202,7 +295,7 @@ fn by_policy(
     }
 }
 
-// The grouping of setup alone: causes 1 to 12, 13 for the lists lent, 16; then the group of each node in `ids`, and work lists of zeros.
+// The grouping of setup alone: causes 1 to 12, 13 for the lists lent, 16; then the group of each node in `ids`, and work lists of zeros. What sizes alone decide comes first, for each policy then checks the entries itself, once.
 pub fn aggregate(
     rows: usize,
     cols: usize,
@@ -216,32 +309,31 @@ pub fn aggregate(
 ) -> GroupingAnswer
     ensures { λ r. ⌜ Settled (aggregateCall (csr rows cols (now («row_ptr» .entry)) (now («col_idx» .entry)) (now (values .entry))) options (length (now (ids .entry))) (length (now («work_ints» .entry))) (length (now («work_floats» .entry)))) (now (ids .entry)) (now («work_ints» .entry)) (now («work_floats» .entry)) r (now (ids .exit)) (now («work_ints» .exit)) (now («work_floats» .exit)) ⌝ }
 {
+    if sizes_fit(
+        rows,
+        cols,
+        values.len(),
+        options.block,
+        options.group,
+        ids.len(),
+        work_ints.len(),
+        work_floats.len(),
+    ) {
+        return by_policy(
+            rows,
+            cols,
+            row_ptr,
+            col_idx,
+            values,
+            options,
+            ids,
+            work_ints,
+            work_floats,
+        );
+    }
     let checked = front(rows, cols, row_ptr, col_idx, values, options);
     match checked {
         Answer::Refused(cause) => GroupingAnswer::Refused(cause),
-        Answer::Accepted => {
-            let size = options.block as usize;
-            if has_room(
-                rows / size,
-                values.len(),
-                ids.len(),
-                work_ints.len(),
-                work_floats.len(),
-            ) {
-                by_policy(
-                    rows,
-                    cols,
-                    row_ptr,
-                    col_idx,
-                    values,
-                    options,
-                    ids,
-                    work_ints,
-                    work_floats,
-                )
-            } else {
-                GroupingAnswer::Refused(Refusal::ListTooShort)
-            }
-        }
+        Answer::Accepted => GroupingAnswer::Refused(Refusal::ListTooShort),
     }
 }

@@ -1,7 +1,6 @@
 -- Each policy is one clause of the definition.
-use Rattle.two_level_grouping.proofs.Policies.{few-nodes, contiguous-settled, graph-settled, strong-settled}
+use Rattle.two_level_grouping.proofs.Policies.{contiguous-ends, graph-ends, strong-ends}
 use Rattle.definitions.specs.Matrix.{csr}
-use native.Mathlib.Omega.{arith}
 use borrow.Author.Needs.{needs}
 use Rattle.two_level_grouping.proofs.by_policy.Statement.{statement}
 use Rattle.two_level_grouping.proofs.by_policy.Tie as tie
@@ -9,19 +8,8 @@ use Rattle.two_level_grouping.proofs.by_policy.Tie as tie
 enum-told : tie.Need-enum-told
 enum-told c = search needs
 
-div-contiguous : tie.Need-div-contiguous
-div-contiguous c = search needs
-
-contiguous-requires : tie.Need-contiguous-requires
-contiguous-requires c κs = let a = c .before .before .before .before .before .before .before .before .before .args in
-    let y = c .before .before .before .before .before .before .before .before .before .pre in
-    (y .front .some, (omega (arith, y .ids), (few-nodes (csr (a .rows) (a .cols) (a .row-ptr .now) (a .col-idx .now) (a .values .now)) (a .options) (y .front), y .front .fewest)))
-
-zero-ints-requires : tie.Need-zero-ints-requires
-zero-ints-requires c κs = search needs
-
-zero-floats-requires : tie.Need-zero-floats-requires
-zero-floats-requires c κs = search needs
+by-number-requires : tie.Need-by-number-requires
+by-number-requires c κs = search needs
 
 enum-told-2 : tie.Need-enum-told-2
 enum-told-2 c = search needs
@@ -45,9 +33,10 @@ same-length-3 : tie.Need-same-length-3
 same-length-3 c = search needs
 
 returns : tie.Need-returns
-returns c = let a = c .before .before .before .before .before .before .before .before .before .before .before .before .before .before .before .before .before .before .before .before .args in
-    let k = c .before .before .before .before .before .before .before .before .before .before .contiguous in
-    contiguous-settled (csr (a .rows) (a .cols) (a .row-ptr .now) (a .col-idx .now) (a .values .now)) (a .options) (a .ids .now) (a .work-ints .now) (a .work-floats .now) (c .before .before .before .before .before .before .before .before .before .before .before .before .enum-told .given .1) (k .result) (k .last .1 .1 .0) (c .before .before .before .before .before .before .zero-ints .last .0) (c .before .before .zero-floats .last .0) (k .ensures .0) (k .ensures .1) (c .before .before .before .before .before .before .zero-ints .ensures) (c .before .before .zero-floats .ensures)
+returns c =
+    let a = c .before .before .before .before .before .before .before .before .before .before .before .before .before .before .before .before .before .before .args in
+    let m = csr (a .rows) (a .cols) (a .row-ptr .now) (a .col-idx .now) (a .values .now) in
+    contiguous-ends m (a .options) (a .ids .now) (a .work-ints .now) (a .work-floats .now) _ _ _ _ (c .before .before .before .before .before .before .before .before .before .before .enum-told .given .1) (c .before .before .before .before .before .before .by-number .ensures)
 
 same-length-4 : tie.Need-same-length-4
 same-length-4 c = search needs
@@ -59,9 +48,10 @@ same-length-6 : tie.Need-same-length-6
 same-length-6 c = search needs
 
 returns-2 : tie.Need-returns-2
-returns-2 c = let a = c .before .before .before .before .before .before .before .before .before .before .before .before .before .before .before .before .before .before .args in
-    let k = c .before .before .before .before .before .before .by-graph in
-    graph-settled (csr (a .rows) (a .cols) (a .row-ptr .now) (a .col-idx .now) (a .values .now)) (a .options) (a .ids .now) (a .work-ints .now) (a .work-floats .now) _ _ _ _ (c .before .before .before .before .before .before .before .before .before .before .enum-told2 .given .1) (k .ensures)
+returns-2 c =
+    let a = c .before .before .before .before .before .before .before .before .before .before .before .before .before .before .before .before .before .before .args in
+    let m = csr (a .rows) (a .cols) (a .row-ptr .now) (a .col-idx .now) (a .values .now) in
+    graph-ends m (a .options) (a .ids .now) (a .work-ints .now) (a .work-floats .now) _ _ _ _ (c .before .before .before .before .before .before .before .before .before .before .enum-told2 .given .1) (c .before .before .before .before .before .before .by-graph .ensures)
 
 same-length-7 : tie.Need-same-length-7
 same-length-7 c = search needs
@@ -73,19 +63,17 @@ same-length-9 : tie.Need-same-length-9
 same-length-9 c = search needs
 
 returns-3 : tie.Need-returns-3
-returns-3 c = let a = c .before .before .before .before .before .before .before .before .before .before .before .before .before .before .before .before .before .before .args in
-    let k = c .before .before .before .before .before .before .by-graph2 in
-    strong-settled (csr (a .rows) (a .cols) (a .row-ptr .now) (a .col-idx .now) (a .values .now)) (a .options) (a .ids .now) (a .work-ints .now) (a .work-floats .now) _ _ _ _ (c .before .before .before .before .before .before .before .before .before .before .enum-told3 .given .1) (k .ensures)
+returns-3 c =
+    let a = c .before .before .before .before .before .before .before .before .before .before .before .before .before .before .before .before .before .before .args in
+    let m = csr (a .rows) (a .cols) (a .row-ptr .now) (a .col-idx .now) (a .values .now) in
+    strong-ends m (a .options) (a .ids .now) (a .work-ints .now) (a .work-floats .now) _ _ _ _ (c .before .before .before .before .before .before .before .before .before .before .enum-told3 .given .1) (c .before .before .before .before .before .before .by-graph2 .ensures)
 
 pub by-policy-spec : {M : Type 1} → statement M
 by-policy-spec =
     tie.close
     (tie.spec
     enum-told
-    div-contiguous
-    contiguous-requires
-    zero-ints-requires
-    zero-floats-requires
+    by-number-requires
     enum-told-2
     by-graph-requires
     enum-told-3

@@ -1,0 +1,65 @@
+-- A grouping call that is refused by 1 to 13 keeps all lists; one that asks 1 to 8 first is the grouping itself where they pass.
+use mathlib.Core.Path.{_≡_, refl, sym, _∙_, subst}
+use mathlib.Core.Bool.{true}
+use mathlib.Core.List.{List}
+use Prim.Native.Nat.{ℕ}
+use lib.ListN.{length, replicate}
+use lib.Ieee.{Float}
+use Rattle.definitions.specs.Numbers.{zeroᶠ}
+use Rattle.definitions.specs.Refusal.{Outcome, refused, done, Checked, _>>=_, resultLeft, workLeft, keepsAll, numberOf}
+use Rattle.definitions.specs.Matrix.{Matrix, validOf}
+use Rattle.definitions.specs.Groups.{Grouping}
+use Rattle.definitions.specs.Answers.{answerOf, groupingAnswer}
+use Rattle.definitions.specs.declared.Answer.{Answer}
+use Rattle.definitions.specs.declared.Answer.the-variants.{Accepted, Refused}
+use Rattle.definitions.specs.declared.GroupingAnswer.{GroupingAnswer}
+use Rattle.definitions.specs.declared.GroupingAnswer.the-variants.{Refused as NoGroups}
+use Rattle.definitions.specs.declared.Refusal.{Refusal}
+use Rattle.definitions.specs.declared.Refusal.the-variants.{NoNode}
+use Rattle.csr32.specs.Calls.{accepted-done, refused-is, goes-on, stops, keeps-refused, result-kept, work-kept}
+use Rattle.csr32.specs.Valid.{valid-keeps}
+use Rattle.two_level_grouping.specs.Calls.{idsLeft, Settled, validThen, noNode}
+
+-- ---- what the answer of a call says of its first check, where that is the only one that can fail
+
+module _ {A : Type 0} (next : Unit {0} → Outcome A) where
+  pub accepted-first : (o : Checked) → answerOf (o >>= next) ≡ Accepted → o ≡ done tt
+  unfolding answerOf _>>=_
+  accepted-first (done tt) e = refl
+  accepted-first (refused r) e = cc
+
+  pub refused-first : (o : Checked) (x : A) → (o ≡ done tt → (o >>= next) ≡ done x) → (r : Refusal) → answerOf (o >>= next) ≡ Refused r → o ≡ refused r
+  unfolding answerOf _>>=_
+  refused-first (done tt) x h r e = let p = h refl in cc
+  refused-first (refused q) x h r e = cc
+
+-- ---- what is left
+
+module _ (ids work : List ℕ) (floats : List Float) where
+  pub kept : (call : Outcome Grouping) (r : Refusal) → keepsAll r ≡ true → call ≡ refused r → Settled call ids work floats (NoGroups r) ids work floats
+  unfolding groupingAnswer idsLeft
+  kept call r k e = record {
+    answer = rw e;
+    groups = sym (result-kept 0 ids r k (call >>= (λ g. done (g .ids))) (stops call r (λ g. done (g .ids)) e));
+    ints = sym (work-kept 0 work r k call e);
+    floats = sym (work-kept zeroᶠ floats r k call e);
+  }
+
+  module _ (a : Matrix) (g : Outcome Grouping) where
+    pub invalid-kept : (r : Refusal) → validOf a ≡ refused r → Settled (validThen a g) ids work floats (NoGroups r) ids work floats
+    invalid-kept r v = kept (validThen a g) r (keeps-refused (validOf a) r (valid-keeps a) v) (stops (validOf a) r (λ _. g) v)
+
+    pub valid-settled : validOf a ≡ done tt → (r : GroupingAnswer) (ids' work' : List ℕ) (floats' : List Float) → Settled g ids work floats r ids' work' floats'
+        → Settled (validThen a g) ids work floats r ids' work' floats'
+    valid-settled v r ids' work' floats' s = subst (λ c. Settled c ids work floats r ids' work' floats') (sym (goes-on (validOf a) tt (λ _. g) v)) s
+
+  -- by validate's answer
+  module _ (a : Matrix) (x : Answer) (ex : x ≡ answerOf (validOf a)) where
+    pub invalid-settled : (g : Outcome Grouping) (r : Refusal) → x ≡ Refused r → Settled (validThen a g) ids work floats (NoGroups r) ids work floats
+    invalid-settled g r e = invalid-kept a g r (refused-is (validOf a) r (sym ex ∙ e))
+
+    pub no-node-settled : x ≡ Accepted → (ids' work' : List ℕ) (floats' : List Float) → ids' ≡ replicate (length ids) 0 → work' ≡ replicate (length work) 0 → floats' ≡ replicate (length floats) zeroᶠ
+        → Settled (validThen a noNode) ids work floats (NoGroups NoNode) ids' work' floats'
+    unfolding groupingAnswer idsLeft _>>=_ resultLeft workLeft keepsAll numberOf
+    no-node-settled e ids' work' floats' e1 e2 e3 =
+        valid-settled a noNode (accepted-done (validOf a) (sym ex ∙ e)) _ _ _ _ (record { answer = refl; groups = e1; ints = e2; floats = e3 })
