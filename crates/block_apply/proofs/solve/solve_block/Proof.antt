@@ -1,30 +1,48 @@
-use Rattle.block_apply.proofs.Triangles.{forward-length, solve-law}
+-- The first two branches name the width.
+use Prim.Native.Nat.{_*_}
+use mathlib.Core.Path.{ap, sym, _∙_}
+use native.Mathlib.Omega.{arith}
+use Rattle.definitions.specs.Block.{blockSolve}
 use borrow.Author.Needs.{needs}
 use Rattle.block_apply.proofs.solve.solve_block.Statement.{statement}
 use Rattle.block_apply.proofs.solve.solve_block.Tie as tie
-use Rattle.block_apply.proofs.solve.solve_block.Reads as reads
-use Rattle.block_apply.proofs.solve.solve_block.Lts as lts
-use Rattle.block_apply.proofs.solve.backward.Reads as backward-reads
-use Rattle.block_apply.proofs.solve.forward.Reads as forward-reads
 
-forward-requires : tie.Need-forward-requires
-forward-requires c κs = search needs
+solve-requires : tie.Need-solve-requires
+solve-requires c κs =
+    let p = c .before .before .before .before .before .pre in
+    let e = c .before .if1 .taken in
+    (p .0 ∙ ap (λ n. n * n) e, p .1 ∙ e, p .2 ∙ e, omega arith)
 
-backward-requires : tie.Need-backward-requires
-backward-requires c κs =
-    let s = c .before .before .before .before .before .before .before .before in
-    let f = c .before .before .before .forward in
-    (s .pre .0, forward-length (s .args .l .now) (s .args .w) (s .args .r .now) (f .last .1 .1 .1 .0) (f .ensures), s .pre .3)
+solve-requires-2 : tie.Need-solve-requires-2
+solve-requires-2 c κs =
+    let p = c .before .before .before .before .before .before .pre in
+    let e = c .before .if2 .taken in
+    (p .0 ∙ ap (λ n. n * n) e, p .1 ∙ e, p .2 ∙ e, omega arith)
+
+solve-requires-3 : tie.Need-solve-requires-3
+solve-requires-3 c κs = search needs
 
 same-length : tie.Need-same-length
 same-length c = search needs
 
 returns : tie.Need-returns
 returns c =
-    let a = c .before .before .before .before .before .before .before .before .before .before .before .args in
-    let f = c .before .before .before .before .before .before .forward in
-    let g = c .before .before .backward in
-    solve-law (a .l .now) (a .w) (a .r .now) (f .last .1 .1 .1 .0) (g .last .1 .1 .0) (f .ensures) (g .ensures)
+    let a = c .before .before .before .before .before .before .before .before .args in
+    c .before .before .solve .ensures ∙ sym (ap (λ n. blockSolve (a .l .now) n (a .r .now)) (c .before .before .before .before .if1 .taken))
+
+same-length-2 : tie.Need-same-length-2
+same-length-2 c = search needs
+
+returns-2 : tie.Need-returns-2
+returns-2 c =
+    let a = c .before .before .before .before .before .before .before .before .before .args in
+    c .before .before .solve2 .ensures ∙ sym (ap (λ n. blockSolve (a .l .now) n (a .r .now)) (c .before .before .before .before .if2 .taken))
+
+same-length-3 : tie.Need-same-length-3
+same-length-3 c = search needs
+
+returns-3 : tie.Need-returns-3
+returns-3 c = search needs
 
 pub solve-block-spec : {M : Type 1} → statement M
-solve-block-spec = tie.close (tie.spec forward-requires backward-requires same-length returns)
+solve-block-spec = tie.close (tie.spec solve-requires solve-requires-2 solve-requires-3 same-length returns same-length-2 returns-2 same-length-3 returns-3)
