@@ -2,8 +2,10 @@ mod Inserting
 mod Passes
 mod Spreading
 mod Copying
+mod Ascending
 mod Visiting
 mod Weighing
+mod Accumulating
 mod Rowwise
 mod Storing
 mod Checking

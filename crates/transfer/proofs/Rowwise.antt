@@ -17,10 +17,10 @@ use Rattle.csr32.specs.Rows.{Rows}
 use Rattle.definitions.specs.Transfer.{coarseColumn, tentative, smoothingTerms, weightAt, transferRow}
 use Rattle.laws.specs.Kept.{keep-yes, keep-no, keep-nil, keep-length}
 use Rattle.transfer.specs.Touched.{named, Visited, Gathered, Grouped, Below}
-use Rattle.transfer.specs.Weights.{weighed, counts, Parted}
+use Rattle.transfer.specs.Weights.{Settled, counts, Parted}
 use Rattle.transfer.proofs.Spreading.{asc, upTo-asc, also}
 use Rattle.transfer.proofs.Visiting.{alsoAll, named-misses, named-count, named-below, asc-below}
-use Rattle.transfer.proofs.Weighing.{weighed-at, where-unnamed}
+use Rattle.transfer.proofs.Weighing.{where-unnamed}
 
 -- ---- keeping twice, over columns below c
 
@@ -136,13 +136,13 @@ module _ (a : Matrix) (d : List Float) (damping : Float) (size : ℕ) (ids : Lis
         rw row-length (omega (arith, named-count (coarseColumn size ids i) c ns h b))
 
     -- what the code has: the weights w at the columns visited
-    module _ (t : List ℕ) (r : ℕ) (v : Visited names c t r) (w₀ w : List Float) (l : length w₀ ≡ c)
-        (ew : w ≡ weighed (coarseColumn size ids) damping (oneᶠ /ᶠ getD d i nan) (coarseColumn size ids i) (stored (a .colIdx) (a .values) from to) (take r t) w₀) where
+    module _ (t : List ℕ) (r : ℕ) (v : Visited names c t r) (w : List Float) (l : length w ≡ c)
+        (ew : Settled (coarseColumn size ids) damping (oneᶠ /ᶠ getD d i nan) (coarseColumn size ids i) (stored (a .colIdx) (a .values) from to) (take r t) w) where
       weight-is : (j : ℕ) → j < c → v .test j ≡ true → getD w j nan ≡ weightAt a d damping size ids i j
       unfolding weightAt tentative smoothingTerms
       weight-is j h p =
           let m : any (λ x. eqb x j) (take r t) ≡ true = rw (v .front, upTo-asc) (any-kept (v .test) j c 0 (omega arith) (omega arith) p) in
-          ap (λ x. getD x j nan) ew ∙ weighed-at (coarseColumn size ids) damping (oneᶠ /ᶠ getD d i nan) (coarseColumn size ids i) (stored (a .colIdx) (a .values) from to) (take r t) w₀ j (omega arith) m ∙ rw es
+          ew j (omega arith) m ∙ rw es
 
       pub kept-columns : keep (counts w) (take r t) ≡ keep stays (upTo c)
       kept-columns = ap (keep (counts w)) (v .front) ∙ keep-twice (v .test) (counts w) stays c (λ j h p. ap (λ x. ne x zeroᶠ) (weight-is j h p)) (λ j h p. unstays j (v .misses j p))
@@ -175,11 +175,11 @@ module _ (rows : ℕ) (ptr idx : List ℕ) (vals : List Float) (h : Rows (csr ro
   entries-are = rw (ef, et, add-one)
 
   module _ (d : List Float) (damping : Float) (size : ℕ) (ids : List ℕ) (c own : ℕ) (eo : own ≡ coarseColumn size ids i) where
-    pub row-done : (t₁ t₂ : List ℕ) (n m : ℕ) (w₀ w₁ : List Float) → Visited (own ∷ named (coarseColumn size ids) (slice from to idx)) c t₁ n → length w₀ ≡ c
-        → w₁ ≡ weighed (coarseColumn size ids) damping (oneᶠ /ᶠ getD d i nan) own (stored idx vals from to) (take n t₁) w₀ → Gathered t₂ m (keep (counts w₁) (take n t₁)) → m ≤ length t₂
+    pub row-done : (t₁ t₂ : List ℕ) (n m : ℕ) (w₁ : List Float) → Visited (own ∷ named (coarseColumn size ids) (slice from to idx)) c t₁ n → length w₁ ≡ c
+        → Settled (coarseColumn size ids) damping (oneᶠ /ᶠ getD d i nan) own (stored idx vals from to) (take n t₁) w₁ → Gathered t₂ m (keep (counts w₁) (take n t₁)) → m ≤ length t₂
         → Parted c (transferRow (csr rows rows ptr idx vals) d damping size ids c i) t₂ w₁ m
-    row-done t₁ t₂ n m w₀ w₁ v lw ew g q =
-        parted (csr rows rows ptr idx vals) d damping size ids c i from to entries-are t₁ n (rw eo at v) w₀ w₁ lw (rw eo at ew) t₂ m g q
+    row-done t₁ t₂ n m w₁ v lw ew g q =
+        parted (csr rows rows ptr idx vals) d damping size ids c i from to entries-are t₁ n (rw eo at v) w₁ lw (rw eo at ew) t₂ m g q
 
     pub row-fits : Grouped size ids rows c → length (transferRow (csr rows rows ptr idx vals) d damping size ids c i) ≤ suc (to - from)
     row-fits g =

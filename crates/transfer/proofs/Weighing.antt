@@ -1,6 +1,6 @@
 -- The weight at a place: the tentative one, less what the row's entries take off there.
 use Prim.Native.Nat.{ℕ, _-_, _<_}
-use mathlib.Core.Path.{_≡_, refl, sym, _∙_}
+use mathlib.Core.Path.{_≡_, refl, ap, sym, _∙_}
 use mathlib.Core.Bool.{Bool, true, false, cond, _||_}
 use mathlib.Core.List.{List, [], _∷_, map, foldl, zipWith}
 use lib.Dec.{eqb}
@@ -13,7 +13,7 @@ use Rattle.definitions.specs.Numbers.{_-ᶠ_, _*ᶠ_, zeroᶠ, oneᶠ, reduced}
 use Rattle.definitions.specs.Matrix.{Entry, valuesWhere}
 use Rattle.csr32.specs.Stored.{where-hit, where-miss, where-none}
 use Rattle.transfer.specs.Touched.{named}
-use Rattle.transfer.specs.Weights.{zeroAt, lower, lowered, smoothing, weighed}
+use Rattle.transfer.specs.Weights.{zeroAt, lower, lowered, smoothing, weighed, Settled}
 
 -- ---- zeroes
 
@@ -45,13 +45,13 @@ zero-there (x ∷ js) w j h e = step (eqb x j) refl e (zero-there js (set w x ze
 
 -- ---- what is taken off
 
-abbrev minus : Float → Float → Float
+abbrev pub minus : Float → Float → Float
 minus s y = s -ᶠ y
 
-lower-hit : (l : List Float) (e : Entry) (j : ℕ) → j < length l → e .col ≡ j → getD (lower l e) j nan ≡ getD l j nan -ᶠ e .value
+pub lower-hit : (l : List Float) (e : Entry) (j : ℕ) → j < length l → e .col ≡ j → getD (lower l e) j nan ≡ getD l j nan -ᶠ e .value
 lower-hit l e j h q = rw q (getD-set-same l j (getD l j nan -ᶠ e .value) nan h)
 
-lower-miss : (l : List Float) (e : Entry) (j : ℕ) → (e .col ≡ j → ⊥) → getD (lower l e) j nan ≡ getD l j nan
+pub lower-miss : (l : List Float) (e : Entry) (j : ℕ) → (e .col ≡ j → ⊥) → getD (lower l e) j nan ≡ getD l j nan
 lower-miss l e j q = getD-set-other l (e .col) j (getD l (e .col) nan -ᶠ e .value) nan (λ r. q (sym r))
 
 lowered-at : (es : List Entry) (l : List Float) (j : ℕ) → j < length l → getD (lowered es l) j nan ≡ foldl minus (getD l j nan) (valuesWhere (λ k. eqb k j) es)
@@ -64,7 +64,7 @@ lowered-at (e ∷ es) l j h = lowered-at es (lower l e) j (simp length-set h) �
     step false q = rw (lower-miss l e j (eqb-false (e .col) j q), where-miss (λ k. eqb k j) e es q)
 
 module _ (column : ℕ → ℕ) (damping inv : Float) (j : ℕ) where
-  taken : (es : List Entry) → valuesWhere (λ k. eqb k j) (smoothing column damping inv es) ≡ map (λ v. damping *ᶠ v *ᶠ inv) (valuesWhere (λ k. eqb (column k) j) es)
+  pub taken : (es : List Entry) → valuesWhere (λ k. eqb k j) (smoothing column damping inv es) ≡ map (λ v. damping *ᶠ v *ᶠ inv) (valuesWhere (λ k. eqb (column k) j) es)
   taken [] = where-none (λ k. eqb k j) ∙ rw (where-none (λ k. eqb (column k) j))
   taken (e ∷ es) = step (eqb (column (e .col)) j) refl (taken es)
     where
@@ -77,7 +77,7 @@ module _ (column : ℕ → ℕ) (damping inv : Float) (j : ℕ) where
       step false q ih = where-miss (λ k. eqb k j) m (smoothing column damping inv es) q ∙ rw (ih, where-miss (λ k. eqb (column k) j) e es q)
 
 -- the weight at a column that is visited
-pub weighed-at : (column : ℕ → ℕ) (damping inv : Float) (own : ℕ) (es : List Entry) (t : List ℕ) (w : List Float) (j : ℕ) → j < length w → any (λ x. eqb x j) t ≡ true
+weighed-at : (column : ℕ → ℕ) (damping inv : Float) (own : ℕ) (es : List Entry) (t : List ℕ) (w : List Float) (j : ℕ) → j < length w → any (λ x. eqb x j) t ≡ true
     → getD (weighed column damping inv own es t w) j nan ≡ reduced (cond (eqb j own) oneᶠ zeroᶠ) (map (λ v. damping *ᶠ v *ᶠ inv) (valuesWhere (λ k. eqb (column k) j) es))
 unfolding weighed reduced
 weighed-at column damping inv own es t w j h a =
@@ -90,6 +90,9 @@ weighed-at column damping inv own es t w j h a =
     start : (b : Bool) → eqb j own ≡ b → getD (set (zeroAt t w) own oneᶠ) j nan ≡ cond (eqb j own) oneᶠ zeroᶠ
     start true q = let e = eqb-true j own q in rw q (rw (← e) (getD-set-same (zeroAt t w) j oneᶠ nan l))
     start false q = rw q (getD-set-other (zeroAt t w) own j oneᶠ nan (eqb-false j own q) ∙ zero-there t w j h a)
+
+pub weighed-settled : (column : ℕ → ℕ) (damping inv : Float) (own : ℕ) (es : List Entry) (t : List ℕ) (w w' : List Float) → w' ≡ weighed column damping inv own es t w → length w' ≡ length w → Settled column damping inv own es t w'
+weighed-settled column damping inv own es t w w' e l j h a = ap (λ x. getD x j nan) e ∙ weighed-at column damping inv own es t w j (rw l at h) a
 
 -- the weight at a column that the row does not name
 pub where-unnamed : (column : ℕ → ℕ) (j : ℕ) (idx : List ℕ) (vals : List Float) → any (λ x. eqb x j) (named column idx) ≡ false

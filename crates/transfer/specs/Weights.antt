@@ -1,14 +1,15 @@
 -- A row's weights in a list with a place for each coarse column.
-use Prim.Native.Nat.{ℕ, _+_, _≤_}
+use Prim.Native.Nat.{ℕ, _+_, _<_, _≤_}
 use mathlib.Core.Path.{_≡_}
-use mathlib.Core.List.{List, _++_, map, foldl}
-use mathlib.Core.Bool.{Bool}
+use mathlib.Core.List.{List, [], _∷_, _++_, map, foldl}
+use mathlib.Core.Bool.{Bool, true, cond}
+use lib.Dec.{eqb}
 use lib.ListN.{length, getD, set, take}
 use lib.Ieee.{Float, nan, ne}
-use Rattle.definitions.specs.Numbers.{_-ᶠ_, _*ᶠ_, zeroᶠ, oneᶠ}
-use Rattle.definitions.specs.Lists.{padded, pointersFrom, joinedLists}
-use Rattle.definitions.specs.Matrix.{Entry}
-use Rattle.transfer.specs.Touched.{Below}
+use Rattle.definitions.specs.Numbers.{_-ᶠ_, _*ᶠ_, zeroᶠ, oneᶠ, reduced}
+use Rattle.definitions.specs.Lists.{any, padded, pointersFrom, joinedLists}
+use Rattle.definitions.specs.Matrix.{Entry, valuesWhere}
+use Rattle.transfer.specs.Touched.{Below, insertOnce}
 
 -- the places of the columns that a row touches, set to 0
 unfoldable pub zeroAt : List ℕ → List Float → List Float
@@ -28,6 +29,19 @@ smoothing column damping inv es = map (λ e. record { col = column (e .col); val
 -- a row's weights at the columns t of a list that held others
 unfoldable pub weighed : (ℕ → ℕ) → Float → Float → ℕ → List Entry → List ℕ → List Float → List Float
 weighed column damping inv own es t w = lowered (smoothing column damping inv es) (set (zeroAt t w) own oneᶠ)
+
+-- the place of a column, cleared where it is new: where the columns were n and are more now
+unfoldable pub fresh : ℕ → ℕ → ℕ → List Float → List Float
+fresh n more j w = cond (eqb more n) w (set w j zeroᶠ)
+
+-- entries in one pass: the column of each joins the columns t, cleared where it is new, and its number is taken off there
+unfoldable pub accumulated : List ℕ → List Entry → List Float → List Float
+accumulated t [] w = w
+accumulated t (e ∷ es) w = accumulated (insertOnce (e .col) t) es (lower (fresh (length t) (length (insertOnce (e .col) t)) (e .col) w) e)
+
+-- the weights at the columns t are a row's: 1 at its own, else 0, less what its entries take off
+abbrev pub Settled : (ℕ → ℕ) → Float → Float → ℕ → List Entry → List ℕ → List Float → Type 0
+Settled column damping inv own es t w = (j : ℕ) → j < length w → any (λ x. eqb x j) t ≡ true → getD w j nan ≡ reduced (cond (eqb j own) oneᶠ zeroᶠ) (map (λ v. damping *ᶠ v *ᶠ inv) (valuesWhere (λ k. eqb (column k) j) es))
 
 -- a weight that is stored
 abbrev pub counts : List Float → ℕ → Bool

@@ -1,6 +1,7 @@
 // The smoothed transfer: a row's own coarse column, less one damped Jacobi step, as compressed rows.
 mod checks;
 mod rows;
+mod short;
 mod stored;
 mod touched;
 mod weights;

@@ -2,10 +2,9 @@
 use crate::stored::put_columns;
 use crate::stored::put_weights;
 use crate::touched::coarse_of;
-use crate::touched::visit;
 use crate::touched::wide;
 use crate::weights::compress;
-use crate::weights::weigh;
+use crate::weights::weigh_row;
 ghost use mathlib.Core.Path.{_≡_};
 ghost use mathlib.Core.List.{_++_, map};
 ghost use Prim.Native.Nat.{_+_, _-_, _^_, _<_, _≤_};
@@ -38,22 +37,8 @@ fn part_row(
     let own = coarse_of(ids, size, i);
     let from = wide(ptr[i]);
     let to = wide(ptr[i + 1]);
-    let n = visit(idx, ids, size, rows, own, from, to, t);
     let d = diagonal[i];
-    weigh(
-        idx,
-        vals,
-        ids,
-        size,
-        rows,
-        own,
-        from,
-        to,
-        damping,
-        d,
-        &t[..n],
-        w,
-    );
+    let n = weigh_row(idx, vals, ids, size, rows, own, from, to, damping, d, t, w);
     compress(t, n, w)
 }
 

@@ -1,16 +1,20 @@
 // A row's weights, one place for each coarse column.
+use crate::short::accumulate;
 use crate::touched::coarse_of;
+use crate::touched::fill;
 use crate::touched::wide;
 ghost use mathlib.Core.Path.{_≡_};
 ghost use Prim.Native.Nat.{_+_, _^_, _≤_, _<_};
 ghost use mathlib.Core.Bool.{cond};
+ghost use mathlib.Core.List.{_∷_};
 ghost use lib.ListN.{length, take};
+ghost use lib.Seq.{slice};
 ghost use Rattle.definitions.specs.Lists.{keep};
 ghost use Rattle.definitions.specs.Numbers.{oneᶠ, _/ᶠ_};
 ghost use Rattle.definitions.specs.Matrix.{stored};
 ghost use Rattle.definitions.specs.Transfer.{coarseColumn};
-ghost use Rattle.transfer.specs.Touched.{Below, Grouped, Gathered};
-ghost use Rattle.transfer.specs.Weights.{zeroAt, lowered, smoothing, weighed, counts};
+ghost use Rattle.transfer.specs.Touched.{Below, Grouped, Gathered, Visited, named};
+ghost use Rattle.transfer.specs.Weights.{zeroAt, lowered, smoothing, weighed, Settled, counts};
 
 fn zero_at(w: &mut [f64], t: &[u32])
     requires { ⌜ Below (length (now w)) (now t) ⌝ }
@@ -48,7 +52,7 @@ fn smooth(
 }
 
 // The weights of a row at the columns t: 1 at its own, and the smoothing taken off.
-pub fn weigh(
+fn weigh(
     idx: &[u32],
     vals: &[f64],
     ids: &[u32],
@@ -72,6 +76,53 @@ pub fn weigh(
     w[own] = 1.0;
     let inv = 1.0 / d;
     smooth(idx, vals, ids, size, cols, from, to, damping, inv, w);
+}
+
+// The columns that a row touches at the front of t, or every column, and its weights at their places; returns how many columns these are.
+// Inserting costs the square of a row's columns, a pass over all costs c at most 2,048: at 128 entries they meet.
+pub fn weigh_row(
+    idx: &[u32],
+    vals: &[f64],
+    ids: &[u32],
+    size: usize,
+    cols: usize,
+    own: usize,
+    from: usize,
+    to: usize,
+    damping: f64,
+    d: f64,
+    t: &mut [u32],
+    w: &mut [f64],
+) -> usize
+    requires { ⌜ (from ≤ to) × (to ≤ length (now vals)) × (length (now idx) ≡ length (now vals)) × (own < length (now w)) × (length (now t) ≡ length (now w)) ⌝ }
+    requires { ⌜ Below cols (now idx) ⌝ }
+    requires { ⌜ Grouped size (now ids) cols (length (now w)) ⌝ }
+    ensures { λ r. ⌜ Visited (own ∷ named (coarseColumn size (now (ids .entry))) (slice from to (now (idx .entry)))) (length (now (w .entry))) (now (t .exit)) r ⌝ }
+    ensures { λ r. ⌜ Settled (coarseColumn size (now (ids .entry))) damping (oneᶠ /ᶠ d) own (stored (now (idx .entry)) (now (vals .entry)) from to) (take r (now (t .exit))) (now (w .exit)) ⌝ }
+{
+    if to - from < 128 {
+        t[0] = own as u32;
+        w[own] = 1.0;
+        let inv = 1.0 / d;
+        return accumulate(idx, vals, ids, size, cols, from, to, damping, inv, t, w, 1);
+    }
+    fill(t);
+    let n = t.len();
+    weigh(
+        idx,
+        vals,
+        ids,
+        size,
+        cols,
+        own,
+        from,
+        to,
+        damping,
+        d,
+        &t[..n],
+        w,
+    );
+    n
 }
 
 // One more than r where the weight at j is not zero.

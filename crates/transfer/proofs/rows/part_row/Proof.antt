@@ -1,28 +1,17 @@
 -- The columns visited hold every column that the row names; there the weights are the definition's, elsewhere they are zero and dropped.
 use Prim.Native.Nat.{_≤_, _-_, _^_}
-use mathlib.Core.Path.{_≡_, refl, sym, _∙_}
+use mathlib.Core.Path.{_≡_, _∙_}
 use mathlib.Core.List.{_∷_}
 use native.Mathlib.Omega.{arith}
 use lib.ListN.{length, take}
-use lib.Seq.{slice, length-take-le}
+use lib.Seq.{slice}
 use Rattle.definitions.specs.Transfer.{coarseColumn}
-use Rattle.transfer.specs.Touched.{named, Below}
+use Rattle.transfer.specs.Touched.{named}
 use Rattle.transfer.proofs.Visiting.{visited-below}
 use Rattle.transfer.proofs.Rowwise.{span, row-done}
 use borrow.Author.Needs.{needs}
 use Rattle.transfer.proofs.rows.part_row.Statement.{statement}
 use Rattle.transfer.proofs.rows.part_row.Tie as tie
-
--- the columns visited fit the list, and are places of the weights
-visit-ok : (c : tie.After-visit) → (c .visit .result ≤ length (c .visit .last .1 .1 .1 .1 .1 .1 .1 .0)) × (length (c .visit .last .1 .1 .1 .1 .1 .1 .1 .0) ≡ length (c .before .before .before .before .before .before .before .before .before .before .before .before .before .before .args .w .now)) × (c .visit .result ≤ 2 ^ 32) × Below (length (c .before .before .before .before .before .before .before .before .before .before .before .before .before .before .args .w .now)) (take (c .visit .result) (c .visit .last .1 .1 .1 .1 .1 .1 .1 .0))
-visit-ok c =
-    let s = c .before .before .before .before .before .before .before .before .before .before .before .before .before .before in
-    let a = s .args in
-    let v = c .visit in
-    let e = s .pre .1 .1 .2 in
-    let k = v .kept .1 .1 .1 .1 .1 .1 .1 .0 in
-    let b = visited-below (c .before .before .before .before .before .before .coarse-of .result ∷ named (coarseColumn (a .size) (a .ids .now)) (slice (c .before .before .before .before .wide .result) (c .before .before .wide2 .result) (a .idx .now))) (length (a .t .now)) (v .last .1 .1 .1 .1 .1 .1 .1 .0) (v .result) (v .ensures) in
-    (v .ensures .room, k ∙ e, omega (arith, v .ensures .room, k, e, s .pre .1 .0 .small), rw (← e) b)
 
 coarse-of-requires : tie.Need-coarse-of-requires
 coarse-of-requires c κs =
@@ -51,39 +40,29 @@ shared-slice-read-wide-2 c = search needs
 wide-requires-2 : tie.Need-wide-requires-2
 wide-requires-2 c κs = search needs
 
-visit-requires : tie.Need-visit-requires
-visit-requires c κs =
-    let s = c .before .before .before .before .before .before .before .before .before .before .before .before .before in
-    let a = s .args in
-    let g = s .pre .1 .0 in
-    let e = s .pre .1 .1 .2 in
-    let p = span (a .rows) (a .ptr .now) (a .idx .now) (a .vals .now) (s .pre .0) (a .i) (c .before .before .before .wide .result) (c .before .wide2 .result) (s .pre .1 .1 .0) (c .before .before .before .wide .ensures) (c .before .wide2 .ensures) in
-    ((p .0, omega (arith, p .1, s .pre .0 .same), rw (e, c .before .before .before .before .before .coarse-of .ensures) (g .within (a .i) (s .pre .1 .1 .0))), (s .pre .0 .within, rw e g))
-
 mul-d : tie.Need-mul-d
 mul-d c = search needs
 
 shared-slice-read-d : tie.Need-shared-slice-read-d
 shared-slice-read-d c = search needs
 
-slice-reshare-prefix-weigh : tie.Need-slice-reshare-prefix-weigh
-slice-reshare-prefix-weigh c = search needs
-
-slice-aggregate-weigh : tie.Need-slice-aggregate-weigh
-slice-aggregate-weigh c = let v = c .before .before .before .before .visit in sym (length-take-le (v .result) (v .last .1 .1 .1 .1 .1 .1 .1 .0) (v .ensures .room))
-
-weigh-requires : tie.Need-weigh-requires
-weigh-requires c κs =
-    let s = c .before .before .before .before .before .before .before .before .before .before .before .before .before .before .before .before .before .before .before in
+weigh-row-requires : tie.Need-weigh-row-requires
+weigh-row-requires c κs =
+    let s = c .before .before .before .before .before .before .before .before .before .before .before .before .before .before .before in
     let a = s .args in
     let g = s .pre .1 .0 in
-    let p = span (a .rows) (a .ptr .now) (a .idx .now) (a .vals .now) (s .pre .0) (a .i) (c .before .before .before .before .before .before .before .before .before .wide .result) (c .before .before .before .before .before .before .before .wide2 .result) (s .pre .1 .1 .0) (c .before .before .before .before .before .before .before .before .before .wide .ensures) (c .before .before .before .before .before .before .before .wide2 .ensures) in
-    ((p .0, p .1, s .pre .0 .same, rw (c .before .before .before .before .before .before .before .before .before .before .before .coarse-of .ensures) (g .within (a .i) (s .pre .1 .1 .0))), (s .pre .0 .within, (g, visit-ok (c .before .before .before .before .before) .3)))
+    let p = span (a .rows) (a .ptr .now) (a .idx .now) (a .vals .now) (s .pre .0) (a .i) (c .before .before .before .before .before .wide .result) (c .before .before .before .wide2 .result) (s .pre .1 .1 .0) (c .before .before .before .before .before .wide .ensures) (c .before .before .before .wide2 .ensures) in
+    ((p .0, p .1, s .pre .0 .same, rw (c .before .before .before .before .before .before .before .coarse-of .ensures) (g .within (a .i) (s .pre .1 .1 .0)), s .pre .1 .1 .2), (s .pre .0 .within, g))
 
 compress-requires : tie.Need-compress-requires
 compress-requires c κs =
-    let o = visit-ok (c .before .before .before .before .before .before .before .before .before .before) in
-    (o .0, o .2, rw (c .before .before .before .before .weigh .kept .1 .1 .1 .1 .1 .1 .1 .1 .1 .1 .1 .0) (o .3))
+    let s = c .before .before .before .before .before .before .before .before .before .before .before .before .before .before .before .before .before .before .before .before .before .before in
+    let a = s .args in
+    let v = c .before .before .before .before .before .before .weigh-row in
+    let t = v .last .1 .1 .1 .1 .1 .1 .1 .1 .1 .1 .0 in
+    let r = v .ensures .0 .room in
+    let b = visited-below (c .before .before .before .before .before .before .before .before .before .before .before .before .before .before .coarse-of .result ∷ named (coarseColumn (a .size) (a .ids .now)) (slice (c .before .before .before .before .before .before .before .before .before .before .before .before .wide .result) (c .before .before .before .before .before .before .before .before .before .before .wide2 .result) (a .idx .now))) (length (a .w .now)) t (v .result) (v .ensures .0) in
+    (r, omega (arith, r, v .kept .1 .1 .1 .1 .1 .1 .1 .1 .1 .1 .0, s .pre .1 .1 .2, s .pre .1 .0 .small), rw (v .kept .1 .1 .1 .1 .1 .1 .1 .1 .1 .1 .1 .0) b)
 
 same-length : tie.Need-same-length
 same-length c = search needs
@@ -93,15 +72,14 @@ same-length-2 c = search needs
 
 returns : tie.Need-returns
 returns c =
-    let s = c .before .before .before .before .before .before .before .before .before .before .before .before .before .before .before .before .before .before .before .before .before .before .before .before .before .before .before in
+    let s = c .before .before .before .before .before .before .before .before .before .before .before .before .before .before .before .before .before .before .before .before .before .before .before .before .before in
     let a = s .args in
-    let v = c .before .before .before .before .before .before .before .before .before .before .before .before .before .visit in
-    let w = c .before .before .before .before .before .before .before .weigh in
+    let v = c .before .before .before .before .before .before .before .before .before .weigh-row in
     let m = c .before .before .compress in
-    row-done (a .rows) (a .ptr .now) (a .idx .now) (a .vals .now) (s .pre .0) (a .i) (c .before .before .before .before .before .before .before .before .before .before .before .before .before .before .before .before .before .wide .result) (c .before .before .before .before .before .before .before .before .before .before .before .before .before .before .before .wide2 .result) (s .pre .1 .1 .0) (c .before .before .before .before .before .before .before .before .before .before .before .before .before .before .before .before .before .wide .ensures) (c .before .before .before .before .before .before .before .before .before .before .before .before .before .before .before .wide2 .ensures)
-    (a .diagonal .now) (a .damping) (a .size) (a .ids .now) (length (a .w .now)) (c .before .before .before .before .before .before .before .before .before .before .before .before .before .before .before .before .before .before .before .coarse-of .result) (c .before .before .before .before .before .before .before .before .before .before .before .before .before .before .before .before .before .before .before .coarse-of .ensures)
-    (v .last .1 .1 .1 .1 .1 .1 .1 .0) (m .last .0) (v .result) (m .result) (a .w .now) (w .last .1 .1 .1 .1 .1 .1 .1 .1 .1 .1 .1 .0) (rw (s .pre .1 .1 .2) at (v .ensures)) refl (w .ensures) (m .ensures .0)
-    (omega (arith, m .ensures .1, v .ensures .room, m .kept .0))
+    row-done (a .rows) (a .ptr .now) (a .idx .now) (a .vals .now) (s .pre .0) (a .i) (c .before .before .before .before .before .before .before .before .before .before .before .before .before .before .before .wide .result) (c .before .before .before .before .before .before .before .before .before .before .before .before .before .wide2 .result) (s .pre .1 .1 .0) (c .before .before .before .before .before .before .before .before .before .before .before .before .before .before .before .wide .ensures) (c .before .before .before .before .before .before .before .before .before .before .before .before .before .wide2 .ensures)
+    (a .diagonal .now) (a .damping) (a .size) (a .ids .now) (length (a .w .now)) (c .before .before .before .before .before .before .before .before .before .before .before .before .before .before .before .before .before .coarse-of .result) (c .before .before .before .before .before .before .before .before .before .before .before .before .before .before .before .before .before .coarse-of .ensures)
+    (v .last .1 .1 .1 .1 .1 .1 .1 .1 .1 .1 .0) (m .last .0) (v .result) (m .result) (v .last .1 .1 .1 .1 .1 .1 .1 .1 .1 .1 .1 .0) (v .ensures .0) (v .kept .1 .1 .1 .1 .1 .1 .1 .1 .1 .1 .1 .0) (v .ensures .1) (m .ensures .0)
+    (omega (arith, m .ensures .1, v .ensures .0 .room, m .kept .0))
 
 pub part-row-spec : {M : Type 1} → statement M
 part-row-spec =
@@ -115,12 +93,9 @@ part-row-spec =
     mul-wide-2
     shared-slice-read-wide-2
     wide-requires-2
-    visit-requires
     mul-d
     shared-slice-read-d
-    slice-reshare-prefix-weigh
-    slice-aggregate-weigh
-    weigh-requires
+    weigh-row-requires
     compress-requires
     same-length
     same-length-2
