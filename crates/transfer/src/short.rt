@@ -3,6 +3,7 @@ use crate::touched::coarse_of;
 use crate::touched::find;
 use crate::touched::insert;
 use crate::touched::wide;
+use crate::weights::take_off;
 ghost use mathlib.Core.Path.{_≡_};
 ghost use Prim.Native.Nat.{_<_, _≤_};
 ghost use lib.ListN.{length, take};
@@ -53,8 +54,7 @@ pub fn accumulate(
         let p = find(&t[..n], near, x);
         let more = insert(t, n, p, x);
         clear_new(w, j, n, more);
-        let v = damping * vals[k] * inv;
-        w[j] -= v;
+        take_off(w, j, damping, vals[k], inv);
         n = more;
         near = p + 1;
     }

@@ -7,10 +7,11 @@ ghost use mathlib.Core.Path.{_≡_};
 ghost use Prim.Native.Nat.{_+_, _^_, _≤_, _<_};
 ghost use mathlib.Core.Bool.{cond};
 ghost use mathlib.Core.List.{_∷_};
-ghost use lib.ListN.{length, take};
+ghost use lib.ListN.{length, getD, set, take};
 ghost use lib.Seq.{slice};
+ghost use lib.Ieee.{nan};
 ghost use Rattle.definitions.specs.Lists.{keep};
-ghost use Rattle.definitions.specs.Numbers.{oneᶠ, _/ᶠ_};
+ghost use Rattle.definitions.specs.Numbers.{oneᶠ, _-ᶠ_, _*ᶠ_, _/ᶠ_};
 ghost use Rattle.definitions.specs.Matrix.{stored};
 ghost use Rattle.definitions.specs.Transfer.{coarseColumn};
 ghost use Rattle.transfer.specs.Touched.{Below, Grouped, Gathered, Visited, named};
@@ -24,6 +25,15 @@ fn zero_at(w: &mut [f64], t: &[u32])
         let j = wide(t[k]);
         w[j] = 0.0;
     }
+}
+
+// Takes an entry off at its coarse column j.
+pub fn take_off(w: &mut [f64], j: usize, damping: f64, value: f64, inv: f64)
+    requires { ⌜ j < length (now w) ⌝ }
+    ensures { λ _. ⌜ now (w .exit) ≡ set (now (w .entry)) j (getD (now (w .entry)) j nan -ᶠ damping *ᶠ value *ᶠ inv) ⌝ }
+{
+    let v = damping * value * inv;
+    w[j] -= v;
 }
 
 // Takes the entries from..to off, each at its coarse column.
@@ -46,8 +56,7 @@ fn smooth(
 {
     for k in from..to {
         let j = coarse_of(ids, size, wide(idx[k]));
-        let v = damping * vals[k] * inv;
-        w[j] -= v;
+        take_off(w, j, damping, vals[k], inv);
     }
 }
 

@@ -2,7 +2,7 @@
 use Prim.Native.Nat.{_<_, _≤_, _-_, _^_}
 use mathlib.Core.Path.{_≡_, refl, sym, ap, _∙_}
 use native.Mathlib.Omega.{arith}
-use lib.ListN.{length, getD, take, length-set}
+use lib.ListN.{length, getD, take}
 use lib.Seq.{slice, length-take-le}
 use Rattle.definitions.specs.Transfer.{coarseColumn}
 use Rattle.transfer.specs.Touched.{Spread, insertOnce, insertAll, named}
@@ -78,23 +78,17 @@ clear-new-requires c κs = rw (c .before .before .before .before .before .before
 weight-ok : (c : tie.After-clear-new Inv-loop μ-loop) → c .before .before .before .before .before .before .before .before .coarse-of .result < length (c .clear-new .last .0)
 weight-ok c = rw (c .clear-new .kept .0 ∙ c .before .before .before .before .before .before .before .before .before .before .before .before .loop .inv .3) (place-ok (c .before .before .before .before .before .before .before .before) .0)
 
-mul-v : tie.Need-mul-v Inv-loop μ-loop
-mul-v c = search needs
+mul-take-off : tie.Need-mul-take-off Inv-loop μ-loop
+mul-take-off c = search needs
 
-shared-slice-read-v : tie.Need-shared-slice-read-v Inv-loop μ-loop
-shared-slice-read-v c = search needs
+shared-slice-read-take-off : tie.Need-shared-slice-read-take-off Inv-loop μ-loop
+shared-slice-read-take-off c = search needs
 
-mul-w : tie.Need-mul-w Inv-loop μ-loop
-mul-w c = omega (arith, weight-ok (c .before .before .before))
-
-slice-read-w : tie.Need-slice-read-w Inv-loop μ-loop
-slice-read-w c = weight-ok (c .before .before .before .before)
-
-slice-write-w : tie.Need-slice-write-w Inv-loop μ-loop
-slice-write-w c = weight-ok (c .before .before .before .before)
+take-off-requires : tie.Need-take-off-requires Inv-loop μ-loop
+take-off-requires c κs = weight-ok (c .before .before .before .before)
 
 add-near : tie.Need-add-near Inv-loop μ-loop
-add-near c = let l = c .before .before .before .before .before .before .before .before .before .before .before .before .before .before .before .before .loop in omega (arith, c .before .before .before .before .before .before .before .before .before .before .find .ensures, place-le (c .before .before .before .before .before .before .before .before .before .before .before .before .coarse-of .result) (take (l .n) (l .t)), front-ok (c .before .before .before .before .before .before .before .before .before .before .before .before), l .inv .4, place-ok (c .before .before .before .before .before .before .before .before .before .before .before .before))
+add-near c = let l = c .before .before .before .before .before .before .before .before .before .before .before .before .before .before .before .before .before .before .before .loop in omega (arith, c .before .before .before .before .before .before .before .before .before .before .before .before .before .find .ensures, place-le (c .before .before .before .before .before .before .before .before .before .before .before .before .before .before .before .coarse-of .result) (take (l .n) (l .t)), front-ok (c .before .before .before .before .before .before .before .before .before .before .before .before .before .before .before), l .inv .4, place-ok (c .before .before .before .before .before .before .before .before .before .before .before .before .before .before .before))
 
 add-k : tie.Need-add-k Inv-loop μ-loop
 add-k c = search needs
@@ -104,25 +98,26 @@ loop-less c = omega arith
 
 loop-again : tie.Need-loop-again Inv-loop μ-loop
 loop-again c =
-    let s = c .before .before .before .before .before .before .before .before .before .before .before .before .before .before .before .before .before .before .before .before .before .before in
+    let s = c .before .before .before .before .before .before .before .before .before .before .before .before .before .before .before .before .before .before .before .before .before .before .before .before .before in
     let a = s .args in
-    let l = c .before .before .before .before .before .before .before .before .before .before .before .before .before .before .before .before .loop in
-    let j = c .before .before .before .before .before .before .before .before .before .before .before .before .coarse-of .result in
-    let i = c .before .before .before .before .before .before .before .before .insert in
-    let f = c .before .before .before .before .clear-new in
+    let l = c .before .before .before .before .before .before .before .before .before .before .before .before .before .before .before .before .before .before .before .loop in
+    let j = c .before .before .before .before .before .before .before .before .before .before .before .before .before .before .before .coarse-of .result in
+    let i = c .before .before .before .before .before .before .before .before .before .before .before .insert in
+    let f = c .before .before .before .before .before .before .before .clear-new in
+    let d = c .before .before .take-off in
     let g = i .ensures in
-    let h = c .before .before .before .before .before .before .before .before .before .before .before .before .before .before .before .loop-test in
-    let o = spread-ok (c .before .before .before .before .before .before .before .before .before .before .before .before) in
-    let e : j ≡ coarseColumn (a .size) (a .ids .now) (getD (a .idx .now) (l .k) 0) = c .before .before .before .before .before .before .before .before .before .before .before .before .coarse-of .ensures ∙ ap (coarseColumn (a .size) (a .ids .now)) (c .before .before .before .before .before .before .before .before .before .before .before .before .before .wide .ensures) in (
+    let h = c .before .before .before .before .before .before .before .before .before .before .before .before .before .before .before .before .before .before .loop-test in
+    let o = spread-ok (c .before .before .before .before .before .before .before .before .before .before .before .before .before .before .before) in
+    let e : j ≡ coarseColumn (a .size) (a .ids .now) (getD (a .idx .now) (l .k) 0) = c .before .before .before .before .before .before .before .before .before .before .before .before .before .before .before .coarse-of .ensures ∙ ap (coarseColumn (a .size) (a .ids .now)) (c .before .before .before .before .before .before .before .before .before .before .before .before .before .before .before .before .wide .ensures) in (
       omega (arith, l .inv .0),
       omega (arith, h),
       i .kept .0 ∙ l .inv .2,
-      simp length-set (f .kept .0 ∙ l .inv .3),
+      d .kept .0 ∙ f .kept .0 ∙ l .inv .3,
       rw (g .many) (spread-length (insertOnce j (take (l .n) (l .t))) (length (a .w .now)) o),
       rw (g .front) o,
       rw (g .front) (named-step (a .idx .now) (coarseColumn (a .size) (a .ids .now)) (a .to) (l .k) j (take (l .n) (l .t)) (omega (arith, h)) (omega (arith, s .pre .0)) e ∙ l .inv .6),
-      rw (g .front) (onward-step (a .idx .now) (a .vals .now) (coarseColumn (a .size) (a .ids .now)) (a .damping) (a .inv) (a .to) (l .k) j (take (l .n) (l .t)) (l .w) (f .last .0) (omega (arith, h)) (omega (arith, s .pre .0)) (omega (arith, s .pre .0)) e
-          (f .ensures ∙ ap (λ x. fresh x (i .result) j (l .w)) (sym (front-ok (c .before .before .before .before .before .before .before .before .before .before .before .before))) ∙ ap (λ x. fresh (length (take (l .n) (l .t))) x j (l .w)) (g .many)) ∙ l .inv .7),
+      rw (d .ensures, g .front) (onward-step (a .idx .now) (a .vals .now) (coarseColumn (a .size) (a .ids .now)) (a .damping) (a .inv) (a .to) (l .k) j (take (l .n) (l .t)) (l .w) (f .last .0) (omega (arith, h)) (omega (arith, s .pre .0)) (omega (arith, s .pre .0)) e
+          (f .ensures ∙ ap (λ x. fresh x (i .result) j (l .w)) (sym (front-ok (c .before .before .before .before .before .before .before .before .before .before .before .before .before .before .before))) ∙ ap (λ x. fresh (length (take (l .n) (l .t))) x j (l .w)) (g .many)) ∙ l .inv .7),
     )
 
 same-length : tie.Need-same-length Inv-loop μ-loop
@@ -157,11 +152,9 @@ accumulate-spec =
     find-requires
     insert-requires
     clear-new-requires
-    mul-v
-    shared-slice-read-v
-    mul-w
-    slice-read-w
-    slice-write-w
+    mul-take-off
+    shared-slice-read-take-off
+    take-off-requires
     add-near
     add-k
     loop-less

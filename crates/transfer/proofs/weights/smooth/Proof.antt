@@ -2,7 +2,7 @@
 use Prim.Native.Nat.{_<_, _≤_, _-_}
 use mathlib.Core.Path.{_≡_, refl, sym, ap, _∙_}
 use native.Mathlib.Omega.{arith}
-use lib.ListN.{length, length-set}
+use lib.ListN.{length}
 use Rattle.definitions.specs.Transfer.{coarseColumn}
 use Rattle.transfer.proofs.Passes.{rest, rest-step, rest-done}
 use borrow.Author.Needs.{needs}
@@ -39,20 +39,14 @@ coarse-of-requires c κs =
     let g = c .before .before .before .before .before .before .before .before .pre .1 .1 in
     (g .some, g .known (c .wide .result) (column-ok c), omega (arith, g .within (c .wide .result) (column-ok c), g .small))
 
-mul-v : tie.Need-mul-v Inv-loop μ-loop
-mul-v c = search needs
+mul-take-off : tie.Need-mul-take-off Inv-loop μ-loop
+mul-take-off c = search needs
 
-shared-slice-read-v : tie.Need-shared-slice-read-v Inv-loop μ-loop
-shared-slice-read-v c = search needs
+shared-slice-read-take-off : tie.Need-shared-slice-read-take-off Inv-loop μ-loop
+shared-slice-read-take-off c = search needs
 
-mul-w : tie.Need-mul-w Inv-loop μ-loop
-mul-w c = omega (arith, place-ok (c .before))
-
-slice-read-w : tie.Need-slice-read-w Inv-loop μ-loop
-slice-read-w c = place-ok (c .before .before)
-
-slice-write-w : tie.Need-slice-write-w Inv-loop μ-loop
-slice-write-w c = place-ok (c .before .before)
+take-off-requires : tie.Need-take-off-requires Inv-loop μ-loop
+take-off-requires c κs = place-ok (c .before .before)
 
 add-k : tie.Need-add-k Inv-loop μ-loop
 add-k c = search needs
@@ -62,13 +56,16 @@ loop-less c = omega arith
 
 loop-again : tie.Need-loop-again Inv-loop μ-loop
 loop-again c =
-    let a = c .before .before .before .before .before .before .before .before .before .before .before .args in
-    let l = c .before .before .before .before .before .before .loop in (
-      omega arith,
-      omega arith,
-      simp length-set (l .inv .2),
-      rest-step (a .idx .now) (a .vals .now) (coarseColumn (a .size) (a .ids .now)) (a .damping) (a .inv) (a .to) (l .k) (c .before .before .coarse-of .result) (l .w) (omega arith) (omega arith) (omega arith)
-          (c .before .before .coarse-of .ensures ∙ ap (coarseColumn (a .size) (a .ids .now)) (c .before .before .before .wide .ensures)) ∙ l .inv .3,
+    let s = c .before .before .before .before .before .before .before .before .before .before .before .before .before .before in
+    let a = s .args in
+    let l = c .before .before .before .before .before .before .before .before .before .loop in
+    let h = c .before .before .before .before .before .before .before .before .loop-test in
+    let o = c .before .before .take-off in (
+      omega (arith, l .inv .0),
+      omega (arith, h),
+      o .kept .0 ∙ l .inv .2,
+      rw (o .ensures) (rest-step (a .idx .now) (a .vals .now) (coarseColumn (a .size) (a .ids .now)) (a .damping) (a .inv) (a .to) (l .k) (c .before .before .before .before .before .coarse-of .result) (l .w) (omega (arith, h)) (omega (arith, s .pre .0)) (omega (arith, s .pre .0))
+          (c .before .before .before .before .before .coarse-of .ensures ∙ ap (coarseColumn (a .size) (a .ids .now)) (c .before .before .before .before .before .before .wide .ensures)) ∙ l .inv .3),
     )
 
 same-length : tie.Need-same-length Inv-loop μ-loop
@@ -92,11 +89,9 @@ smooth-spec =
     shared-slice-read-wide
     wide-requires
     coarse-of-requires
-    mul-v
-    shared-slice-read-v
-    mul-w
-    slice-read-w
-    slice-write-w
+    mul-take-off
+    shared-slice-read-take-off
+    take-off-requires
     add-k
     loop-less
     loop-again
