@@ -1,6 +1,6 @@
 //! The two-level apply: 25 for the residual, 25 for the correction, 26, 13.
 use crate::faults::{Case, Entry, Fault};
-use crate::lists::{ANSWER, Kind, Lent, Random, Room, Seen, bits, odd};
+use crate::lists::{ANSWER, Item, Kind, Lent, Random, Room, Seen, bits, odd};
 use crate::matrix::{ENTRIES, ROWS};
 use crate::setup::{AUTO, CONSTANT, CONTIGUOUS, FACTOR, GRAPH, INVERSE, SMOOTHED};
 use yelomawin::ffi;
@@ -31,7 +31,7 @@ pub struct Apply {
     pub work: Room,
 }
 
-fn lengthened<T: crate::lists::Item>(g: &mut Random, used: &[T], short: bool) -> Vec<T> {
+fn lengthened<T: Item>(g: &mut Random, used: &[T], short: bool) -> Vec<T> {
     let mut list = used.to_vec();
     if short {
         list.pop();
@@ -59,11 +59,11 @@ impl Entry for Apply {
                 self.residual.as_ptr(), self.residual.len(), z.ptr(), z.len(), work.ptr(), work.len(), answer.ptr(), answer.len(),
             )
         };
-        let mut seen = Seen { number, lists: Vec::new() };
-        seen.list("record", Kind::Read, &before.0, &self.record);
-        seen.list("setup_ints", Kind::Read, &before.1, &ints);
-        seen.list("setup_floats", Kind::Read, &before.2, &floats);
-        seen.list("residual", Kind::Read, &before.3, &self.residual);
+        let mut seen = Seen::new(number);
+        seen.read("record", &before.0, &self.record);
+        seen.read("setup_ints", &before.1, &ints);
+        seen.read("setup_floats", &before.2, &floats);
+        seen.read("residual", &before.3, &self.residual);
         seen.lent("correction", Kind::Result, &z);
         seen.lent("work", Kind::Work, &work);
         seen.lent("answer", Kind::Answer, &answer);
@@ -288,6 +288,10 @@ impl Apply {
             Case::new("no such aggregation", with(|i| i.record[AGGREGATION] = 3), 26, &[]),
             Case::new("no such basis", with(|i| i.record[BASIS] = 2), 26, &[]),
             Case::new("no such coarse policy", with(|i| i.record[POLICY] = u64::MAX), 26, &[]),
+            Case::new("a record of 14 numbers, a residual one longer: 26 before 25", with(|i| { i.record.pop(); i.residual.push(1.0) }), 26, &[]),
+            Case::new("no such aggregation, no residual: 26 before 25", with(|i| { i.record[AGGREGATION] = 3; i.residual.clear() }), 26, &[]),
+            Case::new("no such basis, a correction one longer: 26 before 25", with(|i| { i.record[BASIS] = 2; i.correction += 1 }), 26, &[]),
+            Case::new("no such coarse policy, a residual one longer: 26 before 25", with(|i| { i.record[POLICY] = 3; i.residual.push(1.0) }), 26, &[]),
         ]
     }
     /// The clauses of 26 that some fault meets alone.

@@ -35,9 +35,9 @@ impl Entry for BlockApply {
                 z.ptr(), z.len(), answer.ptr(), answer.len(),
             )
         };
-        let mut seen = Seen { number, lists: Vec::new() };
-        seen.list("factors", Kind::Read, &f0, &factors);
-        seen.list("residual", Kind::Read, &r0, &self.residual);
+        let mut seen = Seen::new(number);
+        seen.read("factors", &f0, &factors);
+        seen.read("residual", &r0, &self.residual);
         seen.lent("correction", Kind::Result, &z);
         seen.lent("answer", Kind::Answer, &answer);
         seen

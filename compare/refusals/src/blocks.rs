@@ -27,7 +27,7 @@ impl Entry for Blocks {
                 self.size, f.ptr(), f.len(), answer.ptr(), answer.len(),
             )
         };
-        let mut seen = Seen { number, lists: Vec::new() };
+        let mut seen = Seen::new(number);
         a.after(&mut seen, before);
         seen.lent("factors", Kind::Result, &f);
         seen.lent("answer", Kind::Answer, &answer);

@@ -26,7 +26,7 @@ impl Entry for Diagonal {
                 d.ptr(), d.len(), answer.ptr(), answer.len(),
             )
         };
-        let mut seen = Seen { number, lists: Vec::new() };
+        let mut seen = Seen::new(number);
         a.after(&mut seen, before);
         seen.lent("diagonal", Kind::Result, &d);
         seen.lent("answer", Kind::Answer, &answer);

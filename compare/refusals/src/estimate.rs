@@ -1,6 +1,6 @@
 //! Estimate alone: 1 to 9, 25 for the diagonal, 13, 20 to 22.
 use crate::faults::{Case, Entry, Fault};
-use crate::lists::{ANSWER, Kind, Lent, Random, Read, Room, Seen, watched, within};
+use crate::lists::{ANSWER, Kind, Lent, Random, Read, Room, Seen, read, watched, within};
 use crate::matrix::{Csr, OnMatrix, ROWS, on_matrix, square};
 use yelomawin::ffi;
 
@@ -28,9 +28,9 @@ impl Entry for Estimate {
                 self.diagonal.as_ptr(), self.diagonal.len(), work.ptr(), work.len(), answer.ptr(), answer.len(),
             )
         };
-        let mut seen = Seen { number, lists: Vec::new() };
+        let mut seen = Seen::new(number);
         a.after(&mut seen, before);
-        seen.read("diagonal", d0, &self.diagonal);
+        read(&mut seen, "diagonal", d0, &self.diagonal);
         seen.lent("work", Kind::Work, &work);
         seen.lent("answer", Kind::Answer, &answer);
         seen

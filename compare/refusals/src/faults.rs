@@ -1,5 +1,6 @@
 //! Faults in an entry point's order, each met alone, and each pair of which the earlier must answer.
-use crate::lists::{Expected, Random, Seen, differences};
+use crate::lists::{Random, Seen};
+use lent::{Expected, differences};
 
 /// An entry point: its input, and how it is called.
 pub trait Entry: Clone {
@@ -7,7 +8,7 @@ pub trait Entry: Clone {
     fn call(&self, g: &mut Random) -> Seen;
     /// 01's column "Left": all kept, or zero.
     fn keeps(number: u64) -> bool {
-        !(14..=24).contains(&number)
+        lent::keeps(number)
     }
 }
 
@@ -49,10 +50,10 @@ pub struct Case<I> {
 
 impl<I> Case<I> {
     pub fn new(what: &str, input: I, number: u64, values: &[u64]) -> Case<I> {
-        Case { what: what.into(), input, want: Expected { number, values: values.to_vec(), results: Vec::new() }, large: false }
+        Case { what: what.into(), input, want: Expected { number, values: values.to_vec(), ..Expected::default() }, large: false }
     }
     pub fn accepted(what: &str, input: I, values: &[u64], results: Vec<Vec<u64>>) -> Case<I> {
-        Case { what: what.into(), input, want: Expected { number: 0, values: values.to_vec(), results }, large: false }
+        Case { what: what.into(), input, want: Expected { values: values.to_vec(), results, ..Expected::default() }, large: false }
     }
     pub fn large(mut self) -> Case<I> {
         self.large = true;
@@ -65,7 +66,7 @@ impl<I> Case<I> {
 pub fn cases<I: Clone>(base: &I, places: &[Vec<Fault<I>>], not_had: &mut Vec<String>) -> Vec<Case<I>> {
     let mut out = Vec::new();
     let mut case = |what: String, input: I, f: &Fault<I>| {
-        let want = Expected { number: f.cause, values: (f.values)(&input), results: Vec::new() };
+        let want = Expected { number: f.cause, values: (f.values)(&input), ..Expected::default() };
         out.push(Case { what, input, want, large: f.large });
     };
     for (k, place) in places.iter().enumerate() {

@@ -1,6 +1,6 @@
 //! Grouping alone: 1, 11, 27, 16, 28, 13; every refusal keeps all.
 use crate::faults::{Case, Entry, Fault};
-use crate::lists::{ANSWER, Kind, Lent, Random, Read, Room, Seen, watched, within};
+use crate::lists::{ANSWER, Kind, Lent, Random, Read, Room, Seen, read, watched, within};
 use crate::matrix::{COLUMNS, ENTRIES, ROWS};
 use yelomawin::ffi;
 
@@ -20,11 +20,8 @@ impl Group {
         [n, 8 * n + 4 * e + 16]
     }
     fn of(size: u64, lists: &[&[u32]]) -> Group {
-        let mut offsets = vec![0];
-        for l in lists {
-            offsets.push(offsets.last().unwrap() + l.len() as u32);
-        }
-        Group { nodes: lists.len() as u64, size, offsets: offsets.into(), neighbours: lists.concat().into(), ids: Room::More, work: Room::More }
+        let (offsets, neighbours) = lent::flat(lists);
+        Group { nodes: lists.len() as u64, size, offsets: offsets.into(), neighbours: neighbours.into(), ids: Room::More, work: Room::More }
     }
     fn unlinked(nodes: u64) -> Group {
         Group { nodes, size: 1, offsets: vec![0; nodes as usize + 1].into(), neighbours: vec![].into(), ids: Room::More, work: Room::More }
@@ -49,9 +46,9 @@ impl Entry for Group {
                 ids.ptr(), ids.len(), work.ptr(), work.len(), answer.ptr(), answer.len(),
             )
         };
-        let mut seen = Seen { number, lists: Vec::new() };
-        seen.read("offsets", o0, &self.offsets);
-        seen.read("neighbours", n0, &self.neighbours);
+        let mut seen = Seen::new(number);
+        read(&mut seen, "offsets", o0, &self.offsets);
+        read(&mut seen, "neighbours", n0, &self.neighbours);
         seen.lent("ids", Kind::Result, &ids);
         seen.lent("work", Kind::Work, &work);
         seen.lent("answer", Kind::Answer, &answer);

@@ -1,6 +1,6 @@
 //! A matrix in compressed rows, and the causes 1 to 9 that every call on a matrix looks for first.
 use crate::faults::Fault;
-use crate::lists::{Read, Seen, watched};
+use crate::lists::{Read, Seen, read, watched};
 use std::sync::LazyLock;
 
 pub const ROWS: u64 = 1_048_576;
@@ -22,17 +22,13 @@ pub struct Csr {
 impl Csr {
     /// A square matrix from the entries of each row.
     pub fn of(rows: &[&[(u32, f64)]]) -> Csr {
-        let mut row_ptr = vec![0];
-        for row in rows {
-            row_ptr.push(row_ptr.last().unwrap() + row.len() as u32);
-        }
-        let entries = || rows.iter().flat_map(|r| r.iter());
+        let (row_ptr, entries) = lent::flat(rows);
         Csr {
             rows: rows.len() as u64,
             cols: rows.len() as u64,
             row_ptr: row_ptr.into(),
-            col_idx: entries().map(|e| e.0).collect(),
-            values: entries().map(|e| e.1).collect(),
+            col_idx: entries.iter().map(|e| e.0).collect(),
+            values: entries.iter().map(|e| e.1).collect(),
         }
     }
     /// A full one; what is exactly zero is not stored.
@@ -70,9 +66,9 @@ impl Csr {
     }
     pub fn after(&self, seen: &mut Seen, before: [Option<Vec<u64>>; 3]) {
         let [p, c, v] = before;
-        seen.read("row_ptr", p, &self.row_ptr);
-        seen.read("col_idx", c, &self.col_idx);
-        seen.read("values", v, &self.values);
+        read(seen, "row_ptr", p, &self.row_ptr);
+        read(seen, "col_idx", c, &self.col_idx);
+        read(seen, "values", v, &self.values);
     }
 }
 

@@ -61,7 +61,7 @@ impl Entry for Setup {
                 record.ptr(), record.len(),
             )
         };
-        let mut seen = Seen { number, lists: Vec::new() };
+        let mut seen = Seen::new(number);
         a.after(&mut seen, before);
         seen.lent("setup_ints", Kind::Result, &ints);
         seen.lent("setup_floats", Kind::Result, &floats);

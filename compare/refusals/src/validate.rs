@@ -18,7 +18,7 @@ impl Entry for Validate {
         let number = unsafe {
             ffi::yelomawin_validate(a.rows, a.cols, a.row_ptr.as_ptr(), a.row_ptr.len(), a.col_idx.as_ptr(), a.col_idx.len(), a.values.as_ptr(), a.values.len())
         };
-        let mut seen = Seen { number, lists: Vec::new() };
+        let mut seen = Seen::new(number);
         a.after(&mut seen, before);
         seen
     }
