@@ -1,7 +1,11 @@
 //! The library's calls on numbers and byte lists, each with a call before it that must answer 254 and change nothing.
-use crate::lists::{Input, Lent, Output};
-use cases::Csr;
+//! Every `unsafe` is one call of the library: sound, as each list goes with its own pointer and length, and nothing else holds it.
+use crate::lists::{Input, Listed, Output};
+use crate::two_level;
+use cases::compare::Library;
 use cases::draw::Random;
+use cases::{Csr, Options};
+use lent::{Kind, Lent, Seen, flat};
 
 unsafe extern "C" {
     fn yelomawin_bytes_root(bits: u64) -> u64;
@@ -36,48 +40,41 @@ unsafe extern "C" {
     ) -> u64;
 }
 
-pub struct Reply<T> {
-    pub number: u64,
-    pub values: Vec<u64>,
-    pub result: T,
+pub struct OnBytes;
+
+/// The call where one of the lists does not fit, and then the call itself, which alone is looked at further.
+pub fn twice(mut call: impl FnMut(bool) -> Result<Seen, String>) -> Result<Seen, String> {
+    call(true)?;
+    call(false)
 }
 
-/// Spoils one of the lists, or none; what is asked of all of them afterwards.
-pub fn spoil(g: &mut Random, spoiled: bool, lists: &mut [&mut dyn Lent]) {
+/// Makes one of the lists one that does not fit.
+pub fn spoil(g: &mut Random, spoiled: bool, lists: &mut [&mut dyn Listed]) {
     if spoiled {
         let k = g.below(lists.len());
         lists[k].spoil(g);
     }
 }
 
-pub fn held(spoiled: bool, number: u64, lists: &[&dyn Lent]) -> Result<(), String> {
-    if spoiled {
-        if number != 254 {
-            return Err(format!("answer {number} where a list does not fit"));
-        }
-        return if lists.iter().all(|l| l.kept()) { Ok(()) } else { Err("a list changed beside answer 254".into()) };
+/// What holds of the lists whatever the library answers: all kept beside 254, else the bytes carried over.
+pub fn held(spoiled: bool, number: u64, lists: &[&dyn Listed]) -> Result<(), String> {
+    if spoiled != (number == 254) {
+        return Err(format!("answer {number} where {} list does not fit", if spoiled { "a" } else { "no" }));
     }
-    match lists.iter().position(|l| !l.carried()) {
+    match lists.iter().position(|l| if spoiled { !l.kept() } else { !l.carried() }) {
         None => Ok(()),
+        Some(k) if spoiled => Err(format!("list {k} of the call changed beside answer 254")),
         Some(k) => Err(format!("list {k} of the call is not carried over")),
     }
 }
 
-pub fn check(ok: bool, what: &str) -> Result<(), String> {
-    if ok { Ok(()) } else { Err(what.to_string()) }
-}
-
 macro_rules! lent {
     ($x:expr) => {
-        ($x.bytes.as_mut_ptr(), $x.bytes.len(), $x.room.as_mut_ptr(), $x.room.len())
+        ($x.bytes.as_mut_ptr(), $x.bytes.len(), $x.room.ptr(), $x.room.len())
     };
 }
 
 pub(crate) use lent;
-
-pub fn root(bits: u64) -> u64 {
-    unsafe { yelomawin_bytes_root(bits) }
-}
 
 pub struct Matrix {
     pub row_ptr: Input<u32>,
@@ -91,116 +88,132 @@ impl Matrix {
     }
 }
 
-/// The call where a list does not fit, and then the call itself.
-pub fn twice<T>(mut call: impl FnMut(bool) -> Result<T, String>) -> Result<T, String> {
-    call(true)?;
-    call(false)
-}
+impl Library for OnBytes {
+    const NAME: &'static str = "bytes";
 
-pub fn validate(g: &mut Random, a: &Csr) -> Result<u64, String> {
-    twice(|spoiled| {
-        let mut m = Matrix::new(g, a);
-        spoil(g, spoiled, &mut [&mut m.row_ptr, &mut m.col_idx, &mut m.values]);
-        let ((p, pl, pr, prl), (c, cl, cr, crl), (v, vl, vr, vrl)) = (lent!(m.row_ptr), lent!(m.col_idx), lent!(m.values));
-        let number = unsafe { yelomawin_bytes_validate(a.rows as u64, a.cols as u64, p, pl, c, cl, v, vl, pr, prl, cr, crl, vr, vrl) };
-        held(spoiled, number, &[&m.row_ptr, &m.col_idx, &m.values])?;
-        Ok(number)
-    })
-}
-
-pub fn diagonal(g: &mut Random, a: &Csr) -> Result<Reply<Vec<f64>>, String> {
-    twice(|spoiled| {
-        let mut m = Matrix::new(g, a);
-        let (mut d, mut answer) = (Output::<f64>::new(g, a.rows), Output::<u64>::new(g, 2));
-        spoil(g, spoiled, &mut [&mut m.row_ptr, &mut m.col_idx, &mut m.values, &mut d, &mut answer]);
-        let ((p, pl, pr, prl), (c, cl, cr, crl), (v, vl, vr, vrl)) = (lent!(m.row_ptr), lent!(m.col_idx), lent!(m.values));
-        let ((db, dbl, dr, drl), (wb, wbl, wr, wrl)) = (lent!(d), lent!(answer));
-        let number = unsafe {
-            yelomawin_bytes_diagonal(
-                a.rows as u64, a.cols as u64, p, pl, c, cl, v, vl, pr, prl, cr, crl, vr, vrl, dr, drl, wr, wrl, db, dbl, wb, wbl,
-            )
-        };
-        held(spoiled, number, &[&m.row_ptr, &m.col_idx, &m.values, &d, &answer])?;
-        check(spoiled || number == 0 || d.refused(number), "diagonal list after a refusal")?;
-        Ok(Reply { number, values: answer.told(), result: d.told() })
-    })
-}
-
-pub fn blocks(g: &mut Random, a: &Csr, block: usize) -> Result<Reply<Vec<f64>>, String> {
-    twice(|spoiled| {
-        let mut m = Matrix::new(g, a);
-        let (mut f, mut answer) = (Output::<f64>::new(g, a.rows * block), Output::<u64>::new(g, 2));
-        spoil(g, spoiled, &mut [&mut m.row_ptr, &mut m.col_idx, &mut m.values, &mut f, &mut answer]);
-        let ((p, pl, pr, prl), (c, cl, cr, crl), (v, vl, vr, vrl)) = (lent!(m.row_ptr), lent!(m.col_idx), lent!(m.values));
-        let ((fb, fbl, fr, frl), (wb, wbl, wr, wrl)) = (lent!(f), lent!(answer));
-        let number = unsafe {
-            yelomawin_bytes_blocks(
-                a.rows as u64, a.cols as u64, p, pl, c, cl, v, vl, block as u64, pr, prl, cr, crl, vr, vrl, fr, frl, wr, wrl, fb, fbl, wb, wbl,
-            )
-        };
-        held(spoiled, number, &[&m.row_ptr, &m.col_idx, &m.values, &f, &answer])?;
-        check(spoiled || number == 0 || f.refused(number), "factor list after a refusal")?;
-        Ok(Reply { number, values: answer.told(), result: f.told() })
-    })
-}
-
-pub fn block_apply(g: &mut Random, rows: usize, block: usize, factors: &[f64], residual: &[f64]) -> Result<Reply<Vec<f64>>, String> {
-    twice(|spoiled| {
-        let (mut l, mut x) = (Input::new(g, factors), Input::new(g, residual));
-        let (mut z, mut answer) = (Output::<f64>::exact(g, rows), Output::<u64>::new(g, 2));
-        spoil(g, spoiled, &mut [&mut l, &mut x, &mut z, &mut answer]);
-        let ((lb, lbl, lr, lrl), (xb, xbl, xr, xrl)) = (lent!(l), lent!(x));
-        let ((zb, zbl, zr, zrl), (wb, wbl, wr, wrl)) = (lent!(z), lent!(answer));
-        let number = unsafe {
-            yelomawin_bytes_block_apply(rows as u64, block as u64, lb, lbl, xb, xbl, lr, lrl, xr, xrl, zr, zrl, wr, wrl, zb, zbl, wb, wbl)
-        };
-        held(spoiled, number, &[&l, &x, &z, &answer])?;
-        Ok(Reply { number, values: answer.told(), result: z.told() })
-    })
-}
-
-pub fn group(g: &mut Random, lists: &[Vec<u32>], size: usize) -> Result<Reply<Vec<u32>>, String> {
-    let neighbours: Vec<u32> = lists.iter().flatten().copied().collect();
-    let mut offsets = vec![0u32];
-    for l in lists {
-        offsets.push(offsets.last().unwrap() + l.len() as u32);
+    fn root(bits: u64) -> u64 {
+        unsafe { yelomawin_bytes_root(bits) }
     }
-    twice(|spoiled| {
-        let (mut o, mut n) = (Input::new(g, &offsets), Input::new(g, &neighbours));
-        let (mut ids, mut answer) = (Output::<u32>::new(g, lists.len()), Output::<u64>::new(g, 2));
-        let mut work = Output::<u32>::new(g, 8 * lists.len() + 4 * neighbours.len() + 16);
-        spoil(g, spoiled, &mut [&mut o, &mut n, &mut ids, &mut answer]);
-        let ((ob, obl, or, orl), (nb, nbl, nr, nrl)) = (lent!(o), lent!(n));
-        let ((ib, ibl, ir, irl), (wb, wbl, wr, wrl)) = (lent!(ids), lent!(answer));
-        let number = unsafe {
-            yelomawin_bytes_group(
-                lists.len() as u64, size as u64, ob, obl, nb, nbl, or, orl, nr, nrl, ir, irl, work.room.as_mut_ptr(), work.room.len(), wr, wrl, ib, ibl, wb, wbl,
-            )
-        };
-        held(spoiled, number, &[&o, &n, &ids, &answer])?;
-        check(if number == 0 { work.room.iter().all(|&x| x == 0) } else { work.unchanged() }, "grouping's work list")?;
-        check(spoiled || number == 0 || ids.unchanged(), "ids after a refusal")?;
-        Ok(Reply { number, values: answer.told(), result: ids.told() })
-    })
-}
 
-pub fn estimate(g: &mut Random, a: &Csr, diagonal: &[f64]) -> Result<Reply<()>, String> {
-    twice(|spoiled| {
-        let mut m = Matrix::new(g, a);
-        let (mut d, mut answer) = (Input::new(g, diagonal), Output::<u64>::new(g, 2));
-        let mut work = Output::<f64>::new(g, 3 * a.rows);
-        spoil(g, spoiled, &mut [&mut m.row_ptr, &mut m.col_idx, &mut m.values, &mut d, &mut answer]);
-        let ((p, pl, pr, prl), (c, cl, cr, crl), (v, vl, vr, vrl)) = (lent!(m.row_ptr), lent!(m.col_idx), lent!(m.values));
-        let ((db, dbl, dr, drl), (wb, wbl, wr, wrl)) = (lent!(d), lent!(answer));
-        let number = unsafe {
-            yelomawin_bytes_estimate(
-                a.rows as u64, a.cols as u64, p, pl, c, cl, v, vl, db, dbl, pr, prl, cr, crl, vr, vrl, dr, drl,
-                work.room.as_mut_ptr(), work.room.len(), wr, wrl, wb, wbl,
-            )
-        };
-        held(spoiled, number, &[&m.row_ptr, &m.col_idx, &m.values, &d, &answer])?;
-        let zero = work.room.iter().all(|&x| x.to_bits() == 0);
-        check(if number == 0 { zero } else if spoiled { work.unchanged() } else { work.refused(number) }, "estimate's work list")?;
-        Ok(Reply { number, values: answer.told(), result: () })
-    })
+    fn validate(g: &mut Random, a: &Csr) -> Result<Seen, String> {
+        twice(|spoiled| {
+            let mut m = Matrix::new(g, a);
+            spoil(g, spoiled, &mut [&mut m.row_ptr, &mut m.col_idx, &mut m.values]);
+            let ((p, pl, pr, prl), (c, cl, cr, crl), (v, vl, vr, vrl)) = (lent!(m.row_ptr), lent!(m.col_idx), lent!(m.values));
+            let number = unsafe { yelomawin_bytes_validate(a.rows as u64, a.cols as u64, p, pl, c, cl, v, vl, pr, prl, cr, crl, vr, vrl) };
+            held(spoiled, number, &[&m.row_ptr, &m.col_idx, &m.values])?;
+            Ok(Seen::new(number))
+        })
+    }
+
+    fn diagonal(g: &mut Random, a: &Csr) -> Result<Seen, String> {
+        twice(|spoiled| {
+            let mut m = Matrix::new(g, a);
+            let (mut d, mut answer) = (Output::<f64>::new(g, a.rows), Output::<u64>::new(g, 2));
+            spoil(g, spoiled, &mut [&mut m.row_ptr, &mut m.col_idx, &mut m.values, &mut d, &mut answer]);
+            let ((p, pl, pr, prl), (c, cl, cr, crl), (v, vl, vr, vrl)) = (lent!(m.row_ptr), lent!(m.col_idx), lent!(m.values));
+            let ((db, dbl, dr, drl), (wb, wbl, wr, wrl)) = (lent!(d), lent!(answer));
+            let number = unsafe {
+                yelomawin_bytes_diagonal(
+                    a.rows as u64, a.cols as u64, p, pl, c, cl, v, vl, pr, prl, cr, crl, vr, vrl, dr, drl, wr, wrl, db, dbl, wb, wbl,
+                )
+            };
+            held(spoiled, number, &[&m.row_ptr, &m.col_idx, &m.values, &d, &answer])?;
+            let mut seen = Seen::new(number);
+            seen.lent("diagonal", Kind::Result, &d.room);
+            seen.lent("answer", Kind::Answer, &answer.room);
+            Ok(seen)
+        })
+    }
+
+    fn blocks(g: &mut Random, a: &Csr, block: usize) -> Result<Seen, String> {
+        twice(|spoiled| {
+            let mut m = Matrix::new(g, a);
+            let (mut f, mut answer) = (Output::<f64>::new(g, a.rows * block), Output::<u64>::new(g, 2));
+            spoil(g, spoiled, &mut [&mut m.row_ptr, &mut m.col_idx, &mut m.values, &mut f, &mut answer]);
+            let ((p, pl, pr, prl), (c, cl, cr, crl), (v, vl, vr, vrl)) = (lent!(m.row_ptr), lent!(m.col_idx), lent!(m.values));
+            let ((fb, fbl, fr, frl), (wb, wbl, wr, wrl)) = (lent!(f), lent!(answer));
+            let number = unsafe {
+                yelomawin_bytes_blocks(
+                    a.rows as u64, a.cols as u64, p, pl, c, cl, v, vl, block as u64, pr, prl, cr, crl, vr, vrl, fr, frl, wr, wrl, fb, fbl, wb, wbl,
+                )
+            };
+            held(spoiled, number, &[&m.row_ptr, &m.col_idx, &m.values, &f, &answer])?;
+            let mut seen = Seen::new(number);
+            seen.lent("factors", Kind::Result, &f.room);
+            seen.lent("answer", Kind::Answer, &answer.room);
+            Ok(seen)
+        })
+    }
+
+    fn block_apply(g: &mut Random, rows: usize, block: usize, factors: &[f64], residual: &[f64]) -> Result<Seen, String> {
+        twice(|spoiled| {
+            let (mut l, mut x) = (Input::new(g, factors), Input::new(g, residual));
+            let (mut z, mut answer) = (Output::<f64>::exact(g, rows), Output::<u64>::new(g, 2));
+            spoil(g, spoiled, &mut [&mut l, &mut x, &mut z, &mut answer]);
+            let ((lb, lbl, lr, lrl), (xb, xbl, xr, xrl)) = (lent!(l), lent!(x));
+            let ((zb, zbl, zr, zrl), (wb, wbl, wr, wrl)) = (lent!(z), lent!(answer));
+            let number = unsafe {
+                yelomawin_bytes_block_apply(rows as u64, block as u64, lb, lbl, xb, xbl, lr, lrl, xr, xrl, zr, zrl, wr, wrl, zb, zbl, wb, wbl)
+            };
+            held(spoiled, number, &[&l, &x, &z, &answer])?;
+            let mut seen = Seen::new(number);
+            seen.lent("correction", Kind::Result, &z.room);
+            seen.lent("answer", Kind::Answer, &answer.room);
+            Ok(seen)
+        })
+    }
+
+    fn group(g: &mut Random, lists: &[Vec<u32>], size: usize) -> Result<Seen, String> {
+        let (offsets, neighbours) = flat(lists);
+        twice(|spoiled| {
+            let (mut o, mut n) = (Input::new(g, &offsets), Input::new(g, &neighbours));
+            let (mut ids, mut answer) = (Output::<u32>::new(g, lists.len()), Output::<u64>::new(g, 2));
+            let mut work = Lent::<u32>::roomy(g, 8 * lists.len() + 4 * neighbours.len() + 16);
+            spoil(g, spoiled, &mut [&mut o, &mut n, &mut ids, &mut answer]);
+            let ((ob, obl, or, orl), (nb, nbl, nr, nrl)) = (lent!(o), lent!(n));
+            let ((ib, ibl, ir, irl), (wb, wbl, wr, wrl)) = (lent!(ids), lent!(answer));
+            let number = unsafe {
+                yelomawin_bytes_group(
+                    lists.len() as u64, size as u64, ob, obl, nb, nbl, or, orl, nr, nrl, ir, irl, work.ptr(), work.len(), wr, wrl, ib, ibl, wb, wbl,
+                )
+            };
+            held(spoiled, number, &[&o, &n, &ids, &answer, &work])?;
+            let mut seen = Seen::new(number);
+            seen.lent("ids", Kind::Result, &ids.room);
+            seen.lent("work", Kind::Work, &work);
+            seen.lent("answer", Kind::Answer, &answer.room);
+            Ok(seen)
+        })
+    }
+
+    fn estimate(g: &mut Random, a: &Csr, diagonal: &[f64]) -> Result<Seen, String> {
+        twice(|spoiled| {
+            let mut m = Matrix::new(g, a);
+            let (mut d, mut answer) = (Input::new(g, diagonal), Output::<u64>::new(g, 2));
+            let mut work = Lent::<f64>::roomy(g, 3 * a.rows);
+            spoil(g, spoiled, &mut [&mut m.row_ptr, &mut m.col_idx, &mut m.values, &mut d, &mut answer]);
+            let ((p, pl, pr, prl), (c, cl, cr, crl), (v, vl, vr, vrl)) = (lent!(m.row_ptr), lent!(m.col_idx), lent!(m.values));
+            let ((db, dbl, dr, drl), (wb, wbl, wr, wrl)) = (lent!(d), lent!(answer));
+            let number = unsafe {
+                yelomawin_bytes_estimate(
+                    a.rows as u64, a.cols as u64, p, pl, c, cl, v, vl, db, dbl, pr, prl, cr, crl, vr, vrl, dr, drl,
+                    work.ptr(), work.len(), wr, wrl, wb, wbl,
+                )
+            };
+            held(spoiled, number, &[&m.row_ptr, &m.col_idx, &m.values, &d, &answer, &work])?;
+            let mut seen = Seen::new(number);
+            seen.lent("work", Kind::Work, &work);
+            seen.lent("answer", Kind::Answer, &answer.room);
+            Ok(seen)
+        })
+    }
+
+    fn setup(g: &mut Random, a: &Csr, o: &Options, coarse: usize) -> Result<Seen, String> {
+        two_level::setup(g, a, o, coarse)
+    }
+
+    fn apply(g: &mut Random, record: &[u64], ints: &[u32], floats: &[f64], residual: &[f64]) -> Result<Seen, String> {
+        two_level::apply(g, record, ints, floats, residual)
+    }
 }

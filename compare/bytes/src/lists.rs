@@ -1,65 +1,23 @@
 //! Lists lent to a call on bytes: an input's bytes with typed room for it, a result's typed room with bytes for it.
 //! Every list is longer than asked for by a few elements that must stay as they are.
-use cases::draw::Random;
+use lent::{Item, Lent, Random, odd, pattern};
 
-pub trait Item: Copy + 'static {
-    const WIDTH: usize;
-    fn odd(g: &mut Random) -> Self;
-    /// The pattern; every NaN as 7FF8000000000000.
-    fn pattern(self) -> u64;
-    fn of(pattern: u64) -> Self;
-    /// A pattern that may come in for it: any NaN's for a NaN.
-    fn any(self, _g: &mut Random) -> u64 {
-        self.pattern()
-    }
+/// The bits as they leave the library: every NaN as 7FF8000000000000.
+fn leaving<T: Item>(x: T) -> u64 {
+    if T::FLOAT { pattern(x.bits()) } else { x.bits() }
 }
 
-impl Item for u32 {
-    const WIDTH: usize = 4;
-    fn odd(g: &mut Random) -> u32 {
-        g.next() as u32
-    }
-    fn pattern(self) -> u64 {
-        self as u64
-    }
-    fn of(pattern: u64) -> u32 {
-        pattern as u32
-    }
-}
-
-impl Item for u64 {
-    const WIDTH: usize = 8;
-    fn odd(g: &mut Random) -> u64 {
-        g.next()
-    }
-    fn pattern(self) -> u64 {
-        self
-    }
-    fn of(pattern: u64) -> u64 {
-        pattern
-    }
-}
-
-pub const NAN: u64 = 0x7FF8_0000_0000_0000;
-
-impl Item for f64 {
-    const WIDTH: usize = 8;
-    fn odd(g: &mut Random) -> f64 {
-        g.pick(&[1.5, -0.0, f64::NAN, f64::INFINITY, -3e300, 5e-324])
-    }
-    fn pattern(self) -> u64 {
-        if self.is_nan() { NAN } else { self.to_bits() }
-    }
-    fn of(pattern: u64) -> f64 {
-        f64::from_bits(pattern)
-    }
-    fn any(self, g: &mut Random) -> u64 {
-        if self.is_nan() { g.next() & 0x8000_0000_0000_0000 | 0x7FF0_0000_0000_0001 | g.next() >> 12 } else { self.to_bits() }
+/// Bits that may come in for an element: any NaN's for a NaN.
+fn coming<T: Item>(x: T, g: &mut Random) -> u64 {
+    if T::FLOAT && f64::from_bits(x.bits()).is_nan() {
+        g.next() & 0x8000_0000_0000_0000 | 0x7FF0_0000_0000_0001 | g.next() >> 12
+    } else {
+        x.bits()
     }
 }
 
 fn encoded<T: Item>(list: &[T]) -> Vec<u8> {
-    list.iter().flat_map(|x| x.pattern().to_le_bytes()[..T::WIDTH].to_vec()).collect()
+    list.iter().flat_map(|&x| leaving(x).to_le_bytes()[..T::WIDTH].to_vec()).collect()
 }
 
 fn decoded<T: Item>(bytes: &[u8]) -> Vec<T> {
@@ -67,16 +25,12 @@ fn decoded<T: Item>(bytes: &[u8]) -> Vec<T> {
     bytes.chunks_exact(T::WIDTH).map(|b| T::of(word(b))).collect()
 }
 
-fn same<T: Item>(a: &[T], b: &[T]) -> bool {
-    a.len() == b.len() && a.iter().zip(b).all(|(x, y)| x.pattern() == y.pattern())
-}
-
-fn odd<T: Item>(g: &mut Random, count: usize) -> Vec<T> {
-    (0..count).map(|_| T::odd(g)).collect()
+fn any_bytes(g: &mut Random, count: usize) -> Vec<u8> {
+    odd::<u32>(g, count).iter().map(|&x| (x >> 8) as u8).collect()
 }
 
 /// What is asked of a list after the call, whatever the call answered.
-pub trait Lent {
+pub trait Listed {
     /// Makes the list one that the call must answer with 254.
     fn spoil(&mut self, g: &mut Random);
     fn kept(&self) -> bool;
@@ -86,83 +40,84 @@ pub trait Lent {
 
 pub struct Input<T> {
     pub bytes: Vec<u8>,
-    pub room: Vec<T>,
-    before: Vec<T>,
+    pub room: Lent<T>,
+    bytes_before: Vec<u8>,
 }
 
 impl<T: Item> Input<T> {
     pub fn new(g: &mut Random, list: &[T]) -> Input<T> {
-        let bytes = list.iter().flat_map(|x| x.any(g).to_le_bytes()[..T::WIDTH].to_vec()).collect();
-        let more = g.below(4);
-        let room = odd(g, list.len() + more);
-        Input { bytes, before: room.clone(), room }
+        let bytes: Vec<u8> = list.iter().flat_map(|&x| coming(x, g).to_le_bytes()[..T::WIDTH].to_vec()).collect();
+        Input { bytes_before: bytes.clone(), bytes, room: Lent::roomy(g, list.len()) }
     }
 }
 
-impl<T: Item> Lent for Input<T> {
+impl<T: Item> Listed for Input<T> {
     fn spoil(&mut self, g: &mut Random) {
-        if self.bytes.is_empty() || g.below(2) == 0 {
-            self.bytes.extend(odd::<u64>(g, 1)[0].to_le_bytes()[..1 + g.below(T::WIDTH - 1)].to_vec());
+        if self.bytes.is_empty() || g.one_in(2) {
+            let more = 1 + g.below(T::WIDTH - 1);
+            self.bytes.extend(any_bytes(g, more));
+            self.bytes_before = self.bytes.clone();
         } else {
-            self.room.truncate(self.bytes.len() / T::WIDTH - 1);
-            self.before.truncate(self.room.len());
+            self.room.shorten(self.bytes.len() / T::WIDTH - 1);
         }
     }
     fn kept(&self) -> bool {
-        same(&self.room, &self.before)
+        self.room.kept() && self.bytes == self.bytes_before
     }
     fn carried(&self) -> bool {
-        let front = decoded(&self.bytes);
-        same(&self.room[..front.len()], &front) && same(&self.room[front.len()..], &self.before[front.len()..])
+        let front = decoded::<T>(&self.bytes_before);
+        let read = front.iter().zip(self.room.list()).all(|(&x, &y)| leaving(x) == leaving(y));
+        read && self.room.kept_from(front.len()) && self.bytes == self.bytes_before
     }
 }
 
 pub struct Output<T> {
-    pub room: Vec<T>,
+    pub room: Lent<T>,
     pub bytes: Vec<u8>,
-    before: Vec<T>,
     bytes_before: Vec<u8>,
 }
 
 impl<T: Item> Output<T> {
     /// With room for `need` elements and a few more.
     pub fn new(g: &mut Random, need: usize) -> Output<T> {
-        let more = g.below(4);
-        Output::exact(g, need + more)
+        Output::over(Lent::roomy(g, need), g)
     }
     pub fn exact(g: &mut Random, count: usize) -> Output<T> {
-        let room: Vec<T> = odd(g, count);
+        Output::over(Lent::new(g, count), g)
+    }
+    fn over(room: Lent<T>, g: &mut Random) -> Output<T> {
         let more = g.below(12);
-        let bytes: Vec<u8> = odd::<u32>(g, count * T::WIDTH + more).iter().map(|&x| x as u8).collect();
-        Output { before: room.clone(), bytes_before: bytes.clone(), room, bytes }
-    }
-    /// The elements that the bytes spell, as many as the room has.
-    pub fn told(&self) -> Vec<T> {
-        decoded(&self.bytes[..self.bytes.len().min(self.room.len() * T::WIDTH)])
-    }
-    /// The typed list after a refusal: all kept, or zero where a block or the coarse part was begun.
-    pub fn refused(&self, number: u64) -> bool {
-        if (14..=24).contains(&number) { self.room.iter().all(|x| x.pattern() == 0) } else { same(&self.room, &self.before) }
-    }
-    pub fn unchanged(&self) -> bool {
-        same(&self.room, &self.before)
+        let bytes = any_bytes(g, room.len() * T::WIDTH + more);
+        Output { room, bytes_before: bytes.clone(), bytes }
     }
 }
 
-impl<T: Item> Lent for Output<T> {
+impl<T: Item> Listed for Output<T> {
     fn spoil(&mut self, g: &mut Random) {
         if self.room.is_empty() {
-            self.room = odd(g, 1);
-            self.before = self.room.clone();
+            self.room = Lent::new(g, 1);
         }
         self.bytes.truncate(self.room.len() * T::WIDTH - 1);
         self.bytes_before.truncate(self.bytes.len());
     }
     fn kept(&self) -> bool {
-        same(&self.room, &self.before) && self.bytes == self.bytes_before
+        self.room.kept() && self.bytes == self.bytes_before
     }
     fn carried(&self) -> bool {
-        let front = encoded(&self.room);
+        let front = encoded(self.room.list());
         self.bytes[..front.len()] == front && self.bytes[front.len()..] == self.bytes_before[front.len()..]
+    }
+}
+
+/// A work list is room alone.
+impl<T: Item> Listed for Lent<T> {
+    fn spoil(&mut self, _: &mut Random) {
+        unreachable!("no byte list, so none that does not fit")
+    }
+    fn kept(&self) -> bool {
+        Lent::kept(self)
+    }
+    fn carried(&self) -> bool {
+        true
     }
 }

@@ -82,14 +82,15 @@ fn answered(case: &Case) -> Result<Answer, HybitError> {
             Answer::Estimate { rho, damping }
         }
         Case::TwoLevel { a, options, residuals } => {
-            let p = setup(&matrix(a)?, options)?;
+            let m = matrix(a)?;
+            let p = setup(&m, options)?;
             let mut corrected = Vec::new();
             for r in residuals {
                 let mut z = vec![0.0; r.len()];
                 p.apply(r, &mut z)?;
                 corrected.push(z);
             }
-            Answer::TwoLevel(Box::new(probe::kept(&p)), corrected)
+            Answer::TwoLevel(Box::new(probe::kept(&p, &m)), corrected)
         }
     })
 }

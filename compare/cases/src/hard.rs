@@ -5,8 +5,7 @@ use hybit_precond::probe;
 
 type Rows = Vec<Vec<(u32, f64)>>;
 
-/// What a seed plants.
-pub const KINDS: [&str; 10] = [
+const KINDS: [&str; 10] = [
     "weight that is NaN",
     "coarse matrix of NaN alone",
     "block pivot at the tolerance",
@@ -18,6 +17,11 @@ pub const KINDS: [&str; 10] = [
     "diagonal entry of 1.7e308",
     "three rounds of joining",
 ];
+
+/// What a seed plants.
+pub fn planted(seed: u64) -> &'static str {
+    KINDS[(seed % KINDS.len() as u64) as usize]
+}
 
 pub fn hard(seed: u64) -> Case {
     let g = &mut Random(seed.wrapping_mul(0x2545_F491_4F6C_DD1D));

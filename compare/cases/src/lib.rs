@@ -1,11 +1,15 @@
-//! Cases for the comparison with the Rust: how they are drawn, what the Rust answers, and how both are written down.
+//! Cases for the comparison with the Rust: how they are drawn, what the Rust answers, what the library must answer by that, and how a case
+//! and its answer are written down.
 pub mod answers;
+pub mod compare;
 pub mod draw;
 pub mod examples;
+pub mod expected;
 pub mod hard;
 pub mod refusal;
 pub mod run;
 pub mod shrink;
+pub mod spoiled;
 pub mod text;
 
 /// A sparse matrix in compressed rows, possibly a contradictory one.
@@ -20,15 +24,8 @@ pub struct Csr {
 
 impl Csr {
     pub fn from_rows(cols: usize, rows: &[Vec<(u32, f64)>]) -> Csr {
-        let mut m = Csr { rows: rows.len(), cols, row_ptr: vec![0], col_idx: Vec::new(), values: Vec::new() };
-        for row in rows {
-            for &(c, v) in row {
-                m.col_idx.push(c);
-                m.values.push(v);
-            }
-            m.row_ptr.push(m.values.len() as u32);
-        }
-        m
+        let (row_ptr, entries) = lent::flat(rows);
+        Csr { rows: rows.len(), cols, row_ptr, col_idx: entries.iter().map(|e| e.0).collect(), values: entries.iter().map(|e| e.1).collect() }
     }
 }
 

@@ -3,10 +3,6 @@ use crate::answers::Answer;
 use crate::{Case, Csr};
 use std::fmt::Write;
 
-pub fn bits(x: f64) -> u64 {
-    if x.is_nan() { 0x7FF8_0000_0000_0000 } else { x.to_bits() }
-}
-
 fn ints<T: std::fmt::Display>(out: &mut String, name: &str, xs: impl IntoIterator<Item = T>) {
     write!(out, "{name}").unwrap();
     for x in xs {
@@ -18,7 +14,7 @@ fn ints<T: std::fmt::Display>(out: &mut String, name: &str, xs: impl IntoIterato
 fn floats(out: &mut String, name: &str, xs: &[f64]) {
     write!(out, "{name}").unwrap();
     for &x in xs {
-        write!(out, " {:016X}", bits(x)).unwrap();
+        write!(out, " {:016X}", lent::pattern(x.to_bits())).unwrap();
     }
     out.push('\n');
 }
@@ -53,14 +49,9 @@ pub fn write(name: &str, case: &Case, answer: &Answer) -> String {
         }
         Case::Group { lists, size } => {
             ints(o, "size", [*size]);
-            let mut at = 0;
-            let mut offsets = vec![0];
-            for l in lists {
-                at += l.len();
-                offsets.push(at);
-            }
+            let (offsets, neighbours) = lent::flat(lists);
             ints(o, "offsets", offsets);
-            ints(o, "neighbours", lists.iter().flatten());
+            ints(o, "neighbours", neighbours);
         }
         Case::Estimate { a, diagonal } => {
             matrix(o, a);

@@ -46,6 +46,40 @@ pub fn galerkin(matrix: &Csr32Matrix, t: &Transfer, coarse: usize) -> Result<Vec
     build_galerkin_coarse_from_transfer(matrix, &t.row_ptr, &t.col_idx, &t.values, coarse)
 }
 
+/// A coarse matrix averaged with its transpose.
+pub fn average(coarse: &mut [f64], c: usize) {
+    for i in 0..c {
+        for j in 0..i {
+            let mean = 0.5 * (coarse[i * c + j] + coarse[j * c + i]);
+            coarse[i * c + j] = mean;
+            coarse[j * c + i] = mean;
+        }
+    }
+}
+
+/// The averaged coarse matrix of a setup, formed anew: the source keeps only its factor or inverse.
+pub fn coarse(p: &TwoLevelBlockJacobiPreconditioner, matrix: &Csr32Matrix) -> Vec<f64> {
+    let c = p.coarse_dimension;
+    let mut coarse = match (&p.transfer_indices, &p.transfer_values) {
+        (SmoothedTransferIndices::Empty, _) => {
+            let column = |i: usize| piecewise_coarse_index(i, p.dofs_per_node, p.aggregate_nodes, &p.aggregate_of_node);
+            let mut coarse = vec![0.0; c * c];
+            for row in 0..p.n {
+                for q in matrix.row_ptr()[row] as usize..matrix.row_ptr()[row + 1] as usize {
+                    coarse[column(row) * c + column(matrix.col_idx()[q] as usize)] += matrix.values()[q];
+                }
+            }
+            coarse
+        }
+        (SmoothedTransferIndices::Wide { row_ptr, col_idx }, SmoothedTransferValues::F64(values)) => {
+            build_galerkin_coarse_from_transfer(matrix, row_ptr, col_idx, values, c).expect("the transfer of an accepted setup")
+        }
+        _ => unreachable!("setups are asked for with wide indices and 64 bits"),
+    };
+    average(&mut coarse, c);
+    coarse
+}
+
 /// What a setup keeps, in the layout of document 01's setup lists.
 pub struct Kept {
     pub groups: usize,
@@ -57,10 +91,19 @@ pub struct Kept {
     pub weights: Vec<f64>,
     pub coarse_part: Vec<f64>,
     pub damping: f64,
+    /// The coarse matrix's largest magnitude, NaN passed over.
+    pub scale: f64,
     pub inverse: bool,
 }
 
-pub fn kept(p: &TwoLevelBlockJacobiPreconditioner) -> Kept {
+impl Kept {
+    /// 01's setup integers and setup floats, as far as they are used.
+    pub fn lists(&self) -> (Vec<u32>, Vec<f64>) {
+        ([&self.ids[..], &self.transfer_ptr, &self.transfer_idx].concat(), [&self.factors[..], &self.weights, &self.coarse_part].concat())
+    }
+}
+
+pub fn kept(p: &TwoLevelBlockJacobiPreconditioner, matrix: &Csr32Matrix) -> Kept {
     let nodes = p.n / p.dofs_per_node;
     let ids = if p.aggregate_of_node.is_empty() {
         (0..nodes).map(|v| (v / p.aggregate_nodes) as u32).collect()
@@ -92,6 +135,7 @@ pub fn kept(p: &TwoLevelBlockJacobiPreconditioner) -> Kept {
         weights,
         coarse_part: if inverse { p.coarse_inverse.clone() } else { p.coarse_lower_packed.clone() },
         damping: p.smoothing_omega,
+        scale: coarse(p, matrix).iter().fold(0.0, |s, v| s.max(v.abs())),
         inverse,
     }
 }
