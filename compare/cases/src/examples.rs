@@ -39,11 +39,37 @@ fn two(a: Csr, group: usize, aggregation: u8, basis: u8, residuals: &[&[f64]]) -
     }
 }
 
+/// A line that an answer must have: the whole of it, or the numbers that it begins with where 01 says no more.
+pub enum Line {
+    Is(String),
+    Begins(String),
+}
+
+impl Line {
+    pub fn met(&self, line: &str) -> bool {
+        match self {
+            Line::Is(all) => line == all,
+            Line::Begins(front) => line.strip_prefix(&front[..]).is_some_and(|rest| rest.is_empty() || rest.starts_with(' ')),
+        }
+    }
+}
+
+impl std::fmt::Display for Line {
+    fn fmt(&self, f: &mut std::fmt::Formatter) -> std::fmt::Result {
+        match self {
+            Line::Is(all) => write!(f, "'{all}'"),
+            Line::Begins(front) => write!(f, "'{front} …'"),
+        }
+    }
+}
+
 /// The name, the case, and the lines that its answer must have.
-pub fn all() -> Vec<(&'static str, Case, Vec<String>)> {
+pub fn all() -> Vec<(&'static str, Case, Vec<Line>)> {
     let hex = |xs: &[f64]| xs.iter().map(|x| format!(" {:016X}", x.to_bits())).collect::<String>();
-    let ids = |xs: &[u32]| format!("ids{}", xs.iter().map(|x| format!(" {x}")).collect::<String>());
-    let corrected = |xs: &[f64]| format!("corrected{}", hex(xs));
+    let line = |text: &str| Line::Is(text.into());
+    let ids = |xs: &[u32]| Line::Is(format!("ids{}", xs.iter().map(|x| format!(" {x}")).collect::<String>()));
+    let factors = |xs: &[f64]| Line::Is(format!("factors{}", hex(xs)));
+    let corrected = |xs: &[f64]| Line::Is(format!("corrected{}", hex(xs)));
     let mut fifteen = path(0, 8);
     fifteen.extend(path(8, 7));
     let with = |base: &[Vec<u32>], more: &[&[u32]]| {
@@ -75,20 +101,20 @@ pub fn all() -> Vec<(&'static str, Case, Vec<String>)> {
             group(vec![vec![0], vec![2], vec![], vec![0], vec![], vec![4, 3, 1]], 20),
             vec![ids(&[0; 6])],
         ),
-        ("root_of_2", root(2.0), vec!["result 3FF6A09E667F3BCD".into()]),
-        ("root_of_the_smallest", Case::Root { bits: 1 }, vec!["result 1E60000000000000".into()]),
-        ("root_of_the_largest", root(f64::MAX), vec!["result 5FEFFFFFFFFFFFFF".into()]),
+        ("root_of_2", root(2.0), vec![line("result 3FF6A09E667F3BCD")]),
+        ("root_of_the_smallest", Case::Root { bits: 1 }, vec![line("result 1E60000000000000")]),
+        ("root_of_the_largest", root(f64::MAX), vec![line("result 5FEFFFFFFFFFFFFF")]),
         (
             "block_4_2_2_5",
             Case::Blocks { a: full(&[&[4.0, 2.0], &[2.0, 5.0]]), block: 2, residual: vec![8.0, 10.0] },
-            vec![format!("factors{}", hex(&[2.0, 0.0, 1.0, 2.0])), corrected(&[1.25, 1.5])],
+            vec![factors(&[2.0, 0.0, 1.0, 2.0]), corrected(&[1.25, 1.5])],
         ),
-        ("pivot_at_the_tolerance", small(1e-14), vec!["refused 15".into()]),
-        ("pivot_above_the_tolerance", small(2e-14), vec![format!("factors{}", hex(&[2e-14f64.sqrt()]))]),
+        ("pivot_at_the_tolerance", small(1e-14), vec![line("refused 15")]),
+        ("pivot_above_the_tolerance", small(2e-14), vec![factors(&[2e-14f64.sqrt()])]),
         (
             "difference_at_the_tolerance",
             Case::Blocks { a: full(&[&[1.0, 1e-11], &[0.0, 1.0]]), block: 2, residual: vec![1.0, 1.0] },
-            vec![format!("factors{}", hex(&[1.0, 0.0, 0.0, 1.0]))],
+            vec![factors(&[1.0, 0.0, 0.0, 1.0])],
         ),
         (
             "overflow_by_duplicates",
@@ -97,7 +123,7 @@ pub fn all() -> Vec<(&'static str, Case, Vec<String>)> {
                 block: 2,
                 residual: vec![1.0, 1.0],
             },
-            vec!["refused 15".into()],
+            vec![line("refused 15")],
         ),
         (
             "contiguous_16_14",
@@ -113,11 +139,11 @@ pub fn all() -> Vec<(&'static str, Case, Vec<String>)> {
         (
             "contiguous_mixes_more",
             two(diag(&[16.0, 9.0]), 2, 0, 0, &[&[16.0, 34.0]]),
-            vec![format!("corrected{}", hex(&[3.0]))],
+            vec![Line::Begins(format!("corrected{}", hex(&[3.0])))],
         ),
-        ("no_row_contiguous", two(diag(&[]), 1, 0, 0, &[&[]]), vec!["refused 23".into()]),
-        ("no_row_smoothed", two(diag(&[]), 1, 0, 1, &[&[]]), vec!["refused 22 1".into()]),
-        ("no_row_graph", two(diag(&[]), 1, 1, 0, &[&[]]), vec!["refused 16".into()]),
-        ("no_row_strong_graph", two(diag(&[]), 1, 2, 1, &[&[]]), vec!["refused 16".into()]),
+        ("no_row_contiguous", two(diag(&[]), 1, 0, 0, &[&[]]), vec![line("refused 23")]),
+        ("no_row_smoothed", two(diag(&[]), 1, 0, 1, &[&[]]), vec![line("refused 22 1")]),
+        ("no_row_graph", two(diag(&[]), 1, 1, 0, &[&[]]), vec![line("refused 16")]),
+        ("no_row_strong_graph", two(diag(&[]), 1, 2, 1, &[&[]]), vec![line("refused 16")]),
     ]
 }

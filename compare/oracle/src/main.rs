@@ -1,6 +1,6 @@
 //! What the Rust answers, as text: `oracle examples` runs document 01's examples and says whether each came out as 01 says;
 //! `oracle draw FIRST COUNT MOST` writes COUNT random cases from the seed FIRST on, with at most MOST rows or nodes, and their answers.
-use cases::{answers, draw, examples, text};
+use cases::{answers, draw, examples, run, text};
 
 fn main() {
     let args: Vec<String> = std::env::args().skip(1).collect();
@@ -11,7 +11,7 @@ fn main() {
                 let written = text::write(name, &case, &answers::answer(&case));
                 print!("{written}");
                 for line in expected {
-                    if !written.lines().any(|l| l.starts_with(&line)) {
+                    if !written.lines().any(|l| line.met(l)) {
                         eprintln!("{name}: expected {line}");
                         wrong += 1;
                     }
@@ -23,7 +23,7 @@ fn main() {
             let first: u64 = first.parse().expect("a seed");
             let count: u64 = count.parse().expect("a count");
             let most: usize = most.parse().expect("a size");
-            for seed in first..first + count {
+            for seed in run::seeds(first, count) {
                 let case = draw::any(seed, most);
                 print!("{}", text::write(&seed.to_string(), &case, &answers::answer(&case)));
             }
