@@ -1,27 +1,6 @@
 //! Random matrices of several free-standing parts, their node numbers interleaved, and residuals that agree on some of the parts.
-pub use random::Random;
-use yelomawin::{Aggregation, Basis, CoarsePolicy, Options};
-
-pub struct Case {
-    pub block: usize,
-    pub part: Vec<usize>,
-    pub row_ptr: Vec<u32>,
-    pub col_idx: Vec<u32>,
-    pub values: Vec<f64>,
-    pub options: Options,
-    /// Whether a part is one of those whose residuals agree.
-    pub kept: Vec<bool>,
-    pub residuals: [Vec<f64>; 2],
-}
-
-impl Case {
-    pub fn rows(&self) -> usize {
-        self.part.len() * self.block
-    }
-    pub fn keeps(&self, row: usize) -> bool {
-        self.kept[self.part[row / self.block]]
-    }
-}
+use cases::draw::Random;
+use cases::{Case, Csr, Options};
 
 /// A link between two nodes: whole numbers, fractions or powers of two.
 fn number(g: &mut Random, kind: usize) -> f64 {
@@ -111,26 +90,13 @@ pub fn case(seed: u64, most: usize) -> Case {
     kept[one] = true;
     kept[(one + 1) % parts] = false;
     let rows = entries(g, &part, block);
-    let mut row_ptr = vec![0];
-    for r in &rows {
-        row_ptr.push(row_ptr.last().unwrap() + r.len() as u32);
-    }
-    let residuals = residuals(g, nodes * block, |i| kept[part[i / block]]);
+    let residuals = residuals(g, nodes * block, |i| kept[part[i / block]]).into();
     let options = Options {
-        block_size: block,
-        group_size: 1 + g.below(8),
-        aggregation: [Aggregation::Graph, Aggregation::StrongGraph][g.below(2)],
-        basis: [Basis::PiecewiseConstant, Basis::JacobiSmoothed][g.below(2)],
-        coarse_policy: [CoarsePolicy::FactorSolve, CoarsePolicy::ExplicitInverse][g.below(2)],
-    };
-    Case {
         block,
-        col_idx: rows.iter().flatten().map(|e| e.0).collect(),
-        values: rows.iter().flatten().map(|e| e.1).collect(),
-        part,
-        row_ptr,
-        options,
-        kept,
-        residuals,
-    }
+        group: 1 + g.below(8),
+        aggregation: 1 + g.below(2) as u8,
+        basis: g.below(2) as u8,
+        policy: 1 + g.below(2) as u8,
+    };
+    Case::TwoLevel { a: Csr::from_rows(rows.len(), &rows), options, residuals }
 }

@@ -2,11 +2,13 @@
 //! setup of each under Graph or StrongGraph, and applies it to two residuals that agree on some parts, zeros of either sign, and differ on
 //! the others. The corrections must be equal numbers on every row of the parts that agree. The numbers are drawn so small that every
 //! number formed is finite; what is handed out is looked at. The same matrices under Contiguous are the control: there parts must be seen to mix.
+//! The first case in which a part moved is shrunk and printed.
 mod draw;
+mod parts;
 
-use draw::Case;
+use cases::{Case, Csr, Options, answers, run, shrink, text};
 use std::collections::BTreeMap;
-use yelomawin::{Aggregation, Matrix, Options, Refusal, Setup};
+use yelomawin::{Aggregation, Basis, CoarsePolicy, Matrix, Setup};
 
 /// What two applies of one setup did.
 #[derive(Default)]
@@ -17,22 +19,35 @@ struct Moved {
     signs: usize,
     /// Rows of the other parts that have another number.
     elsewhere: usize,
+    /// Whether every number handed out is finite.
+    finite: bool,
 }
 
-fn moved(case: &Case, options: &Options) -> Result<Moved, Refusal> {
-    let n = case.rows();
-    let a = Matrix { rows: n, cols: n, row_ptr: &case.row_ptr, col_idx: &case.col_idx, values: &case.values };
-    let mut setup = Setup::build(&a, options)?;
+fn asked(o: &Options) -> yelomawin::Options {
+    yelomawin::Options {
+        block_size: o.block,
+        group_size: o.group,
+        aggregation: [Aggregation::Contiguous, Aggregation::Graph, Aggregation::StrongGraph][o.aggregation as usize],
+        basis: [Basis::PiecewiseConstant, Basis::JacobiSmoothed][o.basis as usize],
+        coarse_policy: [CoarsePolicy::Auto, CoarsePolicy::FactorSolve, CoarsePolicy::ExplicitInverse][o.policy as usize],
+    }
+}
+
+/// The number of the refusal where the setup is refused.
+fn moved(a: &Csr, o: &Options, residuals: &[Vec<f64>]) -> Result<Moved, u64> {
+    let n = a.rows;
+    let lent = Matrix { rows: n, cols: a.cols, row_ptr: &a.row_ptr, col_idx: &a.col_idx, values: &a.values };
+    let mut setup = Setup::build(&lent, &asked(o)).map_err(|r| r.number())?;
     let mut z = [vec![0.0; n], vec![0.0; n]];
     for k in 0..2 {
-        setup.apply(&case.residuals[k], &mut z[k])?;
+        setup.apply(&residuals[k], &mut z[k]).map_err(|r| r.number())?;
     }
+    let agrees = parts::agreeing(&parts::parts(a, o.block), o.block, &residuals[0], &residuals[1]);
     let finite = |list: &[f64]| list.iter().all(|x| x.is_finite());
-    assert!(finite(setup.lists().1) && finite(&z[0]) && finite(&z[1]), "a number that is not finite: the ranges drawn from are too wide");
-    let mut m = Moved::default();
+    let mut m = Moved { finite: finite(setup.lists().1) && finite(&z[0]) && finite(&z[1]), ..Moved::default() };
     for i in 0..n {
         let (x, y) = (z[0][i], z[1][i]);
-        if case.keeps(i) {
+        if agrees[i] {
             m.kept += 1;
             m.signs += (x == y && x.to_bits() != y.to_bits()) as usize;
             if x != y {
@@ -45,35 +60,35 @@ fn moved(case: &Case, options: &Options) -> Result<Moved, Refusal> {
     Ok(m)
 }
 
-fn print(case: &Case, options: &Options) {
-    println!("{options:?}");
-    println!("part of each node {:?}", case.part);
-    println!("row_ptr {:?}\ncol_idx {:?}\nvalues {:?}", case.row_ptr, case.col_idx, case.values);
-    println!("residuals {:?}\nand {:?}", case.residuals[0], case.residuals[1]);
+/// Whether a part moved that must not, in a case that meets demand 3's premises.
+fn mixes(case: &Case) -> bool {
+    let Case::TwoLevel { a, options, residuals } = case else { unreachable!("only such cases are drawn") };
+    options.aggregation > 0 && residuals.len() == 2 && moved(a, options, residuals).is_ok_and(|m| m.finite && !m.wrong.is_empty())
 }
 
 fn main() {
     let args: Vec<String> = std::env::args().skip(1).collect();
-    let [seed, count, most] = &args[..] else {
+    let numbers: Vec<u64> = args.iter().filter_map(|s| s.parse().ok()).collect();
+    let [seed, count, most] = numbers[..] else {
         eprintln!("usage: separation SEED COUNT MOST");
         std::process::exit(2);
     };
-    let seed: u64 = seed.parse().expect("a seed");
-    let count: u64 = count.parse().expect("a count");
-    let most: usize = most.parse().expect("a number of nodes");
     // By aggregation, basis, policy and block size: setups accepted.
     let mut accepted = BTreeMap::<String, u64>::new();
     let mut refused = BTreeMap::<u64, u64>::new();
     let (mut rows, mut signs, mut elsewhere) = (0, 0, 0);
     let (mut control, mut mixed) = (0, BTreeMap::<String, u64>::new());
-    for s in seed..seed.wrapping_add(count) {
-        let case = draw::case(s, most);
-        let o = case.options;
-        match moved(&case, &o) {
+    for s in run::seeds(seed, count) {
+        let case = draw::case(s, most as usize);
+        let Case::TwoLevel { a, options, residuals } = &case else { unreachable!("only such cases are drawn") };
+        let o = asked(options);
+        match moved(a, options, residuals) {
             Ok(m) => {
+                assert!(m.finite, "seed {s}: a number that is not finite: the ranges drawn from are too wide");
                 if let Some(i) = m.wrong.first() {
-                    println!("seed {s}: row {i} of an untouched part moved");
-                    print(&case, &o);
+                    println!("separation, seed {s}: row {i} of an untouched part moved; made smaller:");
+                    let small = shrink::shrink(case, mixes);
+                    print!("{}", text::write(&s.to_string(), &small, &answers::answer(&small)));
                     std::process::exit(1);
                 }
                 *accepted.entry(format!("{:?}, {:?}, {:?}, block size {}", o.aggregation, o.basis, o.coarse_policy, o.block_size)).or_default() += 1;
@@ -81,10 +96,10 @@ fn main() {
                 signs += m.signs;
                 elsewhere += m.elsewhere;
             }
-            Err(r) => *refused.entry(r.number()).or_default() += 1,
+            Err(number) => *refused.entry(number).or_default() += 1,
         }
-        let contiguous = Options { aggregation: Aggregation::Contiguous, ..o };
-        if let Ok(m) = moved(&case, &contiguous) {
+        if let Ok(m) = moved(a, &Options { aggregation: 0, ..*options }, residuals) {
+            assert!(m.finite, "seed {s}: a number that is not finite: the ranges drawn from are too wide");
             control += 1;
             *mixed.entry(format!("{:?}, {:?}", o.basis, o.coarse_policy)).or_default() += !m.wrong.is_empty() as u64;
         }
