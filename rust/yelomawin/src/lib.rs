@@ -32,12 +32,14 @@
 mod blocks;
 pub mod ffi;
 mod grouping;
+mod lengths;
 mod matrix;
 mod refusal;
 mod setup;
 
 pub use blocks::BlockJacobi;
 pub use grouping::{group, group_in};
+pub use lengths::{Lengths, lengths};
 pub use matrix::{Estimate, Matrix};
 pub use refusal::Refusal;
 pub use setup::{Aggregation, Basis, CoarsePolicy, Options, RECORD, Setup, Workspace};

@@ -1,6 +1,6 @@
 //! The two-level preconditioner: setup and apply.
 use crate::refusal::{Refusal, answered};
-use crate::{MOST_BLOCK, MOST_COARSE, MOST_ENTRIES, MOST_ROWS, Matrix, ffi, room};
+use crate::{MOST_BLOCK, MOST_ROWS, Matrix, ffi, lengths, room};
 use std::mem::take;
 
 /// How nodes are grouped.
@@ -212,13 +212,11 @@ fn likely_coarse(a: &Matrix, o: &Options) -> usize {
 
 /// One call of the library, with lists of the lengths that it asks for and room for a coarse dimension.
 fn build_with(a: &Matrix, o: &Options, w: &mut Workspace, coarse: usize) -> Result<[u64; RECORD], Refusal> {
-    // Larger numbers are refused before any list is looked at: cut down, no product can overflow.
-    let (n, e, b) = (a.rows.min(MOST_ROWS), a.values.len().min(MOST_ENTRIES), o.block_size.min(MOST_BLOCK));
-    let (nodes, c) = (n / b.max(1), coarse.min(MOST_COARSE));
-    let setup_ints = room(&mut w.setup_ints, nodes + 2 * n + e + 1);
-    let setup_floats = room(&mut w.setup_floats, n * b + n + e + c * c);
-    let work_ints = room(&mut w.ints, 8 * n + 4 * e + 16 + 4 * c);
-    let work_floats = room(&mut w.floats, 8 * n + 2 * e + c * c + 4 * c);
+    let l = lengths(a.rows, a.values.len(), o.block_size, coarse);
+    let setup_ints = room(&mut w.setup_ints, l.setup_ints);
+    let setup_floats = room(&mut w.setup_floats, l.setup_floats);
+    let work_ints = room(&mut w.ints, l.work_ints);
+    let work_floats = room(&mut w.floats, l.work_floats);
     let mut record = [0; RECORD];
     // Sound: every list is lent as a Rust slice with its length; those for writing are borrowed for this call alone.
     let number = unsafe {

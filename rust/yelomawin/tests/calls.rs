@@ -94,6 +94,42 @@ fn setups_and_their_applies() {
     assert_eq!(y, [2.0, 2.0]);
 }
 
+/// What a setup of diag(16, 4) answers to lists of these lengths.
+fn setup_in(l: Lengths) -> u64 {
+    let (a, o) = (diag(), options());
+    let (mut setup_ints, mut work_ints) = (vec![0; l.setup_ints], vec![0; l.work_ints]);
+    let (mut setup_floats, mut work_floats) = (vec![0.0; l.setup_floats], vec![0.0; l.work_floats]);
+    let mut record = [0; RECORD];
+    // Sound: every list is lent with its length.
+    unsafe {
+        ffi::yelomawin_setup(
+            a.rows as u64, a.cols as u64,
+            a.row_ptr.as_ptr(), a.row_ptr.len(), a.col_idx.as_ptr(), a.col_idx.len(), a.values.as_ptr(), a.values.len(),
+            o.block_size as u64, o.group_size as u64, o.aggregation as u64, o.basis as u64, o.coarse_policy as u64,
+            setup_ints.as_mut_ptr(), setup_ints.len(), setup_floats.as_mut_ptr(), setup_floats.len(),
+            work_ints.as_mut_ptr(), work_ints.len(), work_floats.as_mut_ptr(), work_floats.len(),
+            record.as_mut_ptr(), record.len(),
+        )
+    }
+}
+
+#[test]
+fn lengths_are_those_below_which_a_setup_refuses() {
+    let shorter = |l: Lengths| {
+        [
+            Lengths { setup_ints: l.setup_ints - 1, ..l },
+            Lengths { setup_floats: l.setup_floats - 1, ..l },
+            Lengths { work_ints: l.work_ints - 1, ..l },
+            Lengths { work_floats: l.work_floats - 1, ..l },
+        ]
+    };
+    let (least, whole) = (lengths(2, 2, 1, 0), lengths(2, 2, 1, 2));
+    assert_eq!((setup_in(least), shorter(least).map(setup_in)), (18, [13; 4]));
+    assert_eq!((setup_in(whole), shorter(whole).map(setup_in)), (0, [13, 18, 18, 18]));
+    let most = lengths(usize::MAX, usize::MAX, usize::MAX, usize::MAX);
+    assert_eq!(most, lengths(MOST_ROWS, MOST_ENTRIES, MOST_BLOCK, MOST_COARSE));
+}
+
 #[test]
 fn more_groups_than_likely() {
     // 100 nodes that nothing links: each is a group, though groups of 10 are asked for.
