@@ -1,5 +1,6 @@
 //! The library's functions as C sees them (include/yelomawin.h). Each is total: it refuses whatever it cannot take, whatever the lists hold.
-//! A list is a pointer and then a length; no two lists of a call overlap.
+//! A list is a pointer and then a length. The pointer is aligned for its elements and not null, even to none; a list lent for writing
+//! overlaps no other list of the call.
 unsafe extern "C" {
     pub fn yelomawin_root(x: f64) -> f64;
     pub fn yelomawin_validate(
