@@ -1,4 +1,5 @@
 //! A warehouse of free-standing rows: its setup in figures, and what a new load on one row does to the others.
+mod csr;
 mod job;
 mod market;
 mod parts;
@@ -39,6 +40,7 @@ fn run() -> Result<(), String> {
     if let Some(f) = &job.groups {
         report::groups(f, &setup, &parts).map_err(|e| format!("{f}: {e}"))?;
     }
+    progress.stage("checking that the matrix is symmetric");
     if let Some(where_) = a.asymmetry() {
         return Err(format!("{}: conjugate gradients need a symmetric matrix, and {where_} (rows and columns from 1)", job.file));
     }

@@ -1,15 +1,7 @@
 //! Matrices and load vectors from files in Matrix Market format. Every message names the file, the line, and what was expected there.
+use crate::csr::Csr;
 use crate::progress::Progress;
 use yelomawin::{MOST_ENTRIES, MOST_ROWS};
-
-/// A square matrix in compressed rows, columns ascending.
-#[derive(Debug)]
-pub struct Csr {
-    pub rows: usize,
-    pub row_ptr: Vec<u32>,
-    pub col_idx: Vec<u32>,
-    pub values: Vec<f64>,
-}
 
 /// A file's text, with its name for the messages.
 pub struct File {
@@ -56,9 +48,16 @@ impl Line<'_> {
 
 impl File {
     pub fn read(name: &str) -> Result<File, String> {
-        let bytes = std::fs::read(name).map_err(|e| format!("{name}: {e}"))?;
-        let text = String::from_utf8(bytes).map_err(|_| format!("{name}: expected a text file in Matrix Market format, found other bytes"))?;
-        Ok(File { name: name.into(), text })
+        std::fs::read(name).map(|bytes| File::of(name, bytes)).map_err(|e| format!("{name}: {e}"))
+    }
+
+    /// A comment may be in another encoding than UTF-8, and a byte-order mark may stand first.
+    fn of(name: &str, mut bytes: Vec<u8>) -> File {
+        if bytes.starts_with("\u{feff}".as_bytes()) {
+            bytes.drain(..3);
+        }
+        let text = String::from_utf8(bytes).unwrap_or_else(|e| String::from_utf8_lossy(e.as_bytes()).into_owned());
+        File { name: name.into(), text }
     }
 
     /// The lines that hold something besides a comment, in order.
@@ -94,6 +93,11 @@ impl File {
 
     /// A square matrix in coordinate format, real or integer, general or symmetric; a symmetric one stores its lower half.
     pub fn matrix(&self, progress: &Progress) -> Result<Csr, String> {
+        self.matrix_of(MOST_ENTRIES, progress)
+    }
+
+    /// The same with at most so many entries, mirror images counted.
+    fn matrix_of(&self, most: usize, progress: &Progress) -> Result<Csr, String> {
         let symmetric = self.symmetric()?;
         let mut lines = self.lines();
         let mut sizes = lines.next().ok_or_else(|| format!("{}: expected a line with rows, columns and entries; the file ends", self.name))?;
@@ -104,10 +108,14 @@ impl File {
         if rows != cols {
             return sizes.bad(format_args!("expected a square matrix, found {rows} rows and {cols} columns"));
         }
-        if rows > MOST_ROWS || count > MOST_ENTRIES {
-            return sizes.bad(format_args!("expected at most {MOST_ROWS} rows and {MOST_ENTRIES} entries, found {rows} and {count}"));
+        if rows == 0 {
+            return sizes.bad("expected at least one row, found 0");
         }
-        let mut entries: Vec<(u32, u32, f64)> = Vec::with_capacity(count.min(self.text.len()));
+        if rows > MOST_ROWS || count > most {
+            return sizes.bad(format_args!("expected at most {MOST_ROWS} rows and {most} entries, found {rows} and {count}"));
+        }
+        // A count may be wrong, but no line of an entry is shorter than six bytes.
+        let mut entries = Vec::with_capacity(count.min(self.text.len() / 6) * if symmetric { 2 } else { 1 });
         let mut seen = 0;
         for mut line in lines {
             let (i, j) = (line.count("a row")?, line.count("a column")?);
@@ -127,12 +135,16 @@ impl File {
             if symmetric && i != j {
                 entries.push((j as u32 - 1, i as u32 - 1, x));
             }
+            if entries.len() > most {
+                return line.bad(format_args!("expected at most {most} entries, each off the diagonal of a symmetric file counted twice, and found more"));
+            }
             progress.at(|| format!("reading {}: {seen} of {count} entries", self.name));
         }
         if seen != count {
             return Err(format!("{}: expected {count} entries, as the line with the sizes says, found {seen}", self.name));
         }
-        Ok(compressed(rows, entries))
+        progress.stage(&format!("sorting the {} entries of {}", entries.len(), self.name));
+        Ok(Csr::new(rows, entries))
     }
 
     /// A load vector: one number a line, or Matrix Market's array format with one column.
@@ -145,6 +157,7 @@ impl File {
             }
             let mut sizes = lines.next().ok_or_else(|| format!("{}: expected a line with rows and columns; the file ends", self.name))?;
             let found = (sizes.count("a number of rows")?, sizes.count("a number of columns")?);
+            sizes.end()?;
             if found != (rows, 1) {
                 return sizes.bad(format_args!("expected {rows} rows and 1 column, found {} and {}", found.0, found.1));
             }
@@ -164,54 +177,16 @@ impl File {
     }
 }
 
-fn compressed(rows: usize, mut entries: Vec<(u32, u32, f64)>) -> Csr {
-    entries.sort_by_key(|&(i, j, _)| (i, j));
-    let mut row_ptr = vec![0u32; rows + 1];
-    for &(i, _, _) in &entries {
-        row_ptr[i as usize + 1] += 1;
-    }
-    for i in 0..rows {
-        row_ptr[i + 1] += row_ptr[i];
-    }
-    Csr { rows, row_ptr, col_idx: entries.iter().map(|e| e.1).collect(), values: entries.iter().map(|e| e.2).collect() }
-}
-
-impl Csr {
-    pub fn row(&self, i: usize) -> std::ops::Range<usize> {
-        self.row_ptr[i] as usize..self.row_ptr[i + 1] as usize
-    }
-
-    fn sum(&self, i: usize, j: usize) -> f64 {
-        let columns = &self.col_idx[self.row(i)];
-        let first = self.row(i).start + columns.partition_point(|&c| (c as usize) < j);
-        (first..self.row(i).end).take_while(|&p| self.col_idx[p] as usize == j).fold(0.0, |sum, p| sum + self.values[p])
-    }
-
-    /// Conjugate gradients want a symmetric matrix: the first entry, row and column from 1, that differs from its mirror image.
-    pub fn asymmetry(&self) -> Option<String> {
-        for i in 0..self.rows {
-            for p in self.row(i) {
-                let j = self.col_idx[p] as usize;
-                let (x, y) = (self.sum(i, j), self.sum(j, i));
-                if (x - y).abs() > 1e-9 * x.abs().max(y.abs()) {
-                    return Some(format!("({}, {}) is {x:e} and ({}, {}) is {y:e}", i + 1, j + 1, j + 1, i + 1));
-                }
-            }
-        }
-        None
-    }
-}
-
 #[cfg(test)]
 mod tests {
     use super::*;
 
-    fn file(text: &str) -> File {
-        File { name: "f".into(), text: text.into() }
+    fn file(bytes: impl AsRef<[u8]>) -> File {
+        File::of("f", bytes.as_ref().to_vec())
     }
 
-    fn matrix(text: &str) -> Result<Csr, String> {
-        file(text).matrix(&Progress::silent())
+    fn matrix(bytes: impl AsRef<[u8]>) -> Result<Csr, String> {
+        file(bytes).matrix(&Progress::silent())
     }
 
     const REAL: &str = "%%MatrixMarket matrix coordinate real symmetric\n";
@@ -228,8 +203,39 @@ mod tests {
     fn a_general_file_stores_everything() {
         let a = matrix(&format!("{WHOLE}2 2 3\n2 2 3\n1 1 2\n1 2 1\n")).unwrap();
         assert_eq!((a.row_ptr.clone(), a.col_idx.clone(), a.values.clone()), (vec![0, 2, 3], vec![0, 1, 1], vec![2.0, 1.0, 3.0]));
-        assert_eq!(a.asymmetry().unwrap(), "(1, 2) is 1e0 and (2, 1) is 0e0");
-        assert!(matrix(&format!("{WHOLE}2 2 4\n1 1 2\n1 2 1\n2 1 1\n2 2 3\n")).unwrap().asymmetry().is_none());
+    }
+
+    #[test]
+    fn line_ends_marks_and_comments_of_other_systems() {
+        let plain = format!("{REAL}% a comment\n2 2 2\n1 1 4\n2 2 5\n");
+        for text in [
+            plain.replace('\n', "\r\n").into_bytes(),
+            plain.trim_end().into(),
+            format!("\u{feff}{plain}").into(),
+            [REAL.as_bytes(), b"% gr\xF6\xDFe\n2 2 2\n1 1 4\n2 2 5\n"].concat(),
+        ] {
+            let a = matrix(&text).unwrap();
+            assert_eq!((a.row_ptr, a.col_idx, a.values), (vec![0, 1, 2], vec![0, 1], vec![4.0, 5.0]), "{text:?}");
+        }
+        assert_eq!(file("\u{feff}1\r\n2").vector(2), Ok(vec![1.0, 2.0]));
+        let said = matrix([REAL.as_bytes(), b"1 1 1\n1 1 \xF6\n"].concat()).unwrap_err();
+        assert_eq!(said, "f, line 3: expected a finite value, found '\u{fffd}'");
+    }
+
+    #[test]
+    fn duplicates_stay_and_no_entry_may_be_stored() {
+        let a = matrix(&format!("{REAL}2 2 4\n2 1 1\n1 1 4\n2 1 2\n1 1 8\n")).unwrap();
+        assert_eq!((a.row_ptr, a.col_idx, a.values), (vec![0, 4, 6], vec![0, 0, 1, 1, 0, 0], vec![4.0, 8.0, 1.0, 2.0, 1.0, 2.0]));
+        assert_eq!(matrix(&format!("{REAL}3 3 0\n")).unwrap().row_ptr, [0; 4]);
+    }
+
+    #[test]
+    fn mirror_images_count() {
+        let read = |head: &str, most| file(format!("{head}3 3 3\n1 1 1\n2 1 1\n3 1 1\n")).matrix_of(most, &Progress::silent());
+        assert_eq!(read(REAL, 5).unwrap().values.len(), 5);
+        assert_eq!(read(REAL, 4).unwrap_err(), "f, line 5: expected at most 4 entries, each off the diagonal of a symmetric file counted twice, and found more");
+        assert_eq!(read(WHOLE, 3).unwrap().values.len(), 3);
+        assert_eq!(read(WHOLE, 2).unwrap_err(), "f, line 2: expected at most 1048576 rows and 2 entries, found 3 and 3");
     }
 
     #[test]
@@ -259,6 +265,9 @@ mod tests {
             (format!("{REAL}2 2 2\n1 1 1\n2 2\n"), "f, line 4: expected a finite value, and the line ends"),
             (format!("{REAL}2 2 2\n1 1 one\n"), "f, line 3: expected a finite value, found 'one'"),
             (format!("{REAL}2 2 2\n1 1 nan\n"), "f, line 3: expected a finite value, found 'nan'"),
+            (format!("{REAL}2 2 2\n1 1 -inf\n"), "f, line 3: expected a finite value, found '-inf'"),
+            (format!("{REAL}2 2 2\n1 1 1e400\n"), "f, line 3: expected a finite value, found '1e400'"),
+            (format!("{REAL}0 0 0\n"), "f, line 2: expected at least one row, found 0"),
             (format!("{REAL}2 2 2\n1 1 1 0\n"), "f, line 3: expected the end of the line, found '0'"),
             (format!("{REAL}2 2 2\n1 1 1\n"), "f: expected 2 entries, as the line with the sizes says, found 1"),
             (format!("{REAL}2 2 1\n1 1 1\n2 2 1\n"), "f, line 4: expected 1 entries, as the line with the sizes says, and found one more"),
@@ -279,6 +288,8 @@ mod tests {
             ("1 2 3\n", "f, line 1: expected the end of the line, found '2'"),
             ("%%MatrixMarket matrix coordinate real general\n", "f, line 1: expected '%%MatrixMarket matrix array real general'"),
             ("%%MatrixMarket matrix array real general\n3 2\n", "f, line 2: expected 3 rows and 1 column, found 3 and 2"),
+            ("%%MatrixMarket matrix array real general\n3 1 junk\n1\n2\n3\n", "f, line 2: expected the end of the line, found 'junk'"),
+            ("1\ninf\n", "f, line 2: expected a finite number, found 'inf'"),
         ] {
             let said = file(text).vector(3).unwrap_err();
             assert!(said.starts_with(message), "{said}\n{message}");

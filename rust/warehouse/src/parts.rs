@@ -1,5 +1,5 @@
 //! The free-standing rows of a warehouse: the smallest sets of nodes that no stored entry links with the rest.
-use crate::market::Csr;
+use crate::csr::Csr;
 
 pub struct Parts {
     block: usize,

@@ -1,5 +1,5 @@
 //! Conjugate gradients with a step length for each free-standing row, so that nothing but the preconditioner joins them.
-use crate::market::Csr;
+use crate::csr::Csr;
 use crate::parts::Parts;
 use crate::progress::Progress;
 use yelomawin::{Refusal, Setup};
