@@ -52,37 +52,55 @@ fn ended(s: State) -> &'static str {
         State::Reached => "",
         State::Open => ", tolerance not reached",
         State::NotPositive => ", stopped: the matrix is not positive definite there",
+        State::Overflow => ", stopped: a number became too large",
     }
 }
 
 /// Before and after, number by number; +0 and -0 are equal.
 pub fn compared(job: &Job, parts: &Parts, before: &Solved, after: &Solved) -> Result<(), String> {
-    say!("a load of {} added at every node of row {}:", job.add, job.row);
-    let (mut all, mut moved) = (0, 0);
+    say!("a load of {:?} added at every node of row {}:", job.add, job.row);
+    let (mut all, mut moved, mut untold) = (0, 0, 0);
+    let mut unsolved = Vec::new();
     for (s, part) in parts.unknowns.iter().enumerate() {
         let differ = part.iter().filter(|&&i| before.x[i] != after.x[i]).count();
         if s != job.row {
             all += part.len();
             moved += differ;
         }
+        let worst = if before.state[s] == State::Reached { after.state[s] } else { before.state[s] };
+        if worst != State::Reached {
+            unsolved.push(format!("row {s}{}", ended(worst)));
+        }
         if s < SHOWN || s == job.row || differ > 0 && moved == differ {
             let largest = |x: &[f64]| part.iter().map(|&i| x[i].abs()).fold(0.0, f64::max);
-            let worst = if before.state[s] == State::Reached { after.state[s] } else { before.state[s] };
             say!(
                 "  row {s}: {} figures compared, {differ} differ; largest {:.9e} before, {:.9e} after; {} and {} iterations{}",
                 part.len(), largest(&before.x), largest(&after.x), before.iterations[s], after.iterations[s], ended(worst)
             );
+        } else {
+            untold += 1;
         }
     }
-    say!("figures of the other rows: {all} compared, {moved} differ");
-    match (moved, job.options.aggregation) {
-        (0, _) => Ok(()),
-        (_, Aggregation::Contiguous) => {
-            say!("under contiguous grouping a group may span two rows: graph keeps them apart");
-            Ok(())
-        }
-        _ => Err("figures of other rows moved, which is proved not to happen while all numbers are finite: are they?".into()),
+    if untold > 0 {
+        say!("  and {untold} rows more");
     }
+    if parts.count() == 1 {
+        say!("there is no other row to compare");
+    } else {
+        say!("figures of the other rows: {all} compared, {moved} differ");
+    }
+    if moved > 0 && job.options.aggregation == Aggregation::Contiguous {
+        say!("under contiguous grouping a group may span two rows: graph keeps them apart");
+    }
+    if !unsolved.is_empty() {
+        let rest = if unsolved.len() > SHOWN { format!("; and {} more", unsolved.len() - SHOWN) } else { String::new() };
+        let few = unsolved.iter().take(SHOWN).map(String::as_str).collect::<Vec<_>>().join("; ");
+        return Err(format!("{} of {} rows not solved: {few}{rest}", unsolved.len(), parts.count()));
+    }
+    if moved > 0 && job.options.aggregation != Aggregation::Contiguous {
+        return Err("figures of other rows moved, which is proved not to happen while all numbers are finite: are they?".into());
+    }
+    Ok(())
 }
 
 /// Every figure: unknown, row, before, after.

@@ -27,7 +27,7 @@ fn a_load_on_one_row_leaves_the_others() {
                 assert!(out(&o).contains("177 unknowns, 1323 entries, 59 nodes in 3 free-standing rows"), "{}", out(&o));
                 let others = ["105", "132", "117"][row.parse::<usize>().unwrap()];
                 assert!(out(&o).contains(&format!("figures of the other rows: {others} compared, 0 differ")), "{}", out(&o));
-                assert!(!out(&o).contains("not reached"), "{}", out(&o));
+                assert!(!out(&o).contains("not reached") && !out(&o).contains("stopped:"), "{}", out(&o));
             }
         }
     }
@@ -36,7 +36,8 @@ fn a_load_on_one_row_leaves_the_others() {
 #[test]
 fn contiguous_grouping_mixes() {
     let o = run(&[SAMPLE, "--aggregation", "contiguous", "--group", "7", "--most", "300"]);
-    assert!(o.status.success() && out(&o).contains("under contiguous grouping a group may span two rows"), "{}", out(&o));
+    assert!(out(&o).contains("105 compared, 105 differ\nunder contiguous grouping a group may span two rows"), "{}", out(&o));
+    assert_eq!(o.status.code(), Some(1), "no row is solved");
 }
 
 #[test]
