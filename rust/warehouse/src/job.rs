@@ -1,27 +1,13 @@
 //! What is asked for on the command line.
 use crate::parts::Parts;
+use std::ffi::OsString;
 use yelomawin::{Aggregation, Basis, CoarsePolicy, Options};
 
-const HELP: &str = "usage: warehouse FILE.mtx [options]
-  FILE.mtx             a symmetric positive definite matrix in Matrix Market's coordinate format, real or integer;
-                       'symmetric' stores the lower half, 'general' everything
-  --block B            unknowns a node (default 3)
-  --group G            nodes that a group is to have (default 8)
-  --aggregation NAME   graph (default), strong-graph, or contiguous, which may mix rows
-  --basis NAME         piecewise-constant (default) or jacobi-smoothed
-  --coarse NAME        auto (default), factor or inverse
-  --loads FILE         a number for each unknown, one a line (default: -1 at every node)
-  --row R              the free-standing row that gets the new load (default 0)
-  --add X              the new load at every node of that row (default -5)
-  --unknown K          the unknown of a node that own loads act on, from 0 (default 1, or 0 where a node has one)
-  --tolerance T        how far a residual must fall (default 1e-12)
-  --most N             iterations at most (default 20000)
-  --groups FILE        writes the row and the group of every node
-  --figures FILE       writes every figure before and after
-";
+pub const HELP: &str = include_str!("../help.txt");
 
 pub struct Job {
-    pub file: String,
+    /// The sample, if none is named.
+    pub file: Option<String>,
     pub options: Options,
     pub loads: Option<String>,
     pub groups: Option<String>,
@@ -33,8 +19,16 @@ pub struct Job {
     pub most: usize,
 }
 
-fn read<T: std::str::FromStr>(option: &str, what: &str, s: &str) -> Result<T, String> {
-    s.parse().map_err(|_| format!("{option}: expected {what}, found '{s}'"))
+fn read<T: std::str::FromStr>(option: &str, what: &str, s: &str, taken: impl Fn(&T) -> bool) -> Result<T, String> {
+    s.parse().ok().filter(taken).ok_or_else(|| format!("{option}: expected {what}, found '{s}'"))
+}
+
+fn count(option: &str, s: &str) -> Result<usize, String> {
+    read(option, "a count from 1", s, |&n| n > 0)
+}
+
+fn from_0(option: &str, s: &str) -> Result<usize, String> {
+    read(option, "a number from 0", s, |_| true)
 }
 
 fn named<T: Copy>(option: &str, names: &[(&str, T)], s: &str) -> Result<T, String> {
@@ -43,9 +37,10 @@ fn named<T: Copy>(option: &str, names: &[(&str, T)], s: &str) -> Result<T, Strin
 }
 
 impl Job {
-    pub fn read() -> Result<Job, String> {
+    /// From the arguments of the program; none if help is asked for.
+    pub fn read(args: impl Iterator<Item = OsString>) -> Result<Option<Job>, String> {
         let mut job = Job {
-            file: String::new(),
+            file: None,
             options: Options {
                 block_size: 3,
                 group_size: 8,
@@ -62,24 +57,25 @@ impl Job {
             tolerance: 1e-12,
             most: 20_000,
         };
-        let mut args = std::env::args().skip(1);
+        let args: Result<Vec<String>, OsString> = args.map(OsString::into_string).collect();
+        let mut args = args.map_err(|a| format!("expected an argument in Unicode, found {a:?}"))?.into_iter();
         while let Some(a) = args.next() {
             if a == "--help" || a == "-h" {
-                print!("{HELP}");
-                std::process::exit(0);
+                return Ok(None);
             }
             if !a.starts_with('-') {
-                job.file = a;
+                if let Some(first) = job.file.replace(a.clone()) {
+                    return Err(format!("expected one file, found '{first}' and '{a}'"));
+                }
                 continue;
             }
             let s = args.next().ok_or_else(|| format!("{a}: expected a value after it, or no such option\n{HELP}"))?;
             job.take(&a, s)?;
         }
-        let last = job.options.block_size.saturating_sub(1);
+        let last = job.options.block_size - 1;
         match job.unknown {
-            _ if job.file.is_empty() => Err(format!("expected a file\n{HELP}")),
             Some(k) if k > last => Err(format!("--unknown: expected 0 to {last}, found {k}")),
-            _ => Ok(job),
+            _ => Ok(Some(job)),
         }
     }
 
@@ -87,19 +83,20 @@ impl Job {
         use {Aggregation::*, Basis::*, CoarsePolicy::*};
         let o = &mut self.options;
         match option {
-            "--block" => o.block_size = read(option, "a count", &s)?,
-            "--group" => o.group_size = read(option, "a count", &s)?,
+            "--block" => o.block_size = count(option, &s)?,
+            "--group" => o.group_size = count(option, &s)?,
             "--aggregation" => o.aggregation = named(option, &[("graph", Graph), ("strong-graph", StrongGraph), ("contiguous", Contiguous)], &s)?,
             "--basis" => o.basis = named(option, &[("piecewise-constant", PiecewiseConstant), ("jacobi-smoothed", JacobiSmoothed)], &s)?,
             "--coarse" => o.coarse_policy = named(option, &[("auto", Auto), ("factor", FactorSolve), ("inverse", ExplicitInverse)], &s)?,
             "--loads" => self.loads = Some(s),
             "--groups" => self.groups = Some(s),
             "--figures" => self.figures = Some(s),
-            "--row" => self.row = read(option, "a number from 0", &s)?,
-            "--add" => self.add = read(option, "a number", &s)?,
-            "--unknown" => self.unknown = Some(read(option, "a number from 0", &s)?),
-            "--tolerance" => self.tolerance = read(option, "a number", &s)?,
-            "--most" => self.most = read(option, "a count", &s)?,
+            "--row" => self.row = from_0(option, &s)?,
+            "--add" => self.add = read(option, "a finite number", &s, |x: &f64| x.is_finite())?,
+            "--unknown" => self.unknown = Some(from_0(option, &s)?),
+            // Below a number's rounding the residual that is carried along says nothing of the true one.
+            "--tolerance" => self.tolerance = read(option, "a number from 1e-16 to below 1", &s, |t| (1e-16..1.0).contains(t))?,
+            "--most" => self.most = count(option, &s)?,
             _ => return Err(format!("no option '{option}'\n{HELP}")),
         }
         Ok(())
@@ -117,9 +114,12 @@ impl Job {
 
     /// The loads with the new one on its row.
     pub fn with_new_load(&self, load: &[f64], parts: &Parts) -> Result<Vec<f64>, String> {
-        let row = parts.unknowns.get(self.row).ok_or_else(|| format!("--row: expected 0 to {}, found {}", parts.count().saturating_sub(1), self.row))?;
+        let row = parts.unknowns.get(self.row).ok_or_else(|| format!("--row: expected 0 to {}, found {}", parts.count() - 1, self.row))?;
         let mut more = load.to_vec();
         row.iter().filter(|&&i| self.loaded(i)).for_each(|&i| more[i] += self.add);
-        Ok(more)
+        match row.iter().find(|&&i| !more[i].is_finite()) {
+            Some(i) => Err(format!("--add: {:?} and the load {:?} of unknown {i} add up to no finite number", self.add, load[*i])),
+            None => Ok(more),
+        }
     }
 }

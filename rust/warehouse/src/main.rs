@@ -4,6 +4,7 @@ mod job;
 mod market;
 mod parts;
 mod progress;
+mod refused;
 mod report;
 mod solve;
 
@@ -11,47 +12,48 @@ use job::Job;
 use market::File;
 use parts::Parts;
 use progress::Progress;
-use yelomawin::{Matrix, Refusal, Setup};
+use refused::explained;
+use yelomawin::{Matrix, Setup};
 
-/// A refusal with the node of its row, and the option that helps.
-fn explained(r: &Refusal, job: &Job) -> String {
-    let node = match *r {
-        Refusal::BlockNotSymmetric { row } | Refusal::BlockPivot { row } | Refusal::MissingDiagonal { row } => {
-            let b = job.options.block_size as u64;
-            format!("; rows count from 0: this is unknown {} of node {}", row % b, row / b)
-        }
-        Refusal::BlockSize | Refusal::NotMultiple => "; --block sets the unknowns a node".into(),
-        Refusal::GroupSize | Refusal::CoarseTooLarge { .. } => "; --group sets the nodes a group".into(),
-        _ => String::new(),
-    };
-    format!("{}: refused: {r}{node}", job.file)
-}
+const SAMPLE: &[u8] = include_bytes!("../sample/three-rows.mtx");
 
 fn run() -> Result<(), String> {
-    let job = Job::read()?;
+    let Some(job) = Job::read(std::env::args_os().skip(1))? else {
+        report::help();
+        return Ok(());
+    };
     let progress = Progress::every_second();
-    progress.stage(&format!("reading {}", job.file));
-    let a = File::read(&job.file)?.matrix(&progress)?;
-    let matrix = Matrix { rows: a.rows, cols: a.rows, row_ptr: &a.row_ptr, col_idx: &a.col_idx, values: &a.values };
-    progress.stage("building the setup");
-    let mut setup = Setup::build(&matrix, &job.options).map_err(|r| explained(&r, &job))?;
-    let parts = Parts::of(&a, job.options.block_size);
-    report::setup(&job, &setup, &parts);
-    if let Some(f) = &job.groups {
-        report::groups(f, &setup, &parts).map_err(|e| format!("{f}: {e}"))?;
-    }
+    let name = job.file.as_deref().unwrap_or("the sample (three-rows.mtx)");
+    progress.stage(&format!("reading {name}"));
+    let file = match &job.file {
+        Some(f) => File::read(f)?,
+        None => File::of(name, SAMPLE.to_vec()),
+    };
+    let a = file.matrix(&progress)?;
+    drop(file);
+    // What needs no setup is checked before it.
+    refused::blocks(job.options.block_size, a.rows).map_err(|r| explained(name, r, &job, 0))?;
     progress.stage("checking that the matrix is symmetric");
     if let Some(where_) = a.asymmetry() {
-        return Err(format!("{}: conjugate gradients need a symmetric matrix, and {where_} (rows and columns from 1)", job.file));
+        return Err(format!("{name}: conjugate gradients need a symmetric matrix, and {where_} (rows and columns from 1)"));
     }
+    progress.stage("finding the free-standing rows");
+    let parts = Parts::of(&a, job.options.block_size);
     let load = match &job.loads {
         Some(f) => File::read(f)?.vector(a.rows)?,
         None => job.own_weight(a.rows),
     };
     let more = job.with_new_load(&load, &parts)?;
+    progress.stage("building the setup");
+    let matrix = Matrix { rows: a.rows, cols: a.rows, row_ptr: &a.row_ptr, col_idx: &a.col_idx, values: &a.values };
+    let mut setup = Setup::build(&matrix, &job.options).map_err(|r| explained(name, r, &job, parts.count()))?;
+    report::setup(name, &setup, &parts);
+    if let Some(f) = &job.groups {
+        report::groups(f, &setup, &parts).map_err(|e| format!("{f}: {e}"))?;
+    }
     let mut solved = |what: &str, load: &[f64]| {
         progress.stage(what);
-        solve::solve(&a, &mut setup, &parts, load, job.tolerance, job.most, &progress).map_err(|r| explained(&r, &job))
+        solve::solve(&a, &mut setup, &parts, load, job.tolerance, job.most, &progress).map_err(|r| explained(name, r, &job, parts.count()))
     };
     let before = solved("solving for the loads", &load)?;
     let after = solved("solving with the new load", &more)?;

@@ -52,7 +52,7 @@ impl File {
     }
 
     /// A comment may be in another encoding than UTF-8, and a byte-order mark may stand first.
-    fn of(name: &str, mut bytes: Vec<u8>) -> File {
+    pub fn of(name: &str, mut bytes: Vec<u8>) -> File {
         if bytes.starts_with("\u{feff}".as_bytes()) {
             bytes.drain(..3);
         }

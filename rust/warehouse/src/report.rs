@@ -1,5 +1,5 @@
 //! What is printed.
-use crate::job::Job;
+use crate::job::{HELP, Job};
 use crate::parts::Parts;
 use crate::solve::{Solved, State};
 use std::io::Write;
@@ -14,13 +14,17 @@ macro_rules! say {
     };
 }
 
+pub fn help() {
+    say!("{}", HELP.trim_end());
+}
+
 /// So many rows are told one by one.
 const SHOWN: usize = 12;
 
-pub fn setup(job: &Job, setup: &Setup, parts: &Parts) {
+pub fn setup(name: &str, setup: &Setup, parts: &Parts) {
     say!(
-        "{}: {} unknowns, {} entries, {} nodes in {} free-standing rows",
-        job.file, setup.rows(), setup.entries(), setup.nodes(), parts.count()
+        "{name}: {} unknowns, {} entries, {} nodes in {} free-standing rows",
+        setup.rows(), setup.entries(), setup.nodes(), parts.count()
     );
     let (with, without) = setup.complexity();
     say!(

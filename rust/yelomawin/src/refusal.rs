@@ -5,6 +5,7 @@ macro_rules! causes {
     ($($number:literal $name:ident $({ $($field:ident),* })? $text:literal)*) => {
         /// A cause of refusal. What a variant holds is what the library returns with its number; rows count from 0.
         #[derive(Clone, Copy, Debug, PartialEq, Eq)]
+        #[non_exhaustive]
         pub enum Refusal {
             $(#[doc = $text] $name $({ $($field: u64),* })?,)*
         }
@@ -53,17 +54,17 @@ causes! {
     11 GroupSize "the group size (nodes a group) must be 1 to 1,048,576"
     12 NotMultiple "the number of rows must be a multiple of the block size: every node has as many unknowns"
     13 ListTooShort "a list lent to the call is too short"
-    14 BlockNotSymmetric { row } "the diagonal block that begins at row {row} is not symmetric: are both halves of the matrix stored, and stored once?"
-    15 BlockPivot { row } "row {row} has no positive pivot in its diagonal block: is its node supported, and is the matrix positive definite?"
+    14 BlockNotSymmetric { row } "the diagonal block that begins at matrix row {row} is not symmetric: are both halves of the matrix stored, and stored once?"
+    15 BlockPivot { row } "the pivot of matrix row {row} is not above 1e-14 times the largest entry of its diagonal block (taken as 1 if it is smaller): is the node supported, and is the matrix positive definite? If its units are only very small, scale the matrix up"
     16 NoNode "there is no node to group"
-    17 CoarseTooLarge { dimension } "the coarse dimension would be {dimension}, above 2,048: choose a larger group size"
+    17 CoarseTooLarge { dimension } "the coarse dimension (groups times block size) would be {dimension}, above 2,048: choose a larger group size (grouping along the entries makes a group at least for each part that nothing links to the rest)"
     18 CoarseListTooShort { dimension } "a list lent to the call is too short for the coarse dimension {dimension}"
-    19 MissingDiagonal { row } "row {row} stores no diagonal entry"
-    20 ZeroDiagonal { row } "the diagonal entries of row {row} add up to zero or to no finite number"
-    21 NegativeDiagonal { row } "the diagonal entries of row {row} add up to a negative number"
-    22 EstimateFailed { stage } "the spectral radius could not be estimated: stage {stage} (1 starting norm, 2 a round's norm, 3 the radius, 4 the damping factor) came out zero or not finite"
-    23 CoarseScale "the coarse matrix holds only zeros, or an infinite number: rescale the matrix"
-    24 CoarsePivot { row } "row {row} of the coarse matrix has no positive pivot: is the matrix positive definite?"
+    19 MissingDiagonal { row } "matrix row {row} stores no diagonal entry"
+    20 ZeroDiagonal { row } "the diagonal at matrix row {row} is zero or not finite"
+    21 NegativeDiagonal { row } "the diagonal at matrix row {row} is negative"
+    22 EstimateFailed { stage } "the spectral radius could not be estimated: stage {stage} (1 starting norm, 2 a round's norm, 3 the radius, 4 the damping factor) came out zero, negative or not finite"
+    23 CoarseScale "the coarse matrix holds nothing but zeros and NaNs, or an infinite number: scale the matrix"
+    24 CoarsePivot { row } "the pivot of row {row} of the coarse matrix is not above 1e-14 times its largest entry (taken as 1 if it is smaller): is the matrix positive definite? If its units are only very small, scale the matrix up"
     25 WrongLength { expected, actual } "a vector has {actual} numbers where {expected} are expected"
     26 SetupMisfit "the setup's record and its lists do not fit each other"
     27 NeighbourOffsets "the neighbour offsets must be one more than the nodes, begin at 0, never fall and end at the number of neighbours"
@@ -104,7 +105,7 @@ mod tests {
         for n in [14, 15, 19, 20, 21, 24] {
             assert!(said(n, &[41]).contains("row 41"), "{}", said(n, &[41]));
         }
-        assert!(said(17, &[3000]).contains("3000, above 2,048: choose a larger group size"));
+        assert!(said(17, &[3000]).contains("would be 3000, above 2,048: choose a larger group size"));
         assert!(said(18, &[600]).contains("coarse dimension 600"));
         assert!(said(22, &[3]).contains("stage 3 "));
         assert_eq!(said(25, &[6, 5]), "a vector has 5 numbers where 6 are expected (cause 25)");
