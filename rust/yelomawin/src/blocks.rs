@@ -1,6 +1,7 @@
 //! Block Jacobi: the Cholesky factors of the diagonal blocks, and the solve with them.
 use crate::refusal::{Refusal, answered};
 use crate::{MOST_BLOCK, MOST_ROWS, Matrix, ffi, room};
+use std::mem::take;
 
 /// The factors of a matrix's diagonal blocks.
 ///
@@ -26,12 +27,12 @@ pub struct BlockJacobi {
 impl BlockJacobi {
     /// Factors the diagonal blocks of a matrix; a smaller last block is allowed.
     pub fn build(a: &Matrix, block_size: usize) -> Result<BlockJacobi, Refusal> {
-        BlockJacobi::build_in(a, block_size, Vec::new())
+        BlockJacobi::build_in(a, block_size, &mut Vec::new())
     }
 
-    /// The same in a list of the caller's, made as long as needed (`into_factors` hands it back).
-    pub fn build_in(a: &Matrix, block_size: usize, mut factors: Vec<f64>) -> Result<BlockJacobi, Refusal> {
-        let lent = room(&mut factors, a.rows.min(MOST_ROWS) * block_size.min(MOST_BLOCK));
+    /// The same in a list that is made as long as needed and, unless refused, taken over (`into_factors` hands it back).
+    pub fn build_in(a: &Matrix, block_size: usize, factors: &mut Vec<f64>) -> Result<BlockJacobi, Refusal> {
+        let lent = room(factors, a.rows.min(MOST_ROWS) * block_size.min(MOST_BLOCK));
         let mut answer = [0; 2];
         // Sound: every list is lent as a Rust slice with its length; those for writing are borrowed for this call alone.
         let number = unsafe {
@@ -42,7 +43,7 @@ impl BlockJacobi {
             )
         };
         answered(number, &answer)?;
-        Ok(BlockJacobi { rows: a.rows, block_size, factors })
+        Ok(BlockJacobi { rows: a.rows, block_size, factors: take(factors) })
     }
 
     /// The correction of a residual: the solve with the blocks.

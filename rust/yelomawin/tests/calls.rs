@@ -131,6 +131,18 @@ fn lengths_are_those_below_which_a_setup_refuses() {
 }
 
 #[test]
+fn a_refused_factoring_leaves_its_list() {
+    let mut list = Vec::with_capacity(50);
+    let place = list.as_ptr();
+    assert_eq!(BlockJacobi::build_in(&diag(), 9, &mut list).unwrap_err(), Refusal::BlockSize);
+    assert_eq!((list.as_ptr(), list.capacity()), (place, 50));
+    let blocks = BlockJacobi::build_in(&diag(), 1, &mut list).unwrap();
+    assert_eq!((blocks.factors(), blocks.factors().as_ptr()), (&[4.0, 2.0][..], place));
+    let back = blocks.into_factors();
+    assert_eq!((list.capacity(), back.as_ptr()), (0, place));
+}
+
+#[test]
 fn more_groups_than_likely() {
     // 100 nodes that nothing links: each is a group, though groups of 10 are asked for.
     let (row_ptr, col_idx): (Vec<u32>, Vec<u32>) = ((0..=100).collect(), (0..100).collect());
