@@ -52,10 +52,10 @@ pub fn main<L: Library>() {
         };
         let rust = answers::answer(&case);
         if let Err(what) = compared::<L>(&case, &rust, seed) {
-            let differs = |c: &Case| compared::<L>(c, &answers::answer(c), seed).err();
-            let small = shrink::shrink(case, |c| differs(c).is_some());
             let planted = if kind == "hard" { format!(" ({})", hard::planted(seed)) } else { String::new() };
             println!("{name}, {kind}{planted}, seed {seed}: {what}");
+            let differs = |c: &Case| compared::<L>(c, &answers::answer(c), seed).err();
+            let small = shrink::shrink(case, |c| differs(c).is_some());
             println!("made smaller: {}", differs(&small).unwrap_or_default());
             print!("{}", text::write(&seed.to_string(), &small, &answers::answer(&small)));
             std::process::exit(1);

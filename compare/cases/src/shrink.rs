@@ -155,10 +155,15 @@ mod tests {
     use std::collections::BTreeSet;
 
     fn drawn(seed: u64) -> [Case; 7] {
-        let most = 9;
-        let matrices = [draw::validate(seed, most), draw::diagonal(seed, most), draw::blocks(seed, most), draw::estimate(seed, most)];
-        let [a, b, c, d] = matrices;
-        [a, b, c, d, draw::two_level(seed, most), draw::group(seed, most), draw::root(seed)]
+        [
+            draw::validate(seed, 9),
+            draw::diagonal(seed, 9),
+            draw::blocks(seed, 9),
+            draw::estimate(seed, 9),
+            draw::two_level(seed, 9),
+            draw::group(seed, 9),
+            draw::root(seed),
+        ]
     }
 
     fn stored(c: &Case) -> Option<&Csr> {
