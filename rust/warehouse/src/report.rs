@@ -5,13 +5,22 @@ use crate::solve::{Solved, State};
 use std::io::Write;
 use yelomawin::{Aggregation, Setup};
 
-/// A line of output; nobody reading on ends the program quietly.
+/// A line of output.
 macro_rules! say {
     ($($what:tt)*) => {
-        if writeln!(std::io::stdout(), $($what)*).is_err() {
-            std::process::exit(0)
+        if let Err(e) = writeln!(std::io::stdout(), $($what)*) {
+            unwritten(e)
         }
     };
+}
+
+/// Nobody reading on ends the program quietly.
+fn unwritten(e: std::io::Error) -> ! {
+    if e.kind() == std::io::ErrorKind::BrokenPipe {
+        std::process::exit(0);
+    }
+    eprintln!("standard output: {e}");
+    std::process::exit(1)
 }
 
 pub fn help() {
@@ -96,15 +105,16 @@ pub fn compared(job: &Job, parts: &Parts, before: &Solved, after: &Solved) -> Re
     if moved > 0 && job.options.aggregation == Aggregation::Contiguous {
         say!("under contiguous grouping a group may span two rows: graph keeps them apart");
     }
+    let mut wrong = Vec::new();
     if !unsolved.is_empty() {
         let rest = if unsolved.len() > SHOWN { format!("; and {} more", unsolved.len() - SHOWN) } else { String::new() };
         let few = unsolved.iter().take(SHOWN).map(String::as_str).collect::<Vec<_>>().join("; ");
-        return Err(format!("{} of {} rows not solved: {few}{rest}", unsolved.len(), parts.count()));
+        wrong.push(format!("{} of {} rows not solved: {few}{rest}", unsolved.len(), parts.count()));
     }
     if moved > 0 && job.options.aggregation != Aggregation::Contiguous {
-        return Err("figures of other rows moved, which is proved not to happen while all numbers are finite: are they?".into());
+        wrong.push("figures of other rows moved, which is proved not to happen while all numbers are finite: are they?".into());
     }
-    Ok(())
+    if wrong.is_empty() { Ok(()) } else { Err(wrong.join("\n")) }
 }
 
 /// Every figure: unknown, row, before, after.

@@ -214,6 +214,14 @@ fn arguments_that_are_no_unicode() {
     assert_eq!((o.status.code(), err(&o).trim()), (Some(1), r#"expected an argument in Unicode, found "gr\xF6\xDFe.mtx""#));
 }
 
+#[cfg(target_os = "linux")]
+#[test]
+fn output_that_cannot_be_written() {
+    let full = std::fs::OpenOptions::new().write(true).open("/dev/full").unwrap();
+    let o = Command::new(env!("CARGO_BIN_EXE_warehouse")).stdout(full).output().unwrap();
+    assert!(o.status.code() == Some(1) && err(&o).starts_with("standard output: "), "{}", err(&o));
+}
+
 #[test]
 fn help_tells_every_option() {
     let o = run(&["--help"]);
