@@ -123,7 +123,7 @@ fn the_same_numbers_and_figures() {
 #[test]
 fn the_same_errors() {
     let mut met = std::collections::BTreeSet::new();
-    for seed in 0..10_000 {
+    for seed in 0..4_000 {
         let Case::TwoLevel { a, options: o, .. } = draw::two_level(seed, 10) else { unreachable!() };
         let Ok(m) = answers::matrix(&a) else { continue };
         let chosen = (answers::aggregation(o.aggregation), answers::basis(o.basis), answers::policy(o.policy));
