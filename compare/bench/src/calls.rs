@@ -1,7 +1,7 @@
 //! Each call on both sides: the same input, times of the same run, and the results compared bit for bit.
 use crate::input::{self, BLOCK};
 use crate::table::{Row, counted};
-use cases::{Csr, Options, answers};
+use cases::{Csr, Options, answers, expected};
 use hybit_core::Preconditioner;
 use hybit_precond::{BlockJacobiPreconditioner, probe};
 use std::hint::black_box;
@@ -31,6 +31,10 @@ pub fn same(a: &[f64], b: &[f64]) -> bool {
     a.len() == b.len() && a.iter().zip(b).all(|(x, y)| x.to_bits() == y.to_bits() || x.is_nan() && y.is_nan())
 }
 
+pub fn narrow(list: &[usize]) -> Vec<u32> {
+    list.iter().map(|&x| x as u32).collect()
+}
+
 pub fn lent(a: &Csr) -> Matrix<'_> {
     Matrix { rows: a.rows, cols: a.cols, row_ptr: &a.row_ptr, col_idx: &a.col_idx, values: &a.values }
 }
@@ -42,16 +46,13 @@ fn residual(rows: usize) -> Vec<f64> {
 // ---- grouping
 
 pub fn grouping(name: &'static str, lists: Vec<Vec<usize>>, size: usize) -> Row {
-    let mut offsets = vec![0u32];
-    for l in &lists {
-        offsets.push(offsets.last().unwrap() + l.len() as u32);
-    }
-    let neighbours: Vec<u32> = lists.iter().flatten().map(|&w| w as u32).collect();
+    let (offsets, neighbours) = ::lent::flat(&lists);
+    let neighbours = narrow(&neighbours);
     let (mut ids, mut work) = (Vec::new(), Vec::new());
     let (rust, (expected, count), ours, found) =
         both(|| probe::groups(&lists, size).unwrap(), || yelomawin::group_in(size, &offsets, &neighbours, &mut ids, &mut work).unwrap());
     assert_eq!(found, count, "grouping, {name}: counts differ");
-    assert!(expected.iter().zip(&ids).all(|(&a, &b)| a == b as usize), "grouping, {name}: ids differ");
+    assert!(narrow(&expected) == ids, "grouping, {name}: ids differ");
     let size = format!("{} nodes, {} neighbours", counted(lists.len()), counted(neighbours.len()));
     Row::new(format!("grouping, {name}, size 64"), size, lists.len(), rust, None, ours)
 }
@@ -74,13 +75,13 @@ pub fn stages(a: &Csr, block: usize) -> Vec<Row> {
     row("diagonal", rust, true, ours);
     let mut kept = Vec::new();
     let build = || {
-        let b = BlockJacobi::build_in(&lent(a), block, std::mem::take(&mut kept)).unwrap();
+        let b = BlockJacobi::build_in(&lent(a), block, &mut kept).unwrap();
         kept = b.into_factors();
     };
     let (rust, p, ours, _) = both(|| BlockJacobiPreconditioner::from_csr32(&m, block).unwrap(), build);
     assert!(same(&probe::block_factors(&p), &kept), "block factors differ");
     row("block factors", rust, true, ours);
-    let b = BlockJacobi::build_in(&lent(a), block, kept).unwrap();
+    let b = BlockJacobi::build_in(&lent(a), block, &mut kept).unwrap();
     let r = residual(a.rows);
     let (mut z, mut y) = (vec![0.0; a.rows], vec![0.0; a.rows]);
     let (rust, _, ours, _) = both(|| p.apply(&r, &mut z).unwrap(), || b.apply(&r, &mut y).unwrap());
@@ -88,7 +89,7 @@ pub fn stages(a: &Csr, block: usize) -> Vec<Row> {
     row("block apply", rust, false, ours);
     let mut work = Vec::new();
     let (rust, rho, ours, e) = both(|| probe::estimate(&m, &d).unwrap(), || lent(a).estimate_in(&d, &mut work).unwrap());
-    assert_eq!(rho.to_bits(), e.radius.to_bits(), "estimates differ");
+    assert!(same(&[rho, 4.0 / (3.0 * rho)], &[e.radius, e.damping_factor]), "estimates differ");
     row("estimate", rust, true, ours);
     out
 }
@@ -131,10 +132,10 @@ pub fn setups(a: &Csr, coarse: usize) -> Vec<Row> {
             };
             let (rust, p, ours, _) = both(|| answers::setup(&m, &theirs).unwrap(), build);
             let mut s = held.unwrap();
-            let k = probe::kept(&p);
-            let ints: Vec<u32> = k.ids.iter().chain(&k.transfer_ptr).chain(&k.transfer_idx).copied().collect();
-            let floats: Vec<f64> = k.factors.iter().chain(&k.weights).chain(&k.coarse_part).copied().collect();
+            let k = probe::kept(&p, &m);
+            let (ints, floats) = k.lists();
             assert!(ints == s.lists().0 && same(&floats, s.lists().1), "setups differ");
+            assert_eq!(&expected::record(a, &theirs, &k), s.record(), "records differ");
             let size = format!("{} rows, coarse {}", counted(a.rows), counted(k.coarse));
             let row = Row::new(format!("setup, {name}, {how}"), size.clone(), a.rows, rust, Some(rust + checks), ours);
             out.push(Row { coarse: Some(coarse), ..row });

@@ -17,7 +17,9 @@ fn quick() -> (Vec<Row>, Vec<Memory>) {
     for n in [6_000, 30_000] {
         let a = input::frame(n);
         rows.extend(calls::stages(&a, input::BLOCK));
-        rows.extend(middle::stages(&a, 300));
+        let (lists, graph) = middle::neighbours(&a);
+        rows.extend(lists);
+        rows.extend(middle::stages(&a, 300, graph));
         rows.extend(calls::setups(&a, 300));
     }
     (rows, memory::measured(30_000, 300))
@@ -34,10 +36,12 @@ fn all() -> (Vec<Row>, Vec<Memory>) {
     for n in [30_000, 300_000, LARGEST] {
         let a = input::frame(n);
         rows.extend(calls::stages(&a, input::BLOCK));
+        let (lists, graph) = middle::neighbours(&a);
+        rows.extend(lists);
         // The large coarse systems take most of the time, and do not grow with the rows.
         let large = if n == 300_000 { 1_900 } else { 600 };
         for coarse in (600..=large).step_by(1_300) {
-            rows.extend(middle::stages(&a, coarse));
+            rows.extend(middle::stages(&a, coarse, graph));
             rows.extend(calls::setups(&a, coarse));
         }
     }

@@ -1,6 +1,6 @@
 //! The middle of setup, stage by stage: neighbour lists, transfer, coarse matrix, factor, inverse. The Rust has the constant coarse matrix, the
 //! averaging and the factor inside its setup: their time there is the setup's less that of the stages before it.
-use crate::calls::{both, lent, options, same};
+use crate::calls::{both, lent, narrow, options, same};
 use crate::input::{self, BLOCK};
 use crate::table::{Row, counted};
 use cases::{Csr, answers};
@@ -48,38 +48,43 @@ macro_rules! lists {
     };
 }
 
-pub fn stages(a: &Csr, coarse: usize) -> Vec<Row> {
+/// The neighbour lists, and the time that the Rust takes for Graph's.
+pub fn neighbours(a: &Csr) -> (Vec<Row>, f64) {
+    let m = answers::matrix(a).unwrap();
+    let (n, e, nodes) = (a.rows, a.values.len(), a.rows / BLOCK);
+    let (checks, _, _, _) = both(|| m.validate().unwrap(), || ());
+    // Where setup has the lists inside its work list.
+    let base = 6 * nodes + e + 16;
+    let mut ints = vec![0u32; base + nodes + 1 + e];
+    let mut floats = vec![0.0; 3 * nodes];
+    let mut out = Vec::new();
+    for (strong, name) in [(0u64, "Graph"), (1, "StrongGraph")] {
+        let (rust, found, ours, answer) = both(
+            || if strong == 0 { probe::graph(&m, nodes, BLOCK).unwrap() } else { probe::strong_graph(&m, nodes, BLOCK).unwrap() },
+            || lists!(stage_neighbours, a, BLOCK as u64, strong, base as u64, ints.as_mut_ptr(), ints.len(), floats.as_mut_ptr(), floats.len()),
+        );
+        assert_eq!(answer, 0);
+        let (offsets, listed) = ::lent::flat(&found);
+        let listed = [offsets, narrow(&listed)].concat();
+        assert!(ints[base..][..listed.len()] == listed, "neighbour lists differ");
+        let size = format!("{} rows, {} entries", counted(n), counted(e));
+        out.push(Row::new(format!("neighbour lists, {name}"), size, n, rust, Some(rust + checks), ours));
+    }
+    let graph = out[0].rust;
+    (out, graph)
+}
+
+/// The stages after them; `graph` is the time that the Rust takes for Graph's lists.
+pub fn stages(a: &Csr, coarse: usize, graph: f64) -> Vec<Row> {
     let m = answers::matrix(a).unwrap();
     let (n, e) = (a.rows, a.values.len());
     let nodes = n / BLOCK;
     let group = input::group_size(n, coarse);
     let (checks, _, _, _) = both(|| m.validate().unwrap(), || ());
-    let mut ints = vec![0u32; 8 * n + 4 * e + 16];
-    let mut floats = vec![0.0; 8 * n + 2 * e];
     let mut out = Vec::new();
-
-    // Neighbour lists.
-    let base = 6 * nodes + e + 16;
-    let end = base + nodes + 1 + e;
-    let mut sparse = 0.0;
-    for (strong, name) in [(0u64, "Graph"), (1, "StrongGraph")] {
-        let (rust, found, ours, answer) = both(
-            || if strong == 0 { probe::graph(&m, nodes, BLOCK).unwrap() } else { probe::strong_graph(&m, nodes, BLOCK).unwrap() },
-            || lists!(stage_neighbours, a, BLOCK as u64, strong, base as u64, ints.as_mut_ptr(), end, floats.as_mut_ptr(), 3 * nodes),
-        );
-        assert_eq!(answer, 0);
-        let flat: Vec<u32> = found.iter().flatten().map(|&w| w as u32).collect();
-        assert!(ints[base + nodes + 1..][..flat.len()] == flat[..], "neighbour lists differ");
-        let size = format!("{} rows, {} entries", counted(n), counted(e));
-        out.push(Row::new(format!("neighbour lists, {name}"), size, n, rust, Some(rust + checks), ours));
-        if strong == 0 {
-            let (t, _, _, _) = both(|| probe::groups(&found, group).unwrap(), || ());
-            sparse = rust + t;
-        }
-    }
     let lists = probe::graph(&m, nodes, BLOCK).unwrap();
-    let (wide, groups) = probe::groups(&lists, group).unwrap();
-    let ids: Vec<u32> = wide.iter().map(|&g| g as u32).collect();
+    let (grouping, (wide, groups), _, _) = both(|| probe::groups(&lists, group).unwrap(), || ());
+    let ids = narrow(&wide);
     let c = groups * BLOCK;
     let size = format!("{} rows, coarse {}", counted(n), counted(c));
     let mut row = |what: &str, rust: f64, checked: Option<f64>, ours: f64| {
@@ -87,8 +92,8 @@ pub fn stages(a: &Csr, coarse: usize) -> Vec<Row> {
     };
 
     // The transfer; the Rust makes diagonal and estimate in the same function.
-    ints.resize(8 * n + 4 * e + 16 + 4 * c, 0);
-    floats.resize(8 * n + 2 * e + c * c + 4 * c, 0.0);
+    let mut ints = vec![0u32; 8 * n + 4 * e + 16 + 4 * c];
+    let mut floats = vec![0.0; 8 * n + 2 * e + c * c + 4 * c];
     let (mut diagonal, mut work) = (Vec::new(), Vec::new());
     let (rust, t, ours, answer) = both(
         || probe::transfer(&m, BLOCK, group, &wide, c).unwrap(),
@@ -105,20 +110,14 @@ pub fn stages(a: &Csr, coarse: usize) -> Vec<Row> {
     assert_eq!(answer, 0);
     let count = t.values.len();
     let (pointers, columns, weights) = (ints[..n + 1].to_vec(), ints[n + 1..][..count].to_vec(), floats[..count].to_vec());
-    assert!(pointers.iter().zip(&t.row_ptr).all(|(&x, &y)| x as usize == y) && columns == t.col_idx && same(&weights, &t.values), "transfers differ");
+    assert!(pointers == narrow(&t.row_ptr) && columns == t.col_idx && same(&weights, &t.values), "transfers differ");
     row("diagonal, estimate and transfer", rust, Some(rust + checks), ours);
 
     // The coarse matrix of the smoothed basis, averaged: the Rust does that in its setup, by the same loop as here.
     let (rust, g, ours, answer) = both(
         || {
             let mut g = probe::galerkin(&m, &t, c).unwrap();
-            for i in 0..c {
-                for j in 0..i {
-                    let mean = 0.5 * (g[i * c + j] + g[j * c + i]);
-                    g[i * c + j] = mean;
-                    g[j * c + i] = mean;
-                }
-            }
+            probe::average(&mut g, c);
             g
         },
         || {
@@ -144,8 +143,10 @@ pub fn stages(a: &Csr, coarse: usize) -> Vec<Row> {
         },
     );
     assert_eq!(answer, 0);
-    assert!(same(&probe::kept(&p).coarse_part, &lower), "factors differ");
-    row("coarse matrix, constant, and its factor", rust - blocks - sparse, Some(rust - blocks - sparse + checks), ours);
+    assert!(same(&probe::coarse(&p, &m), &floats[..c * c]), "coarse matrices differ");
+    assert!(same(&probe::kept(&p, &m).coarse_part, &lower), "factors differ");
+    let before = blocks + graph + grouping;
+    row("coarse matrix, constant, and its factor", rust - before, Some(rust - before + checks), ours);
     let mut inverse = vec![0.0; c * c];
     let (whole, p, ours, answer) = both(
         || answers::setup(&m, &options(group, 0, 2).0).unwrap(),
@@ -153,7 +154,7 @@ pub fn stages(a: &Csr, coarse: usize) -> Vec<Row> {
         || unsafe { stage_coarse_inverse(c as u64, lower.as_ptr(), lower.len(), inverse.as_mut_ptr(), c * c) },
     );
     assert_eq!(answer, 0);
-    assert!(same(&probe::kept(&p).coarse_part, &inverse), "inverses differ");
+    assert!(same(&probe::kept(&p, &m).coarse_part, &inverse), "inverses differ");
     row("inverse", whole - rust, None, ours);
     out
 }
