@@ -194,14 +194,14 @@ mod tests {
 
     #[test]
     fn a_symmetric_file_stores_one_half() {
-        let a = matrix(&format!("{REAL}% a comment\n\n3 3 4\n2 1 -1.5\n1 1 2\n3 3 4e0\n2 2 1D1\n")).unwrap();
+        let a = matrix(format!("{REAL}% a comment\n\n3 3 4\n2 1 -1.5\n1 1 2\n3 3 4e0\n2 2 1D1\n")).unwrap();
         assert_eq!((a.rows, a.row_ptr, a.col_idx), (3, vec![0, 2, 4, 5], vec![0, 1, 0, 1, 2]));
         assert_eq!(a.values, [2.0, -1.5, -1.5, 10.0, 4.0]);
     }
 
     #[test]
     fn a_general_file_stores_everything() {
-        let a = matrix(&format!("{WHOLE}2 2 3\n2 2 3\n1 1 2\n1 2 1\n")).unwrap();
+        let a = matrix(format!("{WHOLE}2 2 3\n2 2 3\n1 1 2\n1 2 1\n")).unwrap();
         assert_eq!((a.row_ptr.clone(), a.col_idx.clone(), a.values.clone()), (vec![0, 2, 3], vec![0, 1, 1], vec![2.0, 1.0, 3.0]));
     }
 
@@ -224,9 +224,9 @@ mod tests {
 
     #[test]
     fn duplicates_stay_and_no_entry_may_be_stored() {
-        let a = matrix(&format!("{REAL}2 2 4\n2 1 1\n1 1 4\n2 1 2\n1 1 8\n")).unwrap();
+        let a = matrix(format!("{REAL}2 2 4\n2 1 1\n1 1 4\n2 1 2\n1 1 8\n")).unwrap();
         assert_eq!((a.row_ptr, a.col_idx, a.values), (vec![0, 4, 6], vec![0, 0, 1, 1, 0, 0], vec![4.0, 8.0, 1.0, 2.0, 1.0, 2.0]));
-        assert_eq!(matrix(&format!("{REAL}3 3 0\n")).unwrap().row_ptr, [0; 4]);
+        assert_eq!(matrix(format!("{REAL}3 3 0\n")).unwrap().row_ptr, [0; 4]);
     }
 
     #[test]

@@ -129,7 +129,8 @@ fn one_row_has_no_other() {
 #[test]
 fn rows_that_are_not_solved_are_named() {
     let o = run(&["--most", "1"]);
-    assert_eq!((o.status.code(), err(&o).trim()), (Some(1), "3 of 3 rows not solved: row 0, tolerance not reached; row 1, tolerance not reached; row 2, tolerance not reached"));
+    let open = "row 0, tolerance not reached; row 1, tolerance not reached; row 2, tolerance not reached";
+    assert_eq!((o.status.code(), err(&o)), (Some(1), format!("3 of 3 rows not solved: {open}\n")));
     // Thirteen single nodes; the last row is a chain that is not positive definite, though its blocks and its coarse matrix are.
     let mut entries: Vec<_> = (1..=17).map(|i| (i, i, 4.0)).collect();
     entries.extend((14..17).map(|i| (i + 1, i, 3.0)));
@@ -137,7 +138,8 @@ fn rows_that_are_not_solved_are_named() {
     let loads = Temporary::new("many-loads", &format!("{}1\n-2\n1.5\n-1\n", "1\n".repeat(13)));
     let o = run(&[&many.0, "--block", "1", "--loads", &loads.0]);
     assert_eq!((o.status.code(), err(&o).trim()), (Some(1), "1 of 14 rows not solved: row 13, stopped: the matrix is not positive definite there"));
-    assert!(out(&o).contains("  row 11: ") && !out(&o).contains("  row 12: ") && out(&o).contains("\n  and 2 rows more\nfigures of the other rows: 16 compared, 0 differ\n"), "{}", out(&o));
+    assert!(out(&o).contains("  row 11: ") && !out(&o).contains("  row 12: "), "{}", out(&o));
+    assert!(out(&o).contains("\n  and 2 rows more\nfigures of the other rows: 16 compared, 0 differ\n"), "{}", out(&o));
     let loads = Temporary::new("huge-loads", &format!("1e308\n{}", "1\n".repeat(16)));
     let huge = matrix("huge", 17, &(1..=17).map(|i| (i, i, 0.25)).collect::<Vec<_>>());
     let o = run(&[&huge.0, "--block", "1", "--loads", &loads.0, "--row", "1"]);
