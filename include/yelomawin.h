@@ -21,11 +21,11 @@
  * What stands after the colon is returned with the number: in `answer`, by a refused setup in `record`. An accepted call returns there
  * the results that are numbers. Either way as many as the list has room for, and zeros after them. Rows count from 0.
  *
- * A list is a pointer and its length, floats in the machine's order. A pointer is not null, even to no elements, and a list lent for
- * writing overlaps no other list of the call. In a list a NaN may come and go with any pattern; in `answer` it is 7FF8000000000000.
+ * A list is a pointer and its length, floats in the machine's order. A pointer is not null, even to no elements, and aligned for its
+ * elements; a list lent for writing overlaps no other list of the call. In a list a NaN may come and go with any pattern; in `answer` it is 7FF8000000000000.
  *
- * After a refusal by 14 to 24 the lists lent for writing hold zeros, after any other they keep their contents (grouping alone keeps
- * all after 16 too). An accepted call leaves zeros in its work lists and after its results.
+ * After a refusal by 14 to 24 the lists lent for writing, `answer` and `record` aside, hold zeros; after any other they keep their
+ * contents (grouping alone keeps all after 16 too). An accepted call leaves zeros in its work lists and after its results.
  */
 #ifndef YELOMAWIN_H
 #define YELOMAWIN_H

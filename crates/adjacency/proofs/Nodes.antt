@@ -11,7 +11,7 @@ use lib.Ieee.{Float, nan, lt, eq, ofBits}
 use Rattle.definitions.specs.Numbers.{total, zeroᶠ}
 use Rattle.definitions.specs.Matrix.{Matrix, csr, stored}
 use Rattle.definitions.specs.Neighbours.{neighboursOf, squaresTowards, normTowards, divisorOf, strength}
-use Rattle.adjacency.specs.Collect.{marked, nodesIn, others}
+use Rattle.adjacency.specs.Collect.{marked, nodesIn}
 use Rattle.adjacency.specs.Formed.{Formed, Spans}
 use Rattle.adjacency.specs.Lists.{found, weights, listOf, Between, Listed}
 use Rattle.adjacency.specs.Order.{before, sortBy, Below}

@@ -2,7 +2,7 @@
 use mathlib.Core.Bool.{Bool, _&&_}
 use Prim.Native.Nat.{ℕ, _+_, _*_, _/_, _%_}
 use lib.Dec.{eqb, leb}
-use Rattle.definitions.specs.Refusal.{Outcome, done, Checked, require, _>>=_}
+use Rattle.definitions.specs.Refusal.{Checked, require, _>>=_}
 use Rattle.definitions.specs.Block.{maxBlock}
 use Rattle.definitions.specs.declared.Refusal.the-variants.{NotSquare, BlockSize, NotMultiple, ListTooShort}
 

@@ -10,7 +10,7 @@ ghost use Rattle.definitions.specs.Matrix.{csr};
 ghost use Rattle.definitions.specs.Neighbours.{normTowards};
 ghost use Rattle.adjacency.specs.Formed.{Formed};
 ghost use Rattle.adjacency.specs.Norms.{Normed};
-ghost use Rattle.adjacency.specs.Strengths.{AllPlain, plain};
+ghost use Rattle.adjacency.specs.Strengths.{AllPlain};
 
 // The norm of node v's own block.
 fn norm(

@@ -10,12 +10,12 @@ use super::stored::neighbour;
 use super::stored::offset;
 ghost use mathlib.Core.Path.{_≡_};
 ghost use mathlib.Core.Bool.{_||_};
-ghost use mathlib.Core.List.{List, [], _∷_, _++_};
-ghost use Prim.Native.Nat.{ℕ, suc, _+_, _-_, _*_, _^_, _<_, _≤_};
+ghost use mathlib.Core.List.{_++_};
+ghost use Prim.Native.Nat.{ℕ, _+_, _-_, _*_, _^_, _<_, _≤_};
 ghost use lib.Dec.{eqb};
 ghost use lib.ListN.{length, getD, take, drop};
 ghost use lib.Seq.{slice};
-ghost use Rattle.definitions.specs.Groups.{chosen, edgesTo, noAnchor, nodesOf, relabelled, replay, groupsOf};
+ghost use Rattle.definitions.specs.Groups.{chosen, edgesTo, nodesOf, relabelled, replay, groupsOf};
 ghost use Rattle.aggregates.specs.Lists.{Lists};
 ghost use Rattle.aggregates.specs.Stored.{offsetsAt, neighboursAt, listsAt};
 ghost use Rattle.aggregates.specs.JoinChoice.{at, beforeBy, better, bump, namedBy, othersBy, wipe, Named, Zeros};
@@ -125,7 +125,7 @@ fn choose_group(w: &mut [u32], counts: usize, hits: usize, from: usize, end: usi
     best
 }
 
-// Is the group o that a list of the group g names g itself, or empty?
+// Whether the group o, which a list of the group g names, does not count: it is g itself, or empty.
 fn left_out(w: &[u32], counts: usize, g: u32, o: u32) -> bool
     requires { ⌜ counts + o < length (now w) ⌝ }
     ensures { λ r. ⌜ r ≡ (eqb o g || eqb (at counts (now (w .entry)) o) 0) ⌝ }

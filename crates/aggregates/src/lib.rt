@@ -1,6 +1,6 @@
 // Groups of nodes, from what each node lists: growth, joining, numbers by first appearance.
 ghost use mathlib.Core.Path.{_≡_};
-ghost use Prim.Native.Nat.{_+_, _*_, _^_, _≤_, _<_};
+ghost use Prim.Native.Nat.{_+_, _^_, _≤_, _<_};
 ghost use lib.ListN.{length, take, replicate};
 ghost use Rattle.definitions.specs.Lists.{padded};
 ghost use Rattle.definitions.specs.Groups.{groupingCall, graphGrouping, noAnchor, floorOf, groupingLeft, groupingWorkLeft};
@@ -63,7 +63,7 @@ fn hand_over(work: &mut [u32], ids: &mut [u32], nodes: usize)
     numbers::zero_ints(work);
 }
 
-// GROUPING IN ONE LIST: the neighbour lists stand in `work` from work[base] on; the group of each node takes the front, zeros behind.
+// Grouping in one list: the neighbour lists stand in `work` from work[base] on; the group of each node takes the front, zeros behind.
 pub fn group_within(nodes: usize, size: usize, base: usize, work: &mut [u32]) -> GroupingAnswer
     ensures { λ r. ⌜ r ≡ groupingAnswer (withinCall nodes size base (now (work .entry))) ⌝ }
     ensures { λ r. ⌜ now (work .exit) ≡ groupingLeft (withinCall nodes size base (now (work .entry))) (now (work .entry)) ⌝ }
@@ -87,7 +87,7 @@ fn place(nodes: usize, offsets: &[u32], neighbours: &[u32], base: usize, work: &
     numbers::copy_ints(neighbours, &mut work[start..]);
 }
 
-// GROUPING ALONE: the group of each node goes to `ids`, zeros behind, and `work` is left zero.
+// Grouping alone: the group of each node goes to `ids`, zeros behind, and `work` is left zero.
 pub fn group(
     nodes: usize,
     size: usize,

@@ -1,6 +1,6 @@
-// Numbers by first appearance, from 0. The numbers are w[0..nodes], each at most `top`. A table behind them has, for each number, its new number and one, and 0 while it has none.
+// Numbers by first appearance, from 0. The numbers are w[0..nodes], each at most `top`. A table behind them has, for each number, its new number plus one, and 0 while it has none.
 ghost use mathlib.Core.Path.{_≡_};
-ghost use lib.ListN.{length, take};
+ghost use lib.ListN.{take};
 ghost use Rattle.definitions.specs.Groups.{renumbered};
 ghost use Rattle.aggregates.specs.Numbered.{Numbered, Blank};
 

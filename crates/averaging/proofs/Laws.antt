@@ -1,12 +1,12 @@
 -- The pairs (i, j), (j, i) lie apart, so that writing one leaves the others, and each is read before it is written.
 use Prim.Native.Nat.{ℕ, _+_, _*_, _<_, _≤_}
-use mathlib.Core.Path.{_≡_, refl, ap, sym, _∙_}
+use mathlib.Core.Path.{_≡_, refl, sym, _∙_}
 use mathlib.Core.Bool.{Bool, true, false}
 use mathlib.Core.List.{List, _++_}
 use mathlib.Core.Logic.{_⊎_, inl, inr, ⊎-elim}
 use native.Mathlib.Omega.{arith}
 use native.Mathlib.Decide.{ℕ-discrete, decLt}
-use lib.Dec.{eqb, ltb, leb}
+use lib.Dec.{leb}
 use lib.ListN.{length, getD, set, take, drop, length-set}
 use lib.Seq.{getD-set-same, getD-set-other, getD-take, length-take-le}
 use lib.Ieee.{Float, nan}
@@ -15,7 +15,8 @@ use Rattle.definitions.specs.Lists.{square}
 use Rattle.definitions.specs.Numbers.{_+ᶠ_, _*ᶠ_, half}
 use Rattle.definitions.specs.Coarse.{averaged, averagedSquare, entryIn}
 use Rattle.laws.specs.Lists.{length-square}
-use Rattle.averaging.specs.Averaging.{pairHalf, pairAveraged, tile, Averages, averagedIn, maxCoarse}
+use Rattle.averaging.specs.Averaging.{pairHalf, pairAveraged, tile, Averages, averagedIn}
+use Rattle.definitions.specs.Setup.{maxCoarse}
 use Rattle.averaging.proofs.Lists.{square-is, split-is}
 use Rattle.averaging.proofs.Places.{same-row, same-col, place}
 

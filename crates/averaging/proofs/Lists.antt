@@ -5,7 +5,6 @@ use mathlib.Core.List.{List, [], _∷_, _++_, flatMap, append-nil}
 use native.Mathlib.Omega.{arith}
 use lib.ListN.{length, getD, take, drop, replicate, length-drop, length-replicate, replicate-append-replicate, drop-of-length-le, take-append-drop}
 use lib.Seq.{getD-take, getD-drop, length-take-le, take-at, drop-at, take-all, ext-getD}
-use lib.ListN.{List·getD-append}
 use Rattle.definitions.specs.Lists.{tab, upTo, square}
 use Rattle.laws.specs.Lists.{tab-is}
 

@@ -1,17 +1,14 @@
 -- What averaging in place leaves, and which pairs a part of the loops has averaged, whatever their order.
 use Prim.Native.Nat.{ℕ, _+_, _*_, _<_, _≤_}
 use mathlib.Core.Path.{_≡_}
-use mathlib.Core.Bool.{Bool, true, false, _&&_}
+use mathlib.Core.Bool.{true, false, _&&_}
 use mathlib.Core.List.{List, _++_}
 use lib.Dec.{leb}
 use lib.ListN.{length, getD, set, take, drop}
 use lib.Ieee.{Float, nan}
 use Rattle.definitions.specs.Numbers.{_+ᶠ_, _*ᶠ_, half}
+use Rattle.definitions.specs.Setup.{maxCoarse}
 use Rattle.definitions.specs.Coarse.{averagedSquare}
-
--- the largest coarse dimension
-abbrev pub maxCoarse : ℕ
-maxCoarse = 2_048
 
 -- the matrix in the first c · c elements, averaged
 unfoldable pub averagedIn : ℕ → List Float → List Float

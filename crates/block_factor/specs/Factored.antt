@@ -1,5 +1,5 @@
 -- What factoring a dense block answers: the definitions' own steps over its numbers d.
-use Prim.Native.Nat.{ℕ, _+_, _*_}
+use Prim.Native.Nat.{ℕ, _+_}
 use mathlib.Core.Bool.{true, false}
 use mathlib.Core.List.{List}
 use lib.ListN.{getD}

@@ -1,17 +1,17 @@
 -- A list that a loop fills from the front by index, and the bytes of one number in a list.
-use Prim.Native.Nat.{ℕ, zero, suc, _+_, _*_, _-_, _/_, _%_, _<_, _≤_}
-use mathlib.Core.Path.{_≡_, refl, sym, ap, _∙_}
+use Prim.Native.Nat.{ℕ, zero, suc, _+_, _*_, _/_, _%_, _<_, _≤_}
+use mathlib.Core.Path.{_≡_, refl, ap}
 use mathlib.Core.Bool.{Bool, true, false, _&&_}
 use mathlib.Core.List.{List, [], _∷_, _++_, append-assoc}
-use native.Mathlib.Nat.{add-suc, suc-add, add-zero, mul-div-cancel}
+use native.Mathlib.Nat.{add-zero}
 use native.Mathlib.Numerals.{add-one}
 use native.Mathlib.Omega.{arith}
-use borrow.Author.Tests.{eqb-true, leb-true}
+use borrow.Author.Tests.{leb-true}
 use lib.Dec.{leb, eqb}
-use lib.ListN.{length, getD, set, take, drop}
+use lib.ListN.{length, getD, set, drop}
 use lib.Seq.{drop-cons, set-at}
 use Rattle.definitions.specs.Lists.{tab}
-use Rattle.laws.specs.Lists.{length-tab, tab-cong}
+use Rattle.laws.specs.Lists.{length-tab}
 use Rattle.byte_lists.specs.Bytes.{spelled, wordAt, over, readable, writable}
 use Rattle.byte_lists.specs.Laws.{piece}
 

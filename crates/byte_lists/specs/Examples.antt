@@ -1,8 +1,7 @@
 -- The lists of bytes by example: little end first, and a NaN's pattern both ways.
-use Prim.Native.Nat.{ℕ}
 use mathlib.Core.Path.{_≡_, refl}
-use mathlib.Core.List.{List, [], _∷_}
-use lib.Ieee.{Float, nan, binary64, toBits, ofBits}
+use mathlib.Core.List.{[], _∷_}
+use lib.Ieee.{nan, toBits, ofBits}
 use Rattle.definitions.specs.Lists.{tab}
 use Rattle.definitions.specs.Numbers.{oneᶠ}
 use Rattle.byte_lists.specs.Bytes.{spelled, wordAt, wordsOf, intsOf, floatsOf, byteOf, bytesOf, bytesOfInts, bytesOfFloats}

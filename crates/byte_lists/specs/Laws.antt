@@ -1,7 +1,7 @@
 -- What is read stands in the front of its room, and is as long as the bytes say.
-use Prim.Native.Nat.{ℕ, zero, suc, _/_, _+_, _-_, _<_, _≤_}
+use Prim.Native.Nat.{ℕ, zero, suc, _/_, _+_, _<_, _≤_}
 use mathlib.Core.Path.{_≡_, refl, ap, _∙_}
-use mathlib.Core.List.{List, [], _∷_, _++_}
+use mathlib.Core.List.{List, _∷_}
 use native.Mathlib.Nat.{add-zero, add-suc, suc-add}
 use native.Mathlib.Omega.{arith}
 use lib.Ieee.{Float, binary64, ofBits}

@@ -1,8 +1,8 @@
 -- The packed factor, a row at a time: what is left of an entry is a sum that runs, and each entry is written after what it reads.
-use Prim.Native.Nat.{ℕ, zero, suc, _+_, _-_, _*_, _/_, _<_, _≤_}
-use mathlib.Core.Path.{_≡_, refl, ap, sym, _∙_}
-use mathlib.Core.Bool.{Bool, true, false}
-use mathlib.Core.List.{List, [], _∷_, _++_, foldl, foldl-append}
+use Prim.Native.Nat.{ℕ, zero, suc, _+_, _-_, _*_, _<_, _≤_}
+use mathlib.Core.Path.{_≡_, refl, sym, _∙_}
+use mathlib.Core.Bool.{true, false}
+use mathlib.Core.List.{List, [], _∷_, foldl-append}
 use native.Mathlib.Omega.{arith}
 use native.Mathlib.Nat.{mul-le-mul}
 use native.Mathlib.Numerals.{add-one}
@@ -11,13 +11,13 @@ use lib.Seq.{take-suc, take-length}
 use lib.Ieee.{Float, nan}
 use Rattle.definitions.specs.Lists.{tab}
 use Rattle.definitions.specs.Numbers.{_-ᶠ_, _*ᶠ_, _/ᶠ_, zeroᶠ, magnitude, larger, largest, reduced, above, rootᶠ}
-use Rattle.definitions.specs.Factor.{leftOf, rest, products, entry, factorFrom}
-use Rattle.definitions.specs.Refusal.{Outcome, refused, done}
+use Rattle.definitions.specs.Factor.{leftOf, rest, products, factorFrom}
+use Rattle.definitions.specs.Refusal.{refused, done}
 use Rattle.definitions.specs.declared.Refusal.the-variants.{CoarsePivot}
-use Rattle.definitions.specs.Coarse.{packed, packedLength, packedEntry, entryIn}
+use Rattle.definitions.specs.Coarse.{packed, packedLength, entryIn}
 use Rattle.averaging.proofs.Places.{place}
 use Rattle.laws.specs.Growing.{tab-snoc}
-use Rattle.coarse_factor.proofs.Packed.{tri-row, tri-next}
+use Rattle.coarse_factor.proofs.Packed.{tri-row}
 
 -- ---- the largest magnitude
 

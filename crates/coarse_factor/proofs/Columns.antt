@@ -1,7 +1,7 @@
 -- Four entries of a row side by side: the sums of products run together up to the first of the four columns, and what the later
 -- columns add is the entries just made. What they read lies before what is written.
-use Prim.Native.Nat.{ℕ, zero, suc, _+_, _-_, _*_, _/_, _<_, _≤_}
-use mathlib.Core.Path.{_≡_, refl, ap, sym, _∙_}
+use Prim.Native.Nat.{ℕ, suc, _+_, _*_, _<_, _≤_}
+use mathlib.Core.Path.{_≡_, refl, ap, _∙_}
 use mathlib.Core.List.{List}
 use native.Mathlib.Omega.{arith}
 use lib.ListN.{length, getD, set, length-set}
@@ -9,7 +9,7 @@ use lib.Seq.{getD-set-same, getD-set-other}
 use lib.Ieee.{Float, nan}
 use Rattle.definitions.specs.Lists.{tab}
 use Rattle.definitions.specs.Numbers.{_-ᶠ_, _*ᶠ_, _/ᶠ_, reduced}
-use Rattle.definitions.specs.Factor.{leftOf, rest, products, entry}
+use Rattle.definitions.specs.Factor.{leftOf, rest, products}
 use Rattle.definitions.specs.Coarse.{packed, packedLength, entryIn}
 use Rattle.averaging.proofs.Places.{place}
 use Rattle.laws.specs.Lists.{tab-cong}

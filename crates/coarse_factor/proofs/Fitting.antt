@@ -1,13 +1,12 @@
 -- The calls' answers, from what the code has at each return.
-use Prim.Native.Nat.{ℕ, zero, suc, _+_, _-_, _*_, _/_, _<_, _≤_}
+use Prim.Native.Nat.{ℕ, zero, suc, _-_, _*_, _<_, _≤_}
 use mathlib.Core.Path.{_≡_, refl, ap, sym, _∙_}
-use mathlib.Core.Bool.{Bool, true, false, _&&_}
-use mathlib.Core.List.{List, [], _∷_, _++_}
+use mathlib.Core.Bool.{Bool, true, false}
+use mathlib.Core.List.{List, _++_}
 use native.Mathlib.Omega.{arith}
-use lib.Dec.{leb}
-use lib.ListN.{length, getD, set, take, drop, replicate, length-replicate, replicate-append-replicate}
-use lib.Seq.{take-at, drop-at, length-front, length-take-le}
-use lib.Ieee.{Float, nan}
+use lib.ListN.{length, set, take, drop, replicate, length-replicate}
+use lib.Seq.{length-front, length-take-le}
+use lib.Ieee.{Float}
 use borrow.Author.Tests.{le-leb, lt-leb}
 use Rattle.definitions.specs.Lists.{padded}
 use Rattle.averaging.proofs.Lists.{take-zeros, drop-zeros}
@@ -23,7 +22,8 @@ use Rattle.definitions.specs.declared.Answer.{Answer}
 use Rattle.definitions.specs.declared.Answer.the-variants.{Accepted, Refused}
 use Rattle.coarse_factor.specs.declared.FactorAnswer.{FactorAnswer}
 use Rattle.coarse_factor.specs.declared.FactorAnswer.the-variants.{Factored, Refused as NoFactor}
-use Rattle.coarse_factor.specs.Calls.{outcomeOf, coarseFactorCall, factorAnswer, coarseInverseCall, coarseSolveCall, maxCoarse}
+use Rattle.coarse_factor.specs.Calls.{outcomeOf, coarseFactorCall, factorAnswer, coarseInverseCall, coarseSolveCall}
+use Rattle.definitions.specs.Setup.{maxCoarse}
 
 -- ---- 23 and 24
 

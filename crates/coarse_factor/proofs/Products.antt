@@ -1,12 +1,11 @@
 -- The solve with the inverse: products beside the right-hand side, then moved over it.
 use Prim.Native.Nat.{ℕ, zero, suc, _+_, _-_, _*_, _<_, _≤_}
 use mathlib.Core.Path.{_≡_, refl, ap, sym, _∙_}
-use mathlib.Core.List.{List, [], _∷_, _++_, append-nil}
+use mathlib.Core.List.{List, _++_}
 use native.Mathlib.Omega.{arith}
-use native.Mathlib.Numerals.{add-one}
 use native.Mathlib.Decide.{ℕ-discrete}
-use lib.ListN.{length, getD, set, take, drop, replicate, length-set, length-drop, drop-of-length-le}
-use lib.Seq.{getD-set-same, getD-set-other, getD-take, length-take-le, length-front, take-all, take-at}
+use lib.ListN.{length, getD, set, take, drop, replicate, length-set}
+use lib.Seq.{getD-set-same, getD-set-other, getD-take, length-take-le, length-front, take-at}
 use lib.Ieee.{Float, nan}
 use Rattle.definitions.specs.Lists.{tab, padded}
 use Rattle.definitions.specs.Numbers.{_*ᶠ_, zeroᶠ, summed}

@@ -1,14 +1,14 @@
 -- The rows of the inverse, one after the other in a list.
 use Prim.Native.Nat.{ℕ, zero, suc, _+_, _-_, _*_, _<_, _≤_}
 use mathlib.Core.Path.{_≡_, refl, ap, sym, _∙_}
-use mathlib.Core.Bool.{true, false, cond}
+use mathlib.Core.Bool.{cond}
 use mathlib.Core.List.{List, _++_, flatMap, append-assoc}
 use native.Mathlib.Omega.{arith}
 use native.Mathlib.Numerals.{add-one}
 use native.Mathlib.Decide.{ℕ-discrete}
 use lib.Dec.{eqb}
 use lib.ListN.{length, getD, set, take, drop, replicate, length-set, length-replicate, getD-replicate, length-append, length-drop}
-use lib.Seq.{getD-set-same, getD-set-other, take-at, drop-at, drop-drop, length-take-le, take-all, drop-append-add}
+use lib.Seq.{getD-set-same, getD-set-other, take-at, drop-at, drop-drop, length-take-le}
 use lib.Ieee.{Float, nan}
 use borrow.Author.Tests.{eq-eqb, ne-eqb}
 use Rattle.definitions.specs.Lists.{tab, upTo, padded}

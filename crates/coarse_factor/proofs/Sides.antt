@@ -1,21 +1,19 @@
 -- Four right-hand sides in one list: a write at number i of one leaves the others, so that each goes its own way through the solve.
-use Prim.Native.Nat.{ℕ, zero, suc, _+_, _-_, _*_, _<_, _≤_}
+use Prim.Native.Nat.{ℕ, suc, _+_, _-_, _<_, _≤_}
 use mathlib.Core.Path.{_≡_, refl, ap, sym, _∙_}
-use mathlib.Core.List.{List, [], _∷_, _++_, append-nil}
+use mathlib.Core.List.{List, [], _++_, append-nil}
 use native.Mathlib.Omega.{arith}
-use native.Mathlib.Numerals.{add-one}
 use lib.ListN.{length, getD, set, take, drop, length-set, length-drop, length-replicate, replicate, take-append-drop}
 use lib.Seq.{getD-take, getD-drop, take-set-le, take-set-lt, drop-set-lt, drop-set-add, length-take-le, drop-length, drop-drop, take-all}
 use lib.Ieee.{Float, nan}
-use Rattle.definitions.specs.Lists.{tab}
-use Rattle.definitions.specs.Numbers.{_+ᶠ_, _-ᶠ_, _*ᶠ_, _/ᶠ_, minusZero, summed, zeroᶠ, oneᶠ}
+use Rattle.definitions.specs.Numbers.{_+ᶠ_, _-ᶠ_, _*ᶠ_, _/ᶠ_, summed, zeroᶠ, oneᶠ}
 use Rattle.definitions.specs.Coarse.{packed, packedEntry, packedLength, packedForward, packedBackward, packedSolve, unit}
 use Rattle.averaging.proofs.Lists.{take-zeros, drop-zeros}
 use Rattle.laws.specs.Lists.{tab-cong}
 use Rattle.laws.specs.Growing.{summed-more}
 use Rattle.coarse_factor.specs.declared.Four.{Four}
 use Rattle.coarse_factor.specs.Lanes.{rowSum, colSum, RowFour, ColFour, setLanes, lanesOf, lane, Ahead, Back, Forward4, Backward4, Units4, fourSolved}
-use Rattle.coarse_factor.proofs.Packed.{forward-none, forward-step, backward-none, backward-step, col-none, col-step}
+use Rattle.coarse_factor.proofs.Packed.{forward-none, forward-step, backward-none, backward-step, col-step}
 use Rattle.coarse_factor.proofs.Products.{rowSum-ext}
 use Rattle.coarse_factor.proofs.Rows.{unit-law, length-unit}
 

@@ -1,12 +1,12 @@
 -- The calls on the coarse factor: each with its checks in order, over the lengths of the lists lent.
-use Prim.Native.Nat.{ℕ, _+_, _*_, _/_}
-use mathlib.Core.Bool.{Bool, true, false, _&&_}
+use Prim.Native.Nat.{ℕ, _*_}
+use mathlib.Core.Bool.{_&&_}
 use mathlib.Core.List.{List}
 use lib.Dec.{leb}
 use lib.ListN.{length, take}
 use lib.Ieee.{Float}
-use Rattle.definitions.specs.Numbers.{largest}
 use Rattle.definitions.specs.Refusal.{Outcome, refused, done, require, _>>=_}
+use Rattle.definitions.specs.Setup.{maxCoarse}
 use Rattle.definitions.specs.Coarse.{coarseFactor, packedLength, inverseOf, coarseSolve, coarseLength}
 use Rattle.definitions.specs.declared.Refusal.the-variants.{CoarseTooLarge, ListTooShort}
 use Rattle.definitions.specs.declared.TwoLevelCoarseApplyPolicy.{TwoLevelCoarseApplyPolicy}
@@ -14,10 +14,6 @@ use Rattle.definitions.specs.declared.Answer.{Answer}
 use Rattle.definitions.specs.declared.Answer.the-variants.{Accepted, Refused}
 use Rattle.coarse_factor.specs.declared.FactorAnswer.{FactorAnswer}
 use Rattle.coarse_factor.specs.declared.FactorAnswer.the-variants.{Factored, Refused as NoFactor}
-
--- the largest coarse dimension
-abbrev pub maxCoarse : ℕ
-maxCoarse = 2_048
 
 -- an answer and the list that it stands for
 unfoldable pub outcomeOf : Answer → List Float → Outcome (List Float)

@@ -7,7 +7,7 @@ use numbers::larger;
 use numbers::magnitude;
 use root::root;
 ghost use mathlib.Core.Path.{_≡_};
-ghost use Prim.Native.Nat.{ℕ, _+_, _*_, _<_, _≤_, _^_};
+ghost use Prim.Native.Nat.{_+_, _*_, _<_, _≤_};
 ghost use lib.ListN.{length, getD};
 ghost use mathlib.Core.List.{List};
 ghost use lib.Ieee.{Float, nan};
@@ -107,7 +107,7 @@ fn four_at(m: &[f64], at: usize) -> Four
     }
 }
 
-// The entries of row i left of the diagonal, from column j on; the row begins at start.
+// The entries of row i left of the diagonal, from column `from` on; the row begins at `start`.
 fn fill_rest(m: &[f64], l: &mut [f64], c: usize, i: usize, start: usize, from: usize)
     requires { ⌜ (i < c) × (from ≤ i) × (length (now m) ≡ c * c) × (length (now l) ≡ packedLength c) × (start ≡ packedLength i) × (c ≤ 2048) ⌝ }
     ensures { λ _. ⌜ (length (now (l .exit)) ≡ length (now (l .entry))) × ((l₀ : List Float) → now (l .entry) ≡ leftOf packed (entryIn (now (m .entry)) c) i from l₀ → now (l .exit) ≡ leftOf packed (entryIn (now (m .entry)) c) i i l₀) ⌝ }

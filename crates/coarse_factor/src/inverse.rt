@@ -5,7 +5,7 @@ use averaging::average;
 use numbers::zero_floats;
 ghost use mathlib.Core.Path.{_≡_};
 ghost use mathlib.Core.List.{List, _++_};
-ghost use Prim.Native.Nat.{ℕ, _+_, _*_, _<_, _≤_};
+ghost use Prim.Native.Nat.{_+_, _*_, _<_, _≤_};
 ghost use lib.ListN.{length, drop};
 ghost use lib.Ieee.{Float};
 ghost use Rattle.definitions.specs.Lists.{padded};

@@ -3,10 +3,9 @@
 use crate::Four;
 use numbers::zero_floats;
 ghost use mathlib.Core.Path.{_≡_};
-ghost use Prim.Native.Nat.{ℕ, suc, _+_, _-_, _*_, _<_, _≤_, _^_};
-ghost use lib.ListN.{length, getD, drop};
-ghost use lib.Ieee.{nan};
-ghost use Rattle.definitions.specs.Coarse.{packed, packedLength, packedForward, packedBackward, packedSolve};
+ghost use Prim.Native.Nat.{_+_, _-_, _*_, _<_, _≤_};
+ghost use lib.ListN.{length};
+ghost use Rattle.definitions.specs.Coarse.{packed, packedLength};
 ghost use Rattle.coarse_factor.specs.Lanes.{RowFour, ColFour, setLanes, lanesOf, Forward4, Backward4, Units4, fourSolved};
 
 // The n numbers of l from start on, by those of each right-hand side.

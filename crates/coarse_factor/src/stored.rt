@@ -4,13 +4,11 @@ use crate::solve::solve;
 use definitions::TwoLevelCoarseApplyPolicy;
 use numbers::zero_floats;
 ghost use mathlib.Core.Path.{_≡_};
-ghost use Prim.Native.Nat.{ℕ, _+_, _*_, _<_, _≤_};
-ghost use lib.ListN.{length, getD, take};
-ghost use lib.Ieee.{nan};
+ghost use Prim.Native.Nat.{_+_, _*_, _<_, _≤_};
+ghost use lib.ListN.{length, take};
 ghost use Rattle.definitions.specs.Lists.{padded};
 ghost use Rattle.definitions.specs.Numbers.{zeroᶠ};
 ghost use Rattle.definitions.specs.Coarse.{packedLength, packedSolve, coarseLength, coarseSolve};
-ghost use Rattle.coarse_factor.specs.Lanes.{rowSum};
 ghost use Rattle.coarse_factor.specs.Stored.{Products, Moved, inverseSolve};
 
 // How many numbers are stored.

@@ -1,11 +1,11 @@
 -- The calls' checks, from what the code has at each return.
-use Prim.Native.Nat.{ℕ, zero, suc, _+_, _-_, _*_, _/_, _%_, _<_, _≤_}
+use Prim.Native.Nat.{ℕ, _+_, _-_, _*_, _/_, _%_, _<_, _≤_}
 use mathlib.Core.Path.{_≡_, refl, ap, sym, _∙_}
-use mathlib.Core.Bool.{Bool, true, false, not, _&&_}
+use mathlib.Core.Bool.{true, false}
 use mathlib.Core.List.{List, [], _∷_}
 use native.Mathlib.Omega.{arith}
 use native.Mathlib.Nat.{mul-le-mul-right, div-add-mod', div-lt-iff-lt-mul, mod-lt}
-use lib.Dec.{leb, eqb}
+use lib.Dec.{leb}
 use lib.ListN.{length, getD, replicate}
 use lib.Ieee.{Float}
 use borrow.Author.Tests.{le-leb, lt-leb, eq-eqb, ne-eqb, leb-false}
@@ -21,10 +21,9 @@ use Rattle.definitions.specs.declared.Refusal.{Refusal}
 use Rattle.definitions.specs.declared.Refusal.the-variants.{NotSquare, BlockSize, NotMultiple, ListTooShort, CoarseTooLarge, SetupMisfit}
 use Rattle.definitions.specs.declared.Answer.{Answer}
 use Rattle.definitions.specs.declared.Answer.the-variants.{Accepted, Refused}
-use Rattle.averaging.specs.Averaging.{maxCoarse}
+use Rattle.definitions.specs.Setup.{maxCoarse}
 use Rattle.csr32.specs.Rows.{outside, none-any, no-falls, no-falls-to, Rows}
 use Rattle.csr32.specs.Calls.{accepted-done, refused-is, goes-on, stops}
-use Rattle.csr32.specs.Valid.{accepted-rows}
 use Rattle.coarse_matrix.specs.Scatter.{Walk, Grouped}
 use Rattle.coarse_matrix.specs.Calls.{resultOrKept, constantChecks, constantCoarseCall, ConstantFacts, transferFits, galerkinChecks, galerkinCoarseCall, workOrKept, GalerkinFacts}
 

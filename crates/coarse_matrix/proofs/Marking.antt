@@ -1,8 +1,8 @@
 -- The accumulator of a row of A P: its stamps, the list of touched columns and the sums, one number more.
-use Prim.Native.Nat.{ℕ, zero, suc, _+_, _-_, _*_, _<_, _≤_}
+use Prim.Native.Nat.{ℕ, zero, suc, _+_, _<_, _≤_}
 use mathlib.Core.Path.{_≡_, refl, ap, sym, _∙_}
 use mathlib.Core.Bool.{Bool, true, false}
-use mathlib.Core.List.{List, [], _∷_, _++_, flatMap, foldl, foldl-append, append-nil, append-assoc, map-append}
+use mathlib.Core.List.{List, [], _∷_, _++_, flatMap, foldl-append, append-nil, append-assoc, map-append}
 use native.Mathlib.Omega.{arith}
 use native.Mathlib.Numerals.{add-one}
 use native.Mathlib.Decide.{ℕ-discrete}
@@ -10,8 +10,8 @@ use lib.Dec.{eqb}
 use lib.ListN.{length, getD, set, take, drop, length-set, length-drop}
 use lib.Seq.{getD-set-same, getD-set-other, take-set-le, take-set-lt, drop-set-lt, drop-set-add, take-suc-set, length-take-le, getD-take}
 use lib.Ieee.{Float, nan}
-use borrow.Author.Tests.{eqb-true, eqb-false, eq-eqb, ne-eqb}
-use Rattle.definitions.specs.Lists.{tab, upTo, keep}
+use borrow.Author.Tests.{eq-eqb, ne-eqb}
+use Rattle.definitions.specs.Lists.{keep}
 use Rattle.definitions.specs.Numbers.{_+ᶠ_, _*ᶠ_, zeroᶠ, total}
 use Rattle.definitions.specs.Matrix.{Entry, stored, rowOf}
 use Rattle.csr32.specs.Stored.{stored-none, stored-more, where-hit, where-miss, where-none, where-append}

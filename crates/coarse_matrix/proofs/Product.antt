@@ -1,17 +1,17 @@
 -- A row of Pᵀ A P: what the accumulator and the weights add to the coarse entry (i, j).
 use Prim.Native.Nat.{ℕ, zero, suc, _+_, _-_, _*_, _<_, _≤_}
-use mathlib.Core.Path.{_≡_, refl, ap, sym, _∙_}
+use mathlib.Core.Path.{_≡_, refl, ap, _∙_}
 use mathlib.Core.Bool.{Bool, true, false}
-use mathlib.Core.List.{List, [], _∷_, _++_, map, flatMap, foldl, foldl-append}
+use mathlib.Core.List.{List, [], _∷_, _++_, map, flatMap, foldl-append}
 use native.Mathlib.Omega.{arith}
 use native.Mathlib.Numerals.{add-one}
 use lib.Dec.{eqb}
-use lib.ListN.{length, getD, set, take, drop, replicate, length-append, length-drop, getD-replicate, length-replicate}
+use lib.ListN.{length, getD, take, drop, replicate, length-append, length-drop, getD-replicate, length-replicate}
 use lib.Seq.{getD-take, getD-drop, length-take-le, take-at}
 use lib.Ieee.{Float, nan}
 use borrow.Author.Tests.{eqb-true, eqb-false, eq-eqb}
-use Rattle.definitions.specs.Lists.{tab, upTo, keep, square, padded}
-use Rattle.definitions.specs.Numbers.{_+ᶠ_, _*ᶠ_, zeroᶠ, total}
+use Rattle.definitions.specs.Lists.{upTo, keep, square, padded}
+use Rattle.definitions.specs.Numbers.{_*ᶠ_, zeroᶠ, total}
 use Rattle.definitions.specs.Matrix.{Matrix, Entry, valuesWhere, entriesOf, rowOf, stored, csr}
 use Rattle.definitions.specs.Coarse.{weighted, weightsAt, productTerms, galerkinTerms, galerkinEntry, averagedSquare}
 use Rattle.averaging.specs.Averaging.{averagedIn}
@@ -20,8 +20,8 @@ use Rattle.averaging.proofs.Laws.{average-fits, length-averaged}
 use Rattle.averaging.proofs.Places.{place}
 use Rattle.csr32.specs.Stored.{where-append, where-hit, where-miss, where-none}
 use Rattle.laws.specs.Growing.{flatMap-snoc, upTo-snoc, rows-none}
-use Rattle.coarse_matrix.specs.Scatter.{put, bump, scatter}
-use Rattle.coarse_matrix.specs.Galerkin.{scaled, productPuts, putAt, mark, others, Room, Told, Seen, Put, weightPuts, weighedPuts, rowTerms, RowAdded, RowsAdded}
+use Rattle.coarse_matrix.specs.Scatter.{put, scatter}
+use Rattle.coarse_matrix.specs.Galerkin.{scaled, productPuts, putAt, mark, Room, Told, Seen, Put, weightPuts, weighedPuts, rowTerms, RowAdded, RowsAdded}
 use Rattle.coarse_matrix.proofs.Scattered.{plus, scatter-at, length-scatter}
 use Rattle.coarse_matrix.proofs.Squares.{All, all-of, at-row, off-row}
 use Rattle.coarse_matrix.proofs.Marking.{others-all}

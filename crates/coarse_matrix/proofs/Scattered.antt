@@ -1,21 +1,20 @@
 -- The scatter law: what stands at j after scattering is what stood there and the numbers put there, in order.
-use Prim.Native.Nat.{ℕ, zero, suc, _+_, _-_, _*_, _/_, _%_, _<_, _≤_}
+use Prim.Native.Nat.{ℕ, zero, suc, _+_, _<_}
 use mathlib.Core.Path.{_≡_, refl, sym, _∙_}
 use mathlib.Core.Bool.{Bool, true, false}
 use mathlib.Core.List.{List, [], _∷_, flatMap, foldl, foldl-append}
-use native.Mathlib.Omega.{arith}
 use native.Mathlib.Numerals.{add-one}
 use lib.Dec.{eqb}
-use lib.ListN.{length, getD, set, take, drop, length-set, length-take}
-use lib.Seq.{getD-set-same, getD-set-other, drop-cons, drop-length, set-at}
+use lib.ListN.{length, getD, length-set}
+use lib.Seq.{getD-set-same, getD-set-other}
 use lib.Ieee.{Float, nan}
 use borrow.Author.Tests.{eqb-true, eqb-false}
 use Rattle.definitions.specs.Lists.{upTo}
-use Rattle.definitions.specs.Numbers.{_+ᶠ_, zeroᶠ, total}
+use Rattle.definitions.specs.Numbers.{_+ᶠ_}
 use Rattle.definitions.specs.Matrix.{Entry, valuesWhere}
 use Rattle.laws.specs.Growing.{flatMap-snoc, upTo-snoc, rows-none}
 use Rattle.csr32.specs.Stored.{where-hit, where-miss, where-none}
-use Rattle.coarse_matrix.specs.Scatter.{put, bump, scatter, scattered}
+use Rattle.coarse_matrix.specs.Scatter.{bump, scatter, scattered}
 
 -- ---- THE SCATTER LAW
 

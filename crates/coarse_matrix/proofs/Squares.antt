@@ -2,22 +2,22 @@
 use Prim.Native.Nat.{ℕ, zero, suc, _+_, _-_, _*_, _<_, _≤_}
 use mathlib.Core.Path.{_≡_, refl, ap, sym, _∙_}
 use mathlib.Core.Bool.{Bool, true, false}
-use mathlib.Core.List.{List, [], _∷_, _++_, map, flatMap, zipWith, append-nil}
+use mathlib.Core.List.{List, [], _∷_, _++_, flatMap, zipWith}
 use native.Mathlib.Omega.{arith}
 use native.Mathlib.Nat.{mul-le-mul-right}
 use native.Mathlib.Numerals.{add-one}
 use lib.Dec.{eqb}
-use lib.ListN.{length, getD, take, drop, replicate, length-append, length-take, length-drop, length-replicate, getD-replicate, take-append-drop}
-use lib.Seq.{slice, slice-cons, slice-empty, getD-take, getD-drop, length-take-le, take-all, take-at, drop-at}
+use lib.ListN.{length, getD, take, drop, replicate, length-append, length-replicate, getD-replicate}
+use lib.Seq.{slice, slice-cons, slice-empty, getD-take, length-take-le, take-all, take-at, drop-at}
 use lib.Ieee.{Float, nan}
 use borrow.Author.Tests.{eqb-true, eqb-false, eq-eqb, ne-eqb}
-use Rattle.definitions.specs.Lists.{tab, upTo, square, keep, padded}
+use Rattle.definitions.specs.Lists.{upTo, square, padded}
 use Rattle.averaging.specs.Averaging.{averagedIn}
 use Rattle.averaging.proofs.Lists.{square-is, take-zeros, drop-zeros}
 use Rattle.averaging.proofs.Laws.{average-fits, length-averaged}
 use Rattle.averaging.proofs.Places.{same-row, place}
 use Rattle.definitions.specs.Numbers.{zeroᶠ, total}
-use Rattle.definitions.specs.Matrix.{Matrix, Entry, valuesWhere, rowOf, entriesOf, csr, stored}
+use Rattle.definitions.specs.Matrix.{Entry, valuesWhere, rowOf, entriesOf, csr, stored}
 use Rattle.definitions.specs.Coarse.{constantTerms, constantEntry, averagedSquare}
 use Rattle.csr32.specs.Stored.{where-hit, where-miss, where-none}
 use Rattle.laws.specs.Kept.{flatMap-keep}

@@ -1,23 +1,22 @@
 -- Weight times accumulator, added into the coarse matrix: the accumulator stands after the matrix, so that what is added leaves it.
-use Prim.Native.Nat.{ℕ, zero, suc, _+_, _-_, _*_, _<_, _≤_}
+use Prim.Native.Nat.{ℕ, _+_, _-_, _*_, _<_, _≤_}
 use mathlib.Core.Path.{_≡_, refl, ap, sym, _∙_}
-use mathlib.Core.Bool.{Bool, true, false}
-use mathlib.Core.List.{List, [], _∷_, _++_, map, flatMap, foldl, foldl-append}
+use mathlib.Core.List.{List, [], _∷_, _++_, map, flatMap, foldl-append}
 use native.Mathlib.Omega.{arith}
 use native.Mathlib.Numerals.{add-one}
 use lib.Dec.{eqb}
-use lib.ListN.{length, getD, set, take, drop, length-take, length-drop}
+use lib.ListN.{length, getD, take, drop, length-drop}
 use lib.Seq.{take-suc, getD-take, getD-drop, length-take-le}
 use lib.Ieee.{Float, nan}
 use borrow.Author.Tests.{ne-eqb}
-use Rattle.definitions.specs.Numbers.{_+ᶠ_, _*ᶠ_}
-use Rattle.definitions.specs.Matrix.{Entry, valuesWhere, stored}
+use Rattle.definitions.specs.Numbers.{_*ᶠ_}
+use Rattle.definitions.specs.Matrix.{Entry, stored}
 use Rattle.averaging.proofs.Places.{place}
 use Rattle.csr32.specs.Stored.{stored-none, stored-more, where-miss, where-none}
 use Rattle.laws.specs.Growing.{flatMap-snoc}
 use Rattle.coarse_matrix.specs.Scatter.{put, bump, scatter, Below}
 use Rattle.coarse_matrix.specs.Galerkin.{weightPuts, weighedPuts, putAt}
-use Rattle.coarse_matrix.proofs.Scattered.{scatter-at, length-scatter}
+use Rattle.coarse_matrix.proofs.Scattered.{scatter-at}
 use Rattle.coarse_matrix.proofs.Squares.{All, all-of, all-stored}
 
 pub scatter-append : (xs ys : List Entry) (l : List Float) → scatter (xs ++ ys) l ≡ scatter ys (scatter xs l)

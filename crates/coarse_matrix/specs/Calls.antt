@@ -1,20 +1,19 @@
 -- The calls on the coarse matrix: each with its checks in order, over the lengths of the lists lent.
-use Prim.Native.Nat.{ℕ, zero, suc, _+_, _*_, _/_, _%_, _<_, _≤_}
+use Prim.Native.Nat.{ℕ, _+_, _*_, _/_, _%_, _<_, _≤_}
 use mathlib.Core.Path.{_≡_}
-use mathlib.Core.Bool.{Bool, true, false, not, _&&_}
+use mathlib.Core.Bool.{Bool, false, not, _&&_}
 use mathlib.Core.List.{List}
 use lib.Dec.{leb, eqb}
 use lib.ListN.{length, getD, replicate}
 use lib.Ieee.{Float}
 use Rattle.definitions.specs.Lists.{square, padded, falls}
-use Rattle.definitions.specs.Numbers.{zeroᶠ}
 use Rattle.definitions.specs.Refusal.{Outcome, refused, done, Checked, require, _>>=_}
 use Rattle.definitions.specs.Matrix.{Matrix, validOf, rowOf}
 use Rattle.definitions.specs.Block.{maxBlock}
 use Rattle.definitions.specs.Transfer.{coarseColumn}
 use Rattle.definitions.specs.Coarse.{constantEntry, galerkinEntry, averagedSquare}
 use Rattle.definitions.specs.declared.Refusal.the-variants.{NotSquare, BlockSize, NotMultiple, ListTooShort, CoarseTooLarge, SetupMisfit}
-use Rattle.averaging.specs.Averaging.{maxCoarse}
+use Rattle.definitions.specs.Setup.{maxCoarse}
 use Rattle.csr32.specs.Rows.{outside}
 use Rattle.coarse_matrix.specs.Scatter.{Walk}
 

@@ -1,8 +1,8 @@
 -- A row of A P in an accumulator of c numbers, with a stamp for each number and a list of those touched; and what it adds to the coarse matrix.
 -- The stamps stand in ints from 0 on, the touched columns from c on; the accumulator stands in floats from base on.
-use Prim.Native.Nat.{ℕ, zero, suc, _+_, _*_, _<_, _≤_}
+use Prim.Native.Nat.{ℕ, suc, _+_, _*_, _<_, _≤_}
 use mathlib.Core.Path.{_≡_}
-use mathlib.Core.Bool.{Bool, true, false}
+use mathlib.Core.Bool.{true, false}
 use mathlib.Core.List.{List, [], _∷_, _++_, map, flatMap, foldl}
 use lib.Dec.{eqb}
 use lib.ListN.{length, getD, set, take, drop}

@@ -1,10 +1,10 @@
 -- Loops that add into a list: what they leave, by the numbers put, in order.
-use Prim.Native.Nat.{ℕ, zero, suc, _+_, _*_, _/_, _<_, _≤_, _^_}
+use Prim.Native.Nat.{ℕ, zero, suc, _+_, _*_, _/_, _<_, _≤_}
 use mathlib.Core.Path.{_≡_}
-use mathlib.Core.List.{List, [], _∷_, map, foldl}
+use mathlib.Core.List.{List, map, foldl}
 use lib.ListN.{length, getD, set}
 use lib.Ieee.{Float, nan}
-use Rattle.definitions.specs.Numbers.{_+ᶠ_, _*ᶠ_}
+use Rattle.definitions.specs.Numbers.{_+ᶠ_}
 use Rattle.definitions.specs.Matrix.{Entry}
 use Rattle.definitions.specs.Transfer.{coarseColumn}
 

@@ -2,7 +2,7 @@
 use averaging::average;
 use numbers::zero_floats;
 ghost use mathlib.Core.Path.{_≡_};
-ghost use Prim.Native.Nat.{ℕ, suc, _+_, _*_, _/_, _<_, _≤_, _^_};
+ghost use Prim.Native.Nat.{_+_, _*_, _/_, _<_, _≤_, _^_};
 ghost use lib.ListN.{length};
 ghost use Rattle.definitions.specs.Lists.{square, padded};
 ghost use Rattle.definitions.specs.Numbers.{zeroᶠ};

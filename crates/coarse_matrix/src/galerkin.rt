@@ -5,16 +5,14 @@ use averaging::average;
 use numbers::zero_floats;
 use numbers::zero_ints;
 ghost use mathlib.Core.Path.{_≡_};
-ghost use mathlib.Core.List.{List};
-ghost use Prim.Native.Nat.{ℕ, suc, _+_, _*_, _<_, _≤_, _^_};
+ghost use Prim.Native.Nat.{ℕ, suc, _+_, _*_, _<_, _≤_};
 ghost use lib.ListN.{length, getD, take, drop, replicate};
 ghost use Rattle.definitions.specs.Lists.{square, padded};
 ghost use Rattle.definitions.specs.Numbers.{zeroᶠ};
 ghost use Rattle.definitions.specs.Coarse.{averagedSquare, galerkinEntry};
-ghost use lib.Ieee.{nan};
 ghost use Rattle.definitions.specs.Matrix.{rowOf, csr, stored};
 ghost use Rattle.coarse_matrix.specs.Scatter.{Walk, Below, scatter};
-ghost use Rattle.coarse_matrix.specs.Galerkin.{Marks, marked, Room, Put, scaled, productPuts, weightPuts, weighedPuts, RowAdded, RowsAdded};
+ghost use Rattle.coarse_matrix.specs.Galerkin.{marked, Room, Put, scaled, productPuts, weightPuts, weighedPuts, RowAdded, RowsAdded};
 
 // Column k gets the token, a place in the list of touched columns and a zero, unless it has the token. Returns how many are touched.
 fn mark(
@@ -233,7 +231,7 @@ fn galerkin_rows(
     }
 }
 
-// From whatever the lists hold.
+// All rows, whatever the lists hold before: they are cleared first.
 fn galerkin_sum(
     ptr: &[u32],
     idx: &[u32],

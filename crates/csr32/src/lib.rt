@@ -74,7 +74,7 @@ pub fn column_outside(col_idx: &[u32], cols: usize) -> bool
     }
 }
 
-// Whether some value is a NaN or an infinity. Again no early leave.
+// Whether some value is a NaN or an infinity. Again the loop does not leave early.
 fn value_not_finite(values: &[f64]) -> bool
     ensures { λ r. ⌜ r ≡ unreal (now (values .entry)) ⌝ }
 {

@@ -1,22 +1,22 @@
--- The worked examples, run by antt: one table of what is computed beside what is expected, and one theorem for all of it.
--- The first table has the cases that are to be proved, the second the other examples, the third orders and lengths that no example shows.
-use Prim.Native.Nat.{ℕ, zero, suc, _+_, _-_, _*_, _^_}
+-- The worked examples, computed by antt beside what is expected. `proved` has document 01's cases marked ◆, in one table with the one theorem `proved-hold`;
+-- `tried` its other examples; `orders` orders and lengths that no example shows.
+use Prim.Native.Nat.{ℕ, zero, suc, _+_, _*_}
 use mathlib.Core.Path.{_≡_, refl}
-use mathlib.Core.Bool.{Bool, true, false}
+use mathlib.Core.Bool.{true, false}
 use mathlib.Core.List.{List, [], _∷_, _++_, map, flatMap}
-use lib.Dec.{eqb, ltb}
+use lib.Dec.{T, eqb, ltb}
 use lib.ListN.{length, replicate}
 use lib.Ieee.{Float, binary64, neg, ofBits, toBits}
-use Rattle.definitions.specs.Lists.{tab, upTo, pointersFrom}
+use Rattle.definitions.specs.Lists.{tab, pointersFrom}
 use Rattle.definitions.specs.Numbers.{rootᶠ, ofℕ}
 use Rattle.definitions.specs.Refusal.{Outcome, refused, done, _>>=_, numberOf, valuesOf}
 use Rattle.definitions.specs.Matrix.{Matrix, Entry}
 use Rattle.definitions.specs.Block.{blocksCall, blockApplyCall}
 use Rattle.definitions.specs.Groups.{Grouping, groupingCall}
 use Rattle.definitions.specs.Setup.{Built, setupOf}
-use Rattle.definitions.specs.Apply.{corrected, applyCall}
+use Rattle.definitions.specs.Apply.{corrected, applyCall, ample}
 use Rattle.definitions.specs.Text.{program}
-use Rattle.definitions.specs.Separation.{Apart}
+use Rattle.definitions.specs.Separation.{Apart, isDone}
 use Rattle.definitions.specs.Opened.{all-open}
 use Rattle.definitions.specs.declared.Options.{Options}
 use Rattle.definitions.specs.declared.Setup.{Setup}
@@ -122,8 +122,9 @@ proved =
 pub proved-hold :
     (map (λ c. c .computed) proved ≡ map (λ c. c .expected) proved)
     × Apart (diag2 16 4) (options Graph PiecewiseConstant 1) (λ v. eqb v 0) (floats (16 ∷ 4 ∷ [])) (floats (16 ∷ 40 ∷ []))
+    × T (isDone (setupOf (diag2 16 4) (options Graph PiecewiseConstant 1) ample))
 unfolding all-open proved
-proved-hold = (refl, record { graph = tt; accepted = tt; unlinked = tt; same = tt; formedReal = tt; formedReal′ = tt; long = refl; long′ = refl; real = tt; held = tt })
+proved-hold = (refl, record { graph = tt; unlinked = tt; same = tt; finiteResiduals = tt; formedFinite = tt; formedFinite′ = tt; long = refl; long′ = refl; areF64 = tt }, tt)
 
 -- 1e-14, 2e-14 and 1e-11
 small : ℕ → Matrix

@@ -18,7 +18,7 @@ upTo n = tab (λ i. i) n
 unfoldable pub square : {A : Type 0} → ℕ → (ℕ → ℕ → A) → List A
 square n f = flatMap (λ i. tab (f i) n) (upTo n)
 
--- the elements from a up to e, as a part of a slice that is lent has them (`lib.Seq.slice` serves where a loop walks them by index)
+-- the elements from a up to e: the same as `lib.Seq.slice a e xs`, in the form that a part of a lent list has
 abbrev pub part : {A : Type 0} → ℕ → ℕ → List A → List A
 part a e xs = take (e - a) (drop a xs)
 

@@ -1,5 +1,5 @@
 -- The neighbours that each node lists, from the matrix: those that an entry of its rows names. The links may run one way only.
-use Prim.Native.Nat.{ℕ, _+_, _*_, _/_}
+use Prim.Native.Nat.{ℕ, _/_}
 use mathlib.Core.Bool.{Bool, true, false, not, _&&_, _||_}
 use mathlib.Core.List.{List, [], _∷_, _++_, map}
 use lib.Dec.{eqb, ltb}
@@ -7,7 +7,7 @@ use lib.Ieee.{Float, lt, eq}
 use lib.Ieee.Scale.{finite}
 use Rattle.definitions.specs.Lists.{tab, upTo, keep, any, pointersFrom, joinedLists}
 use Rattle.definitions.specs.Numbers.{_*ᶠ_, _/ᶠ_, rootᶠ, zeroᶠ, squared, total}
-use Rattle.definitions.specs.Matrix.{Matrix, Entry, valuesWhere}
+use Rattle.definitions.specs.Matrix.{Matrix, valuesWhere}
 use Rattle.definitions.specs.Links.{nodeEntries}
 use Rattle.definitions.specs.declared.TwoLevelAggregation.{TwoLevelAggregation}
 use Rattle.definitions.specs.declared.TwoLevelAggregation.the-variants.{Contiguous, Graph, StrongGraph}

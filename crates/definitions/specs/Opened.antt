@@ -19,11 +19,11 @@ use Rattle.definitions.specs.Coarse.{constantTerms, constantEntry, weigh
 use Rattle.definitions.specs.Setup.{entryNeeds, coarseNeeds, covers, frontOf, graphOf, groupingOf, transferFor, coarseEntry, coarseMatrix, transferInts, transferFloats, builtFrom, setupOf, lengthsOf, setupLeft}
 use Rattle.definitions.specs.Fits.{usedInts, usedFloats, withinLimits, isResolved, transfersFit, transferFits, setupFits}
 use Rattle.definitions.specs.Apply.{constantParts, smoothedParts, weightedParts, restrictedParts, restricted, coarseSolution, gained, applied, applyCall, applyLeft, applyWorkLeft, corrected}
-use Rattle.definitions.specs.Answers.{answerOf, groupingAnswer, estimateAnswer, setupAnswer, answerNumber}
+use Rattle.definitions.specs.Answers.{answerOf, groupingAnswer, estimateAnswer, setupAnswer, answerNumber, answerValues, groupingNumber, groupingValues, estimateNumber, estimateValues, setupNumber}
 use Rattle.definitions.specs.Text.{isBlank, isDigit, trimmed, digits, first, number, neighboursFrom, nodesFrom, isNone, textGrouping, decimalIn, decimal, line, printed, program}
 use Rattle.definitions.specs.Formed.{sums, differences, totalFormed, summedFormed, reducedFormed, factorFormed, blockFormed, blocksFormed, strengthFormed, groupingFormed, normalisedFormed, imageFormed, roundsFormed, estimateFormed, transferFormed, galerkinFormed, coarseFormed, averagesFormed, packedSolveFormed, inverseFormed, blockSolveFormed, coarseSolveFormed, restrictionFormed, gainFormed, applyFormed, setupFormed, formed, allFinite}
 use Rattle.definitions.specs.Separation.{agree, followsGraph, isDone, f64s, agreeing}
 
 unfoldable pub all-open : ℕ
-unfolding flatMap zipWith add sub mul div neg lt le eq ne fits ofInt ofBits toBits tab upTo square keep any all falls padded pointersFrom sqrtIn isqrt rounded rootAt root rootExact usable above magnitude larger largest total summed reduced numberOf valuesOf keepsAll _>>=_ require resultLeft workLeft rowOf entriesOf valuesWhere storedAt validOf diagonalFrom diagonalOf diagonalCall diagonalLeft products rest leftOf factorFrom blockCount widthOf blockEntry blockOf topOf skewed blockFactor factorsFrom factorsOf blocksCall blocksLeft forward backward blockSolve blockApplied blockApplyCall blockApplyLeft nodeEntries unconnected neighboursOf squaresTowards normTowards divisorOf divides strength stronger inserted sorted strongNeighboursOf listFor neighbourLists flatNeighbours waiting free grow growFrom relabelled joined replay edgesTo before chosen others named takerOf roundFrom joiningsFrom place firsts renumbered nodesOf groupsOf grown joinings graphGrouping contiguousGrouping listed groupingCall groupingLeft groupingWorkLeft usableFrom inverseRoots startOf norm normalised rowTerms image rounds rhoOf dampingOf estimateOf estimateCall estimateWorkLeft coarseColumn tentative smoothingTerms weightAt transferRow transferOf constantTerms constantEntry weighted weightsAt productTerms galerkinTerms galerkinEntry averaged averagedSquare coarseFactor packedForward packedBackward packedSolve unit inverseOf resolved coarseLength coarsePart coarseSolve entryNeeds coarseNeeds covers frontOf graphOf groupingOf transferFor coarseEntry coarseMatrix transferInts transferFloats builtFrom setupOf lengthsOf setupLeft usedInts usedFloats withinLimits isResolved transfersFit transferFits setupFits constantParts smoothedParts weightedParts restrictedParts restricted coarseSolution gained applied applyCall applyLeft applyWorkLeft corrected answerOf groupingAnswer estimateAnswer setupAnswer answerNumber isBlank isDigit trimmed digits first number neighboursFrom nodesFrom isNone textGrouping decimalIn decimal line printed program sums differences totalFormed summedFormed reducedFormed factorFormed blockFormed blocksFormed strengthFormed groupingFormed normalisedFormed imageFormed roundsFormed estimateFormed transferFormed galerkinFormed coarseFormed averagesFormed packedSolveFormed inverseFormed blockSolveFormed coarseSolveFormed restrictionFormed gainFormed applyFormed setupFormed formed allFinite agree followsGraph isDone f64s agreeing
+unfolding flatMap zipWith add sub mul div neg lt le eq ne fits ofInt ofBits toBits tab upTo square keep any all falls padded pointersFrom sqrtIn isqrt rounded rootAt root rootExact usable above magnitude larger largest total summed reduced numberOf valuesOf keepsAll _>>=_ require resultLeft workLeft rowOf entriesOf valuesWhere storedAt validOf diagonalFrom diagonalOf diagonalCall diagonalLeft products rest leftOf factorFrom blockCount widthOf blockEntry blockOf topOf skewed blockFactor factorsFrom factorsOf blocksCall blocksLeft forward backward blockSolve blockApplied blockApplyCall blockApplyLeft nodeEntries unconnected neighboursOf squaresTowards normTowards divisorOf divides strength stronger inserted sorted strongNeighboursOf listFor neighbourLists flatNeighbours waiting free grow growFrom relabelled joined replay edgesTo before chosen others named takerOf roundFrom joiningsFrom place firsts renumbered nodesOf groupsOf grown joinings graphGrouping contiguousGrouping listed groupingCall groupingLeft groupingWorkLeft usableFrom inverseRoots startOf norm normalised rowTerms image rounds rhoOf dampingOf estimateOf estimateCall estimateWorkLeft coarseColumn tentative smoothingTerms weightAt transferRow transferOf constantTerms constantEntry weighted weightsAt productTerms galerkinTerms galerkinEntry averaged averagedSquare coarseFactor packedForward packedBackward packedSolve unit inverseOf resolved coarseLength coarsePart coarseSolve entryNeeds coarseNeeds covers frontOf graphOf groupingOf transferFor coarseEntry coarseMatrix transferInts transferFloats builtFrom setupOf lengthsOf setupLeft usedInts usedFloats withinLimits isResolved transfersFit transferFits setupFits constantParts smoothedParts weightedParts restrictedParts restricted coarseSolution gained applied applyCall applyLeft applyWorkLeft corrected answerOf groupingAnswer estimateAnswer setupAnswer answerNumber answerValues groupingNumber groupingValues estimateNumber estimateValues setupNumber isBlank isDigit trimmed digits first number neighboursFrom nodesFrom isNone textGrouping decimalIn decimal line printed program sums differences totalFormed summedFormed reducedFormed factorFormed blockFormed blocksFormed strengthFormed groupingFormed normalisedFormed imageFormed roundsFormed estimateFormed transferFormed galerkinFormed coarseFormed averagesFormed packedSolveFormed inverseFormed blockSolveFormed coarseSolveFormed restrictionFormed gainFormed applyFormed setupFormed formed allFinite agree followsGraph isDone f64s agreeing
 all-open = 0

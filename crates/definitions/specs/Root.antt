@@ -1,6 +1,6 @@
 -- The square root, IEEE 754's: nearest, ties to even; negative gives NaN, -0 gives -0.
--- √x is √v of the format's smallest values, for a whole number v. The whole root of v gives the digits that are kept, comparisons of squares say where √v lies
--- above them, and one rounding ends it.
+-- Let u be the format's smallest value, and x = v · u² with a whole number v: then √x = √v · u. The leading digits of the whole root of v are kept, a comparison
+-- of squares tells on which side of the middle √v lies, and one rounding ends it.
 use Prim.Native.Nat.{ℕ, zero, suc, _+_, _-_, _*_, _/_, _^_, compare, Ordering}
 use mathlib.Core.Bool.{Bool, true, false, cond}
 use lib.Dec.{leb, eqb}
@@ -61,7 +61,7 @@ root f (fin s zero e) = fin s zero e
 root f (fin true (suc m) e) = nan
 root f (fin false (suc m) e) = rounded f false (rootAt f (radicand f (suc m) e))
 
--- whether the root is exact: its square is x itself. NaN and negative numbers have none.
+-- whether the root is exact, its square x itself, for a later request. NaN and negative numbers have none.
 unfoldable pub rootExact : Format → Float → Bool
 unfolding rootAt
 rootExact f nan = false

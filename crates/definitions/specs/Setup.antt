@@ -1,21 +1,21 @@
 -- Setup: the checks and stages in their order, the record, and what the four lists hold afterwards.
 use Prim.Native.Nat.{ℕ, _+_, _*_, _/_, _%_}
-use mathlib.Core.Bool.{Bool, true, false, _&&_}
-use mathlib.Core.List.{List, [], _∷_, _++_, map, flatMap}
+use mathlib.Core.Bool.{Bool, _&&_}
+use mathlib.Core.List.{List, [], _++_, map, flatMap}
 use lib.Dec.{leb, ltb, eqb}
 use lib.ListN.{length, getD}
 use lib.Ieee.{Float}
 use Rattle.definitions.specs.Lists.{square, pointersFrom}
 use Rattle.definitions.specs.Numbers.{zeroᶠ, largest}
-use Rattle.definitions.specs.Refusal.{Outcome, Checked, refused, done, require, _>>=_, resultLeft, workLeft}
+use Rattle.definitions.specs.Refusal.{Outcome, Checked, done, require, _>>=_, resultLeft, workLeft}
 use Rattle.definitions.specs.Matrix.{Matrix, Entry, validOf}
 use Rattle.definitions.specs.Diagonal.{diagonalOf}
 use Rattle.definitions.specs.Block.{maxBlock, factorsOf}
 use Rattle.definitions.specs.Neighbours.{neighbourLists}
 use Rattle.definitions.specs.Groups.{Grouping, graphGrouping, contiguousGrouping, noAnchor, maxGroup}
-use Rattle.definitions.specs.Estimate.{Estimate, estimateOf}
+use Rattle.definitions.specs.Estimate.{estimateOf}
 use Rattle.definitions.specs.Transfer.{coarseColumn, transferOf}
-use Rattle.definitions.specs.Coarse.{constantEntry, galerkinEntry, averaged, averagedSquare, coarseFactor, resolved, coarsePart}
+use Rattle.definitions.specs.Coarse.{constantEntry, galerkinEntry, averagedSquare, coarseFactor, resolved, coarsePart}
 use Rattle.definitions.specs.declared.Setup.{Setup}
 use Rattle.definitions.specs.declared.Options.{Options}
 use Rattle.definitions.specs.declared.TwoLevelAggregation.{TwoLevelAggregation}

@@ -1,7 +1,7 @@
 -- The transfer between rows and coarse columns: constant over a group, or smoothed by one damped Jacobi step.
 use Prim.Native.Nat.{ℕ, _+_, _*_, _/_, _%_}
-use mathlib.Core.Bool.{Bool, true, false, cond}
-use mathlib.Core.List.{List, [], _∷_, map}
+use mathlib.Core.Bool.{cond}
+use mathlib.Core.List.{List, map}
 use lib.Dec.{eqb}
 use lib.ListN.{getD}
 use lib.Ieee.{Float, nan, ne}

@@ -33,7 +33,7 @@ pub struct Asking {
     pub count: usize,
 }
 
-// THE GROUPING PROGRAM's text: prints into `out`, as far as it goes, and returns how many bytes. 2,059 bytes hold every answer.
+// The grouping program's text: prints into `out`, as far as it goes, and returns how many bytes. 2,059 bytes hold every answer.
 pub fn grouping_text(text: &[u8], out: &mut [u8]) -> usize
     ensures { λ r. ⌜ r ≡ min (length (program (now (text .entry)))) (length (now (out .entry))) ⌝ }
     ensures { λ r. ⌜ now (out .exit) ≡ copied (program (now (text .entry))) (now (out .entry)) ⌝ }

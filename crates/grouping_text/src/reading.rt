@@ -1,7 +1,7 @@
 // Reading decimal numbers with white space between them. Numbers stop growing at the largest u32.
 ghost use mathlib.Core.Path.{_≡_};
 ghost use Prim.Native.Nat.{_≤_, _+_, _-_, _*_};
-ghost use lib.ListN.{length, drop, take};
+ghost use lib.ListN.{drop};
 ghost use Rattle.definitions.specs.Text.{isBlank, isDigit, trimmed};
 ghost use Rattle.grouping_text.specs.Capped.{cap, digitsC, numberC};
 ghost use Rattle.grouping_text.specs.Steps.{readOf};

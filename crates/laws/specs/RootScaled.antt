@@ -1,16 +1,16 @@
 -- The root's definition in scaled digits. With v = n * 4 ^ k, and n of twice the format's digits, √v lies where √n lies, in units of 2 ^ k. Every value
 -- that fits has such an n and k. Assumes nothing.
 use mathlib.Core.Path.{_≡_, refl, sym, ap, ap₂, _∙_, subst}
-use Prim.Native.Nat.{ℕ, suc, _+_, _-_, _*_, _/_, _%_, _^_, _≤_, _<_, compare, Ordering}
-use native.Mathlib.Nat.{le-refl, le-trans, le-of-eq, lt-of-lt-of-le, lt-of-le-of-lt, not-le-of-lt, lt-of-not-le, le-of-suc-le-suc, zero-lt-suc, mul-one, one-mul, mul-assoc, mul-right-comm, mul-mul-mul-comm, mul-pos, mul-le-mul, mul-le-mul-right, mul-lt-mul-of-pos-right, le-of-mul-le-mul-right, lt-of-mul-lt-mul-right, eq-of-mul-eq-mul-right, div-lt-iff-lt-mul, div-mul-le-self, mul-div-cancel}
+use Prim.Native.Nat.{ℕ, suc, _+_, _-_, _*_, _/_, _^_, _≤_, _<_, compare, Ordering}
+use native.Mathlib.Nat.{le-refl, le-trans, le-of-eq, lt-of-lt-of-le, lt-of-le-of-lt, not-le-of-lt, lt-of-not-le, le-of-suc-le-suc, zero-lt-suc, one-mul, mul-assoc, mul-right-comm, mul-mul-mul-comm, mul-pos, mul-le-mul, mul-le-mul-right, mul-lt-mul-of-pos-right, le-of-mul-le-mul-right, lt-of-mul-lt-mul-right, eq-of-mul-eq-mul-right, div-lt-iff-lt-mul, div-mul-le-self, mul-div-cancel}
 use native.Mathlib.Omega.{arith}
-use mathlib.Core.Bool.{Bool, false, _&&_}
+use mathlib.Core.Bool.{Bool, false}
 use lib.IntN.{ℤ, pos, negsuc}
-use lib.Dec.{T, leb, ltb, eqb, leb→le, ltb→lt, lit≤}
-use lib.Pow.{pow-add, pow-pos, pow-mono, pow-lt}
+use lib.Dec.{T, eqb, lit≤}
+use lib.Pow.{pow-add, pow-pos, pow-mono}
 use lib.Ieee.{Format, binary32, binary64, prec, emax, low, up, down, size, fits, fin}
 use lib.Ieee.Digits.{size-lt, size-le, size-reaches}
-use lib.Ieee.Fits.{and-l, and-r, down-pos, two, two-le-pos}
+use lib.Ieee.Fits.{down-pos, two, two-le-pos}
 use Rattle.definitions.specs.Root.{isqrt, Located, rootAt, radicand}
 use Rattle.laws.specs.Format.{pow-less, pow-back, lift, fits-says}
 use Rattle.laws.specs.RootSquares.{sq-lt, IsRoot, root-unique, isqrt-root, cmp-scaled, eqb-iff}

@@ -2,12 +2,12 @@
 use mathlib.Core.Path.{_≡_, refl, sym, ap, _∙_, subst}
 use mathlib.Core.Logic.{_⊎_, inl, inr}
 use Prim.Native.Nat.{ℕ, zero, suc, _+_, _-_, _*_, _%_, _^_, _≤_, _<_}
-use native.Mathlib.Nat.{not-suc-le-zero, lt-of-lt-of-le, lt-irrefl, zero-lt-suc, zero-mul, mul-zero, zero-add, add-zero, sub-zero, mul-one, one-mul, mul-comm, mul-assoc, mul-left-comm, mul-right-comm, mul-pos, eq-of-mul-eq-mul-right, pow-suc, pow-succ', mul-lt-mul-of-pos-right, lt-of-mul-lt-mul-right}
+use native.Mathlib.Nat.{not-suc-le-zero, lt-irrefl, zero-lt-suc, zero-mul, mul-zero, zero-add, add-zero, sub-zero, mul-one, mul-comm, mul-assoc, mul-left-comm, mul-right-comm, mul-pos, eq-of-mul-eq-mul-right, pow-suc, pow-succ', mul-lt-mul-of-pos-right, lt-of-mul-lt-mul-right}
 use native.Mathlib.Omega.{arith}
 use mathlib.Core.Bool.{Bool, true, false, not, _&&_, _||_, Bool·beq, cond}
 use lib.IntN.{ℤ, pos, negsuc}
-use lib.Dec.{T, ltb, leb, eqb, eqb→eq, eqb-refl, eqb·suc-zero, T-not, ltb→lt, lt→ltb, leb→le, nleb→lt}
-use lib.Pow.{pow-add, pow-pos, pow-lt}
+use lib.Dec.{T, ltb, leb, eqb, eqb→eq, eqb-refl, eqb·suc-zero, T-not, ltb→lt, lt→ltb}
+use lib.Pow.{pow-add, pow-pos}
 use lib.Ieee.{Float, nan, inf, fin, Format, prec, emax, low, up, down, unlike, round, neg, sum, add, sub, mul, div, eq, fits}
 use lib.Ieee.Fits.{and-i, and-l, and-r, up-pos, down-pos, round-fits, neg-fits}
 use lib.Ieee.Exact.{HasValue, round-exact}

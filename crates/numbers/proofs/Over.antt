@@ -1,5 +1,5 @@
 -- One list laid over the front of another, element by element: the loops that clear and that copy.
-use mathlib.Core.Path.{_≡_, refl, ap, sym, _∙_}
+use mathlib.Core.Path.{_≡_, refl, ap}
 use mathlib.Core.List.{List, [], _∷_, _++_, append-nil}
 use Prim.Native.Nat.{ℕ, zero, suc, _+_, _<_, _≤_}
 use native.Mathlib.Nat.{not-suc-le-zero, le-of-suc-le-suc}

@@ -1,8 +1,7 @@
 // Small tests on floats, a quotient, and lists cleared and copied: what every stage uses.
 ghost use mathlib.Core.Path.{_≡_};
-ghost use mathlib.Core.List.{_++_};
 ghost use Prim.Native.Nat.{_/_};
-ghost use lib.ListN.{length, replicate, take, drop};
+ghost use lib.ListN.{length, replicate};
 ghost use lib.Ieee.Scale.{finite as isFinite};
 ghost use Rattle.definitions.specs.Numbers.{zeroᶠ, magnitude as magnitudeOf, larger as largerOf, usable as usableOf, above as aboveOf};
 ghost use Rattle.numbers.specs.Copied.{copied};
@@ -43,7 +42,7 @@ pub fn above(bound: f64, x: f64) -> bool
     if finite(x) { !(x <= bound) } else { false }
 }
 
-// x / d; a small divisor is a constant here, by which the compiler multiplies instead. 0 where d is.
+// x / d; a small divisor is a constant here, by which the compiler multiplies instead. 0 where d is 0.
 pub fn quotient(x: usize, d: usize) -> usize
     ensures { λ r. ⌜ r ≡ x / d ⌝ }
 {
@@ -77,7 +76,7 @@ pub fn quotient(x: usize, d: usize) -> usize
     x / d
 }
 
-// The same of 32 bits.
+// The same for 32 bits.
 pub fn short_quotient(x: u32, d: u32) -> u32
     ensures { λ r. ⌜ r ≡ x / d ⌝ }
 {

@@ -22,7 +22,7 @@ fn newton(a: u64, t: u32) -> u64
     (s + a / s) / 2
 }
 
-// The whole root of a, from any s: none or one step of the first loop, none of the second, where s comes from `newton`.
+// The whole root of a, from any start: at most one step down and none up where it comes from `newton` and the right table.
 fn whole_root(a: u64, near: u64) -> u64
     requires { ⌜ (2 ^ 52 ≤ a) × (a < 2 ^ 54) × (near < 2 ^ 30) ⌝ }
     ensures { λ r. ⌜ IsRoot a r ⌝ }

@@ -67,11 +67,3 @@ pub fn root(x: f64) -> f64
     let table = starts();
     root_by(&table, x)
 }
-
-// For C and Rust.
-#[no_mangle]
-pub extern "C" fn yelomawin_root(x: f64) -> f64
-    ensures { λ r. ⌜ r ≡ rootᶠ x ⌝ }
-{
-    root(x)
-}

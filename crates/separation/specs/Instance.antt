@@ -7,8 +7,9 @@ use lib.Ieee.{Float}
 use Rattle.definitions.specs.Lists.{pointersFrom}
 use Rattle.definitions.specs.Numbers.{ofℕ}
 use Rattle.definitions.specs.Matrix.{Matrix}
-use Rattle.definitions.specs.Apply.{corrected}
-use Rattle.definitions.specs.Separation.{Apart, agreeing}
+use Rattle.definitions.specs.Setup.{setupOf}
+use Rattle.definitions.specs.Apply.{corrected, ample}
+use Rattle.definitions.specs.Separation.{Apart, isDone, agreeing}
 use Rattle.definitions.specs.Examples.{proved-hold}
 use Rattle.definitions.specs.declared.Options.{Options}
 use Rattle.definitions.specs.declared.TwoLevelAggregation.the-variants.{Graph}
@@ -32,6 +33,10 @@ premises : Apart diagonal options firstNode (load 4) (load 40)
 unfolding pointersFrom flatMap
 premises = proved-hold .1
 
+accepted : T (isDone (setupOf diagonal options ample))
+unfolding pointersFrom flatMap
+accepted = proved-hold .2
+
 -- so the two corrections agree on the first row, whatever computing them would show
 pub diagonal-apart : T (agreeing firstNode 1 2 (corrected diagonal options (load 4)) (corrected diagonal options (load 40)))
-diagonal-apart = separation diagonal options firstNode (load 4) (load 40) premises
+diagonal-apart = separation diagonal options firstNode (load 4) (load 40) premises accepted

@@ -118,12 +118,12 @@ pub vectors-agree : (a : Matrix) (o : Options) (part : ℕ → Bool) (r r′ : L
     → T (agree part (o .block) (a .rows) (appliedBy s r) (appliedBy s r′))
 vectors-agree a o part r r′ A s =
     agree-by part (o .block) (a .rows) (appliedBy s r) (appliedBy s r′)
-    (λ i h t. separation-at s part (A .graph) (A .unlinked) r r′ (A .long) (A .long′) (and-r (f64s (a .values)) (f64s r) (and-l (f64s (a .values) && f64s r) (f64s r′) (A .held))) (and-r (f64s (a .values) && f64s r) (f64s r′) (A .held)) (A .same) i h t
-    (outputs-finite s r (A .long) (A .formedReal) i h) (outputs-finite s r′ (A .long′) (A .formedReal′) i h))
+    (λ i h t. separation-at s part (A .graph) (A .unlinked) r r′ (A .long) (A .long′) (and-r (f64s (a .values)) (f64s r) (and-l (f64s (a .values) && f64s r) (f64s r′) (A .areF64))) (and-r (f64s (a .values) && f64s r) (f64s r′) (A .areF64)) (A .same) i h t
+    (outputs-finite s r (A .long) (A .formedFinite) i h) (outputs-finite s r′ (A .long′) (A .formedFinite′) i h))
 
 pub separation : Separation
-separation a o part r r′ A =
-    let x = result-of (setupOf a o ample) (A .accepted) in
+separation a o part r r′ A t =
+    let x = result-of (setupOf a o ample) t in
     let y = stages-of a o ample (x .0) (x .1) in
     let s = y .stages in
     let e : setupOf a o ample ≡ done (built s) = x .1 ∙ ap done (y .is) in

@@ -1,4 +1,4 @@
--- An answer as 0 or 1, and neighbour lists by a number.
+-- An answer as 0 or `refusedStage`, and neighbour lists by a number.
 use Prim.Native.Nat.{ℕ, zero, suc}
 use Rattle.definitions.specs.declared.Answer.{Answer}
 use Rattle.definitions.specs.declared.Answer.the-variants.{Accepted, Refused}
@@ -9,17 +9,21 @@ use Rattle.transfer.specs.declared.TransferAnswer.the-variants.{Count, Refused 
 use Rattle.coarse_factor.specs.declared.FactorAnswer.{FactorAnswer}
 use Rattle.coarse_factor.specs.declared.FactorAnswer.the-variants.{Factored, Refused as NoFactor}
 
+-- a number that no cause has
+abbrev pub refusedStage : ℕ
+refusedStage = 253
+
 unfoldable pub told : Answer → ℕ
 told Accepted = 0
-told (Refused r) = 1
+told (Refused r) = refusedStage
 
 unfoldable pub toldTransfer : TransferAnswer → ℕ
 toldTransfer (Count n) = 0
-toldTransfer (NoTransfer r) = 1
+toldTransfer (NoTransfer r) = refusedStage
 
 unfoldable pub toldFactor : FactorAnswer → ℕ
 toldFactor (Factored scale) = 0
-toldFactor (NoFactor r) = 1
+toldFactor (NoFactor r) = refusedStage
 
 unfoldable pub listsBy : ℕ → TwoLevelAggregation
 listsBy zero = Graph

@@ -1,4 +1,4 @@
-// The stages of setup that have no entry point of their own, exported for the benchmarks. Each answers 0 where it is accepted, else 1.
+// The stages of setup that have no entry point of their own, exported for the benchmarks. Each answers 0 where it is accepted, else 253, which no cause has.
 use coarse_factor::FactorAnswer;
 use definitions::Answer;
 use definitions::TwoLevelAggregation;
@@ -21,7 +21,7 @@ fn told(answer: Answer) -> u64
 {
     match answer {
         Answer::Accepted => 0,
-        Answer::Refused(_) => 1,
+        Answer::Refused(_) => 253,
     }
 }
 
@@ -30,7 +30,7 @@ fn told_transfer(answer: TransferAnswer) -> u64
 {
     match answer {
         TransferAnswer::Count(_) => 0,
-        TransferAnswer::Refused(_) => 1,
+        TransferAnswer::Refused(_) => 253,
     }
 }
 
@@ -39,7 +39,7 @@ fn told_factor(answer: FactorAnswer) -> u64
 {
     match answer {
         FactorAnswer::Factored(_) => 0,
-        FactorAnswer::Refused(_) => 1,
+        FactorAnswer::Refused(_) => 253,
     }
 }
 

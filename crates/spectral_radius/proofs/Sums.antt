@@ -1,5 +1,5 @@
 -- Lists by index: maps and zips of them.
-use Prim.Native.Nat.{ℕ, zero, suc, _-_}
+use Prim.Native.Nat.{ℕ, zero, suc}
 use mathlib.Core.Path.{_≡_, refl, ap}
 use mathlib.Core.List.{List, [], _∷_, map, zipWith}
 use native.Mathlib.Omega.{arith}

@@ -1,4 +1,4 @@
-// One round of the power method over the work list.
+// The rounds of the power method over the work list, then rho and the damping factor.
 use crate::vectors::dot;
 use definitions::EstimateAnswer;
 use definitions::Refusal;
@@ -46,7 +46,7 @@ fn row_image(rows: usize, ptr: &[u32], idx: &[u32], vals: &[f64], w: &[f64], i: 
     w[i] * sum
 }
 
-// The image of the vector, behind it; returns the sum of its squares, from -0, which grows while the rows are summed.
+// The image of the vector, behind it; returns the sum of its squares, from -0, taken in the same pass.
 fn map_vector(rows: usize, ptr: &[u32], idx: &[u32], vals: &[f64], w: &mut [f64]) -> f64
     requires { ⌜ Rows (csr rows rows (now ptr) (now idx) (now vals)) ⌝ }
     requires { ⌜ rows + rows + rows ≤ length (now w) ⌝ }
@@ -106,7 +106,7 @@ pub fn rounds(rows: usize, ptr: &[u32], idx: &[u32], vals: &[f64], w: &mut [f64]
     true
 }
 
-// The vector times its image.
+// The Rayleigh quotient of the normalised vector: its product with its image.
 fn quotient(rows: usize, w: &[f64]) -> f64
     requires { ⌜ rows + rows + rows ≤ length (now w) ⌝ }
     ensures { λ r. ⌜ r ≡ summed (zipWith (λ u v. u *ᶠ v) (vectorIn rows (now (w .entry))) (imageIn rows (now (w .entry)))) ⌝ }

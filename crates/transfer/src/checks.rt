@@ -5,7 +5,6 @@ use definitions::Refusal;
 ghost use mathlib.Core.Path.{_≡_};
 ghost use Prim.Native.Nat.{_≤_};
 ghost use lib.Dec.{leb};
-ghost use lib.ListN.{length};
 ghost use Rattle.definitions.specs.Lists.{any};
 ghost use Rattle.definitions.specs.Matrix.{maxRows, maxEntries};
 ghost use Rattle.definitions.specs.Answers.{answerOf};

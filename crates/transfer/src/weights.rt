@@ -88,7 +88,7 @@ fn weigh(
 }
 
 // The columns that a row touches at the front of t, or every column, and its weights at their places; returns how many columns these are.
-// Inserting costs the square of a row's columns, a pass over all costs c at most 2,048: at 128 entries they meet.
+// Inserting costs the square of a row's columns, a pass over all costs c, at most 2,048: long rows take the pass.
 pub fn weigh_row(
     idx: &[u32],
     vals: &[f64],

@@ -17,7 +17,7 @@ pub fn add_at(l: &mut [f64], at: usize, x: f64)
     l[at] += x;
 }
 
-// n numbers of one list from a on, to those of another from b on.
+// Adds n numbers of one list, from a on, to those of another, from b on.
 pub fn add_part(from: &[f64], a: usize, to: &mut [f64], b: usize, n: usize)
     requires { ⌜ (a + n ≤ length (now from)) × (b + n ≤ length (now to)) ⌝ }
     ensures { λ _. ⌜ now (to .exit) ≡ scattered (partPuts (now (from .entry)) a b) n (now (to .entry)) ⌝ }

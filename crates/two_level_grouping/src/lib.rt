@@ -57,7 +57,7 @@ pub fn front(
     }
 }
 
-// Whether the lists are long enough, for few nodes and entries.
+// Whether the lists are long enough, for nodes and entries within their limits.
 fn has_room(nodes: usize, entries: usize, room: usize, work_room: usize, float_room: usize) -> bool
     requires { ⌜ (nodes ≤ 1_048_576) × (entries ≤ 16_777_216) ⌝ }
     ensures { λ r. ⌜ r ≡ hasRoom nodes entries room «work_room» «float_room» ⌝ }
@@ -295,7 +295,7 @@ fn by_policy(
     }
 }
 
-// The grouping of setup alone: causes 1 to 12, 13 for the lists lent, 16; then the group of each node in `ids`, and work lists of zeros. What sizes alone decide comes first, for each policy then checks the entries itself, once.
+// The grouping of setup alone: causes 1 to 12, 13 for the lists lent, 16; then the group of each node in `ids`, and work lists of zeros. Sizes are checked first, and the entries once, by the policy's own function.
 pub fn aggregate(
     rows: usize,
     cols: usize,

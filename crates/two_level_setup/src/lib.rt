@@ -9,8 +9,7 @@ use definitions::Options;
 use definitions::Refusal;
 use definitions::SetupAnswer;
 ghost use mathlib.Core.Path.{_≡_};
-ghost use lib.ListN.{length, replicate};
-ghost use Rattle.definitions.specs.Numbers.{zeroᶠ};
+ghost use lib.ListN.{length};
 ghost use Rattle.definitions.specs.Matrix.{csr};
 ghost use Rattle.definitions.specs.Setup.{setupOf, setupLeft, lengthsOf};
 ghost use Rattle.definitions.specs.Answers.{setupAnswer};
@@ -64,7 +63,7 @@ fn settle(
     }
 }
 
-// SETUP: causes 1 to 24 in their order; accepted, the record, with what it describes in `ints` and `floats` and zeros in the work lists.
+// Setup: causes 1 to 24 in their order; accepted, the record, with what it describes in `ints` and `floats` and zeros in the work lists.
 pub fn setup(
     rows: usize,
     cols: usize,

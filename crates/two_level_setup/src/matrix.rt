@@ -185,7 +185,7 @@ fn dense_stage(
     )
 }
 
-// The same in the front of the lists, as far as it needs them: what it clears again. The rest is zero already.
+// The same, lent only the front that it needs, since a stage clears what it is lent; behind it stand zeros already.
 pub fn coarse_stage(
     rows: usize,
     cols: usize,

@@ -9,8 +9,7 @@ use definitions::SetupAnswer;
 use definitions::TwoLevelBasis;
 ghost use mathlib.Core.Path.{_≡_};
 ghost use Prim.Native.Nat.{_+_, _*_, _≤_, _/_};
-ghost use lib.ListN.{length, replicate};
-ghost use Rattle.definitions.specs.Numbers.{zeroᶠ};
+ghost use lib.ListN.{length};
 ghost use Rattle.definitions.specs.Matrix.{csr};
 ghost use Rattle.definitions.specs.Setup.{covers};
 ghost use Rattle.two_level_setup.specs.Fit.{Fit, Ample, Wide, roomOf};
@@ -91,7 +90,7 @@ fn room_stage(
     }
 }
 
-// The same in the front of the work lists, as far as it needs them: what each stage clears again. The rest is zero already.
+// The same, lent only the front that it needs, since a stage clears what it is lent; behind it stand zeros already.
 fn part_stage(
     rows: usize,
     cols: usize,
@@ -127,7 +126,7 @@ fn part_stage(
     )
 }
 
-// Causes 17 and 18.
+// After the groups: causes 17 and 18.
 fn group_stage(
     rows: usize,
     cols: usize,
@@ -181,7 +180,7 @@ fn group_stage(
     }
 }
 
-// Cause 16, and the groups.
+// After the block factors: cause 16, and the groups.
 fn factors_stage(
     rows: usize,
     cols: usize,

@@ -1,11 +1,11 @@
 -- Values written one by one into a list of zeros: what the list receives.
 use Prim.Native.Nat.{ℕ, zero, suc, _+_, _-_, _<_, _≤_}
 use mathlib.Core.Path.{_≡_, refl, sym, ap, _∙_}
-use mathlib.Core.List.{List, [], _∷_, _++_, append-nil, append-assoc}
+use mathlib.Core.List.{List, [], _∷_, _++_, append-nil}
 use native.Mathlib.Nat.{not-suc-le-zero, le-of-suc-le-suc, sub-zero, suc-sub-suc}
 use native.Mathlib.Numerals.{add-one}
 use lib.ListN.{length, set, take, drop, replicate}
-use lib.Seq.{take-all, drop-length}
+use lib.Seq.{drop-length}
 use Rattle.definitions.specs.Lists.{padded}
 use Rattle.definitions.specs.Refusal.{valuesOf}
 use Rattle.definitions.specs.declared.Refusal.{Refusal}

@@ -12,8 +12,8 @@ ghost use Rattle.definitions.specs.Estimate.{estimateCall, estimateWorkLeft};
 ghost use Rattle.definitions.specs.Setup.{setupOf, setupLeft, lengthsOf};
 ghost use Rattle.two_level_setup.specs.Contracts.{lentOf};
 ghost use Rattle.definitions.specs.Apply.{applyCall, applyLeft, applyWorkLeft};
-ghost use Rattle.definitions.specs.Answers.{answerOf, answerNumber, groupingAnswer, estimateAnswer, setupAnswer};
-ghost use Rattle.yelomawin.specs.Boundary.{received, answerValues, groupingNumber, groupingValues, estimateNumber, estimateValues, setupNumber, setupValues, optionsOf, arePolicies, whether, noPolicy, recordOf, isRecord};
+ghost use Rattle.definitions.specs.Answers.{answerOf, answerNumber, groupingAnswer, estimateAnswer, setupAnswer, answerValues, groupingNumber, groupingValues, estimateNumber, estimateValues, setupNumber};
+ghost use Rattle.yelomawin.specs.Boundary.{received, setupValues, optionsOf, arePolicies, whether, noPolicy, recordOf, isRecord};
 
 mod answers;
 mod record;
@@ -168,7 +168,7 @@ pub extern "C" fn yelomawin_estimate(
     told::estimate(a, answer)
 }
 
-// A number that is no policy answers 255, with every list kept; the record receives zeros.
+// A number that is no policy answers 255, with every other list kept; the record receives zeros.
 #[no_mangle]
 pub extern "C" fn yelomawin_setup(
     rows: u64,

@@ -7,8 +7,8 @@ use definitions::GroupingAnswer;
 use definitions::SetupAnswer;
 use float_bits::bits_of;
 ghost use mathlib.Core.Path.{_≡_};
-ghost use Rattle.definitions.specs.Answers.{answerNumber};
-ghost use Rattle.yelomawin.specs.Boundary.{received, answerValues, groupingNumber, groupingValues, estimateNumber, estimateValues, setupNumber, setupValues};
+ghost use Rattle.definitions.specs.Answers.{answerNumber, answerValues, groupingNumber, groupingValues, estimateNumber, estimateValues, setupNumber};
+ghost use Rattle.yelomawin.specs.Boundary.{received, setupValues};
 
 pub fn number(answer: Answer) -> u64
     ensures { λ r. ⌜ r ≡ answerNumber answer ⌝ }

@@ -1,4 +1,3 @@
-use mathlib.Core.Path.{_≡_, refl, ap, sym, _∙_}
 use Rattle.averaging.proofs.Laws.{average-on, average-short, average-large}
 use Rattle.averaging.proofs.Places.{square-small}
 use native.Mathlib.Omega.{arith}

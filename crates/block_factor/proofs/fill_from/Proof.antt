@@ -3,7 +3,7 @@ use native.Mathlib.Nat.{div-le-self}
 use Rattle.block_factor.proofs.Turns.{place-long}
 use native.Mathlib.Nat.{mul-le-mul}
 use mathlib.Core.Path.{_≡_, refl, _∙_}
-use Prim.Native.Nat.{ℕ, _+_, _-_, _*_, _/_, _≤_, min}
+use Prim.Native.Nat.{ℕ, _+_, _-_, _*_, _≤_, min}
 use native.Mathlib.Omega.{arith}
 use lib.ListN.{length, take}
 use Rattle.definitions.specs.Matrix.{csr}

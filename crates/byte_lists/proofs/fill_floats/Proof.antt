@@ -1,7 +1,7 @@
 -- Float k is filled in from its pattern; the bytes are read whole.
 use mathlib.Core.Path.{_≡_, refl, ap, _∙_}
 use mathlib.Core.List.{_++_}
-use Prim.Native.Nat.{_+_, _*_, _-_, _/_, _<_, _≤_}
+use Prim.Native.Nat.{_-_, _/_, _<_, _≤_}
 use native.Mathlib.Omega.{arith}
 use lib.Ieee.{binary64, ofBits}
 use lib.ListN.{length, drop, length-set}

@@ -1,7 +1,7 @@
 -- Number k is filled in from its bytes; the bytes are read whole.
 use mathlib.Core.Path.{_≡_, refl}
 use mathlib.Core.List.{_++_}
-use Prim.Native.Nat.{_+_, _*_, _-_, _/_, _<_, _≤_}
+use Prim.Native.Nat.{_-_, _/_, _<_, _≤_}
 use native.Mathlib.Omega.{arith}
 use lib.ListN.{length, drop, length-set}
 use Rattle.definitions.specs.Lists.{tab}

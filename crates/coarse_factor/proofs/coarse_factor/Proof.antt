@@ -6,8 +6,8 @@ use Rattle.coarse_factor.specs.Calls.{coarseFactorCall}
 use Rattle.averaging.proofs.Places.{square-small}
 use Rattle.coarse_factor.proofs.Cholesky.{triangle-small}
 use Rattle.coarse_factor.proofs.Fitting.{factor-large, factor-short-matrix, factor-short, factor-fits, answer-kept, answer-cleared, answer-fits, short-keeps, large-clears, front-square}
-use Prim.Native.Nat.{ℕ, suc, _+_, _*_, _/_, _<_, _≤_, _-_}
-use mathlib.Core.Path.{_≡_, refl, ap, sym, _∙_}
+use Prim.Native.Nat.{_*_, _-_}
+use mathlib.Core.Path.{_≡_, ap, _∙_}
 use native.Mathlib.Omega.{arith}
 use borrow.Author.Needs.{needs}
 use Rattle.coarse_factor.proofs.coarse_factor.Statement.{statement}

@@ -6,8 +6,7 @@ use Rattle.coarse_factor.specs.Calls.{coarseInverseCall}
 use Rattle.averaging.proofs.Places.{square-small}
 use Rattle.coarse_factor.proofs.Cholesky.{triangle-small}
 use Rattle.coarse_factor.proofs.Fitting.{accept-left, refuse-kept, refuse-cleared, short-keeps, large-clears, inverse-large, inverse-short-factor, inverse-short, inverse-fits}
-use Prim.Native.Nat.{ℕ, suc, _+_, _*_, _/_, _<_, _≤_, _-_}
-use mathlib.Core.Path.{_≡_, refl, ap, sym, _∙_}
+use Prim.Native.Nat.{_-_}
 use native.Mathlib.Omega.{arith}
 use borrow.Author.Needs.{needs}
 use Rattle.coarse_factor.proofs.coarse_inverse.Statement.{statement}

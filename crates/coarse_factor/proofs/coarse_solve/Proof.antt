@@ -1,11 +1,11 @@
 use Rattle.averaging.proofs.Lists.{front-length}
-use lib.ListN.{length, take}
+use lib.ListN.{take}
 use Rattle.definitions.specs.Coarse.{coarseSolve}
 use Rattle.definitions.specs.declared.Refusal.the-variants.{CoarseTooLarge, ListTooShort}
 use Rattle.coarse_factor.specs.Calls.{coarseSolveCall}
 use Rattle.coarse_factor.proofs.Fitting.{accept-left, refuse-kept, refuse-cleared, short-keeps, large-clears, solve-large, solve-short-part, solve-short, solve-fits}
-use Prim.Native.Nat.{ℕ, suc, _+_, _*_, _/_, _<_, _≤_, _-_}
-use mathlib.Core.Path.{_≡_, refl, ap, sym, _∙_}
+use Prim.Native.Nat.{_-_}
+use mathlib.Core.Path.{_∙_}
 use native.Mathlib.Omega.{arith}
 use borrow.Author.Needs.{needs}
 use Rattle.coarse_factor.proofs.coarse_solve.Statement.{statement}

@@ -1,10 +1,5 @@
-use mathlib.Core.Bool.{true, false}
-use lib.ListN.{length, length-append, length-replicate}
-use lib.Seq.{length-front}
 use Rattle.coarse_factor.proofs.Fitting.{fitting-done, fitting-pivot, fitting-scale}
-use Prim.Native.Nat.{ℕ, suc, _+_, _*_, _/_, _<_, _≤_, _-_}
-use mathlib.Core.Path.{_≡_, refl, ap, sym, _∙_}
-use native.Mathlib.Omega.{arith}
+use mathlib.Core.Path.{sym, _∙_}
 use borrow.Author.Needs.{needs}
 use Rattle.coarse_factor.proofs.factor_fitting.Statement.{statement}
 use Rattle.coarse_factor.proofs.factor_fitting.Tie as tie

@@ -1,10 +1,9 @@
-use lib.ListN.{length}
 use Rattle.definitions.specs.declared.Refusal.the-variants.{NotSquare, BlockSize, NotMultiple, ListTooShort, CoarseTooLarge, SetupMisfit}
 use Rattle.averaging.proofs.Places.{square-small}
 use Rattle.coarse_matrix.specs.Calls.{ConstantFacts}
 use Rattle.coarse_matrix.proofs.Checks.{not-accepted, groups-fit, not-square, size-none, size-large, not-multiple, many-groups, too-large, other-ids, id-outside, short-list, all-passed}
-use Prim.Native.Nat.{ℕ, suc, _+_, _*_, _/_, _<_, _≤_, _-_}
-use mathlib.Core.Path.{_≡_, refl, ap, sym, _∙_}
+use Prim.Native.Nat.{_*_}
+use mathlib.Core.Path.{sym, _∙_}
 use native.Mathlib.Omega.{arith}
 use borrow.Author.Needs.{needs}
 use Rattle.coarse_matrix.proofs.constant_checks.Statement.{statement}

@@ -8,10 +8,10 @@ use Rattle.definitions.specs.Transfer.{coarseColumn}
 use Rattle.definitions.specs.Coarse.{constantEntry, averagedSquare}
 use Rattle.definitions.specs.Answers.{answerOf}
 use Rattle.csr32.specs.Valid.{accepted-rows}
-use Rattle.coarse_matrix.specs.Calls.{constantChecks, constantCoarseCall, ConstantFacts}
+use Rattle.coarse_matrix.specs.Calls.{constantChecks, constantCoarseCall}
 use Rattle.coarse_matrix.proofs.Checks.{walk-of, grouped-of, stopped-first, stopped-then, went-through, constant-call, constant-square}
-use Prim.Native.Nat.{ℕ, suc, _+_, _*_, _/_, _<_, _≤_, _-_}
-use mathlib.Core.Path.{_≡_, refl, ap, sym, _∙_}
+use Prim.Native.Nat.{ℕ, _*_}
+use mathlib.Core.Path.{refl, sym, _∙_}
 use native.Mathlib.Omega.{arith}
 use borrow.Author.Needs.{needs}
 use Rattle.coarse_matrix.proofs.constant_coarse.Statement.{statement}

@@ -1,10 +1,8 @@
-use lib.ListN.{length}
 use Rattle.definitions.specs.declared.Refusal.the-variants.{NotSquare, ListTooShort, CoarseTooLarge, SetupMisfit}
 use Rattle.averaging.proofs.Places.{square-small}
 use Rattle.coarse_matrix.specs.Calls.{GalerkinFacts}
 use Rattle.coarse_matrix.proofs.Checks.{not-accepted, smoothed-square, smoothed-large, smoothed-misfit, smoothed-ints, smoothed-floats, smoothed-passed}
-use Prim.Native.Nat.{ℕ, suc, _+_, _*_, _/_, _<_, _≤_, _-_}
-use mathlib.Core.Path.{_≡_, refl, ap, sym, _∙_}
+use mathlib.Core.Path.{sym, _∙_}
 use native.Mathlib.Omega.{arith}
 use borrow.Author.Needs.{needs}
 use Rattle.coarse_matrix.proofs.galerkin_checks.Statement.{statement}

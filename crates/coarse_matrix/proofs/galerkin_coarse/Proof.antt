@@ -7,11 +7,10 @@ use Rattle.definitions.specs.Answers.{answerOf}
 use Rattle.definitions.specs.Matrix.{Matrix, csr, validOf, rowOf}
 use Rattle.definitions.specs.Coarse.{galerkinEntry, averagedSquare}
 use Rattle.csr32.specs.Valid.{accepted-rows}
-use Rattle.coarse_matrix.specs.Calls.{galerkinChecks, galerkinCoarseCall, GalerkinFacts}
+use Rattle.coarse_matrix.specs.Calls.{galerkinChecks, galerkinCoarseCall}
 use Rattle.coarse_matrix.proofs.Checks.{walk-of, both-first, both-then, both-through, galerkin-call, galerkin-square}
-use Prim.Native.Nat.{ℕ, suc, _+_, _*_, _/_, _<_, _≤_, _-_}
-use mathlib.Core.Path.{_≡_, refl, ap, sym, _∙_}
-use native.Mathlib.Omega.{arith}
+use Prim.Native.Nat.{ℕ}
+use mathlib.Core.Path.{refl, sym, _∙_}
 use borrow.Author.Needs.{needs}
 use Rattle.coarse_matrix.proofs.galerkin_coarse.Statement.{statement}
 use Rattle.coarse_matrix.proofs.galerkin_coarse.Tie as tie

@@ -1,10 +1,6 @@
-use mathlib.Core.Bool.{true, false}
-use lib.ListN.{length, getD}
 use Rattle.coarse_matrix.specs.Scatter.{Walk}
 use Rattle.coarse_matrix.proofs.Checks.{never-true, fits-pointers, fits-columns, fits-first, fits-last, fits-rise, fits-below, fits-all}
-use Prim.Native.Nat.{ℕ, suc, _+_, _*_, _/_, _<_, _≤_, _-_}
-use mathlib.Core.Path.{_≡_, refl, ap, sym, _∙_}
-use native.Mathlib.Omega.{arith}
+use mathlib.Core.Path.{sym, _∙_}
 use borrow.Author.Needs.{needs}
 use Rattle.coarse_matrix.proofs.transfer_fits.Statement.{statement}
 use Rattle.coarse_matrix.proofs.transfer_fits.Tie as tie

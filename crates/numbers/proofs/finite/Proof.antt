@@ -1,7 +1,7 @@
 -- A number is finite exactly where it and its negation are below +infinity.
 use mathlib.Core.Path.{_≡_, refl, sym}
 use mathlib.Core.Bool.{true, false}
-use lib.Ieee.{Float, nan, inf, fin, lt, neg, div, ofBits, binary64}
+use lib.Ieee.{Float, nan, inf, fin, lt, neg, div, ofBits}
 use lib.Ieee.Scale.{finite}
 use Rattle.numbers.proofs.finite.Statement.{statement}
 use Rattle.numbers.proofs.finite.Tie as tie

@@ -1,5 +1,5 @@
 -- `finite` decides the first test, and the comparison is the second.
-use mathlib.Core.Path.{_≡_, sym, _∙_}
+use mathlib.Core.Path.{sym, _∙_}
 use borrow.Author.Needs.{needs}
 use Rattle.definitions.specs.Numbers.{usable}
 use Rattle.numbers.proofs.usable.Statement.{statement}

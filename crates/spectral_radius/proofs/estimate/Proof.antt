@@ -1,7 +1,6 @@
 -- Each return is one of the call's checks; the work list is cleared after the last of them.
-use mathlib.Core.Path.{_≡_, sym, _∙_}
+use mathlib.Core.Path.{_≡_}
 use native.Mathlib.Omega.{arith}
-use lib.ListN.{length}
 use Rattle.definitions.specs.Matrix.{csr}
 use Rattle.spectral_radius.proofs.Checks.{sound, invalid, oblong, misfit, short, ran}
 use borrow.Author.Needs.{needs}

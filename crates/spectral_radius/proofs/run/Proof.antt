@@ -1,8 +1,7 @@
 -- Causes 20 and 21 come first; the inverse roots are put at the front of the work list.
-use Prim.Native.Nat.{_-_}
 use mathlib.Core.Path.{_≡_, sym, _∙_}
 use native.Mathlib.Omega.{arith}
-use lib.ListN.{length, take, drop}
+use lib.ListN.{length, drop}
 use lib.Seq.{length-take-le, take-at}
 use Rattle.definitions.specs.Matrix.{csr}
 use Rattle.spectral_radius.proofs.Course.{diagonal-stops, diagonal-goes}

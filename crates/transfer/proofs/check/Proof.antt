@@ -3,7 +3,7 @@ use Prim.Native.Nat.{_*_}
 use mathlib.Core.Path.{sym, _∙_}
 use native.Mathlib.Omega.{arith}
 use lib.ListN.{length}
-use Rattle.definitions.specs.Refusal.{Checked, _>>=_}
+use Rattle.definitions.specs.Refusal.{_>>=_}
 use Rattle.definitions.specs.Matrix.{csr, validOf}
 use Rattle.definitions.specs.declared.Answer.the-variants.{Refused}
 use Rattle.csr32.specs.Valid.{accepted-rows}

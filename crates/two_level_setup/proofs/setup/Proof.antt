@@ -4,7 +4,6 @@ use Rattle.two_level_setup.proofs.Building.{bounds}
 use Rattle.definitions.specs.Setup.{entryNeeds, lengthsOf}
 use Rattle.two_level_setup.specs.Contracts.{lentOf}
 use Rattle.definitions.specs.Matrix.{csr}
-use Prim.Native.Nat.{_-_}
 use native.Mathlib.Omega.{arith}
 use borrow.Author.Needs.{needs}
 use Rattle.two_level_setup.proofs.setup.Statement.{statement}

@@ -1,5 +1,5 @@
 -- Test by test.
-use mathlib.Core.Path.{refl, sym, _∙_}
+use mathlib.Core.Path.{sym, _∙_}
 use Rattle.yelomawin_bytes.specs.Calls.{matrixFits}
 use borrow.Author.Needs.{needs}
 use Rattle.yelomawin_bytes.proofs.matrix_fits.Statement.{statement}

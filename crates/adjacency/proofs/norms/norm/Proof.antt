@@ -1,5 +1,4 @@
 -- The entries of node v stand together, and `own` adds the squares of those in its block.
-use Prim.Native.Nat.{_-_}
 use mathlib.Core.Path.{ap, _∙_}
 use native.Mathlib.Omega.{arith}
 use Rattle.definitions.specs.Numbers.{rootᶠ}

@@ -1,5 +1,4 @@
 -- The three steps, one after the other.
-use Prim.Native.Nat.{_-_}
 use mathlib.Core.Path.{ap, _∙_}
 use native.Mathlib.Omega.{arith}
 use Rattle.definitions.specs.Matrix.{stored}

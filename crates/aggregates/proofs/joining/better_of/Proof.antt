@@ -1,6 +1,5 @@
 -- `better_of`: the two ways to take a, and the one to stay.
 use mathlib.Core.Path.{_≡_, sym, _∙_}
-use Prim.Native.Nat.{_-_}
 use Rattle.aggregates.specs.JoinChoice.{at}
 use Rattle.aggregates.specs.JoinChoice.{beforeBy}
 use Rattle.aggregates.proofs.joining.Counting.{better-first, better-takes, better-leaves}

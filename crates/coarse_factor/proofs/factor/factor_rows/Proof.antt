@@ -1,4 +1,3 @@
-use mathlib.Core.Bool.{true, false}
 use lib.ListN.{length, length-set}
 use Rattle.definitions.specs.Factor.{factorFrom}
 use Rattle.definitions.specs.Coarse.{packed, packedLength, entryIn}
@@ -7,7 +6,7 @@ use Rattle.averaging.proofs.Places.{place}
 use Rattle.coarse_factor.specs.Calls.{outcomeOf}
 use Rattle.coarse_factor.proofs.Packed.{tri-row, tri-next}
 use Rattle.coarse_factor.proofs.Cholesky.{length-left, rows-on, rows-stop, rows-end}
-use Prim.Native.Nat.{ℕ, suc, _+_, _*_, _/_, _<_, _≤_, _-_}
+use Prim.Native.Nat.{suc, _+_, _*_, _<_, _≤_, _-_}
 use mathlib.Core.Path.{_≡_, refl, ap, sym, _∙_}
 use native.Mathlib.Omega.{arith}
 use borrow.Author.Needs.{needs}

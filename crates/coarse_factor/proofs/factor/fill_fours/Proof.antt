@@ -1,14 +1,13 @@
-use lib.ListN.{length, getD, length-set}
+use lib.ListN.{length, length-set}
 use Rattle.definitions.specs.Factor.{leftOf}
 use Rattle.definitions.specs.Coarse.{packed, packedLength, entryIn}
 use Rattle.averaging.proofs.Places.{place}
 use Rattle.coarse_factor.proofs.Packed.{tri-row}
-use Rattle.coarse_factor.proofs.Cholesky.{left-none, length-left}
+use Rattle.coarse_factor.proofs.Cholesky.{left-none}
 use Rattle.coarse_factor.proofs.Columns.{Rows4, rows4, fours-more}
-use Prim.Native.Nat.{ℕ, suc, _+_, _*_, _/_, _<_, _≤_, _-_}
-use mathlib.Core.Path.{_≡_, refl, ap, sym, _∙_}
+use Prim.Native.Nat.{suc, _+_, _*_, _≤_, _-_}
+use mathlib.Core.Path.{_≡_, refl, ap, _∙_}
 use native.Mathlib.Omega.{arith}
-use borrow.Author.Needs.{needs}
 use Rattle.coarse_factor.proofs.factor.fill_fours.Statement.{statement}
 use Rattle.coarse_factor.proofs.factor.fill_fours.Tie as tie
 use Rattle.coarse_factor.proofs.factor.fill_fours.Reads as reads

@@ -1,8 +1,8 @@
-use Prim.Native.Nat.{ℕ, suc, _+_, _*_, _/_, _<_, _≤_, _-_}
-use mathlib.Core.Path.{_≡_, refl, ap, sym, _∙_}
+use Prim.Native.Nat.{suc, _+_, _*_, _<_, _≤_, _-_}
+use mathlib.Core.Path.{_≡_, refl}
 use mathlib.Core.List.{List}
-use lib.ListN.{length, getD, length-set}
-use lib.Ieee.{Float, nan}
+use lib.ListN.{length, length-set}
+use lib.Ieee.{Float}
 use Rattle.definitions.specs.Factor.{leftOf}
 use Rattle.definitions.specs.Coarse.{packed, packedLength, entryIn}
 use Rattle.averaging.proofs.Places.{place}

@@ -1,10 +1,7 @@
 use lib.ListN.{length}
 use Rattle.definitions.specs.Coarse.{entryIn}
 use Rattle.coarse_factor.proofs.Cholesky.{length-left}
-use Prim.Native.Nat.{ℕ, suc, _+_, _*_, _/_, _<_, _≤_, _-_}
-use mathlib.Core.Path.{_≡_, refl, ap, sym, _∙_}
-use native.Mathlib.Omega.{arith}
-use borrow.Author.Needs.{needs}
+use mathlib.Core.Path.{ap, _∙_}
 use Rattle.coarse_factor.proofs.factor.fill_row.Statement.{statement}
 use Rattle.coarse_factor.proofs.factor.fill_row.Tie as tie
 use Rattle.coarse_factor.proofs.factor.fill_row.Reads as reads

@@ -1,6 +1,5 @@
-use lib.ListN.{length, length-set}
-use Prim.Native.Nat.{ℕ, suc, _+_, _*_, _/_, _<_, _≤_, _-_}
-use mathlib.Core.Path.{_≡_, refl, ap, sym, _∙_}
+use lib.ListN.{length-set}
+use mathlib.Core.Path.{refl}
 use native.Mathlib.Omega.{arith}
 use borrow.Author.Needs.{needs}
 use Rattle.coarse_factor.proofs.factor.put_four.Statement.{statement}

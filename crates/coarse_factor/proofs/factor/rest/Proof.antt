@@ -1,7 +1,7 @@
-use Prim.Native.Nat.{ℕ, suc, _+_, _*_, _<_, _≤_, _-_}
-use mathlib.Core.Path.{_≡_, refl, ap, sym, _∙_}
-use lib.ListN.{length, getD}
-use lib.Ieee.{Float, nan}
+use Prim.Native.Nat.{_+_, _≤_, _-_}
+use mathlib.Core.Path.{_≡_, refl}
+use lib.ListN.{getD}
+use lib.Ieee.{nan}
 use Rattle.definitions.specs.Lists.{tab}
 use Rattle.definitions.specs.Numbers.{reduced, _*ᶠ_}
 use Rattle.laws.specs.Growing.{reduced-none}

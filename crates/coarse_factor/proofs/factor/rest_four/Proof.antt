@@ -1,13 +1,12 @@
-use lib.ListN.{length, getD}
+use lib.ListN.{getD}
 use lib.Ieee.{Float, nan}
 use Rattle.definitions.specs.Numbers.{_*ᶠ_}
 use Rattle.laws.specs.Growing.{reduced-none}
-use Rattle.coarse_factor.specs.Lanes.{restOf, RestFour}
+use Rattle.coarse_factor.specs.Lanes.{restOf}
 use Rattle.coarse_factor.proofs.Cholesky.{reduced-more}
-use Prim.Native.Nat.{ℕ, suc, _+_, _*_, _/_, _<_, _≤_, _-_}
-use mathlib.Core.Path.{_≡_, refl, ap, sym, _∙_}
+use Prim.Native.Nat.{ℕ, _+_, _≤_, _-_}
+use mathlib.Core.Path.{_≡_, refl}
 use native.Mathlib.Omega.{arith}
-use borrow.Author.Needs.{needs}
 use Rattle.coarse_factor.proofs.factor.rest_four.Statement.{statement}
 use Rattle.coarse_factor.proofs.factor.rest_four.Tie as tie
 use Rattle.coarse_factor.proofs.factor.rest_four.Reads as reads

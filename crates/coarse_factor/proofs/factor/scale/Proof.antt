@@ -1,6 +1,6 @@
-use Prim.Native.Nat.{ℕ, suc, _+_, _*_, _<_, _≤_, _-_}
-use mathlib.Core.Path.{_≡_, refl, ap, sym, _∙_}
-use lib.ListN.{length, getD, take}
+use Prim.Native.Nat.{_≤_, _-_}
+use mathlib.Core.Path.{_≡_, refl}
+use lib.ListN.{length, take}
 use Rattle.definitions.specs.Numbers.{largest}
 use Rattle.coarse_factor.proofs.Cholesky.{largest-none, largest-more, largest-all}
 use native.Mathlib.Omega.{arith}

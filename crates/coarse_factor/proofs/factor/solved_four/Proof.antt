@@ -1,9 +1,6 @@
-use lib.ListN.{length}
 use Rattle.coarse_factor.specs.Lanes.{solvedFour}
-use Prim.Native.Nat.{ℕ, suc, _+_, _*_, _/_, _<_, _≤_, _-_}
-use mathlib.Core.Path.{_≡_, refl, ap, sym, _∙_}
+use mathlib.Core.Path.{refl}
 use native.Mathlib.Omega.{arith}
-use borrow.Author.Needs.{needs}
 use Rattle.coarse_factor.proofs.factor.solved_four.Statement.{statement}
 use Rattle.coarse_factor.proofs.factor.solved_four.Tie as tie
 use Rattle.coarse_factor.proofs.factor.solved_four.Reads as reads

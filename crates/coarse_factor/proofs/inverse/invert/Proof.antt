@@ -1,8 +1,4 @@
-use mathlib.Core.List.{_++_}
-use lib.ListN.{length, drop}
 use Rattle.coarse_factor.proofs.Rows.{invert-law}
-use Prim.Native.Nat.{ℕ, suc, _+_, _*_, _/_, _<_, _≤_, _-_}
-use mathlib.Core.Path.{_≡_, refl, ap, sym, _∙_}
 use native.Mathlib.Omega.{arith}
 use borrow.Author.Needs.{needs}
 use Rattle.coarse_factor.proofs.inverse.invert.Statement.{statement}

@@ -1,11 +1,10 @@
-use mathlib.Core.List.{List, _++_}
+use mathlib.Core.List.{_++_}
 use native.Mathlib.Nat.{mul-le-mul-right}
-use lib.ListN.{length, take, drop, length-drop}
-use lib.Seq.{length-take-le}
+use lib.ListN.{length, drop}
 use borrow.Rule.Slice.PartMut.{same-len-mid}
 use Rattle.coarse_factor.specs.Stored.{solvedRows}
 use Rattle.coarse_factor.proofs.Rows.{solved-none, solved-four, length-four, row-length}
-use Prim.Native.Nat.{ℕ, suc, _+_, _*_, _/_, _<_, _≤_, _-_}
+use Prim.Native.Nat.{_+_, _*_, _≤_, _-_}
 use mathlib.Core.Path.{_≡_, refl, ap, sym, _∙_}
 use native.Mathlib.Omega.{arith}
 use borrow.Author.Needs.{needs}

@@ -1,15 +1,14 @@
 use mathlib.Core.List.{List, _++_}
-use lib.ListN.{length, take, drop, length-drop}
-use lib.Seq.{length-take-le}
+use lib.ListN.{length, take, drop}
 use lib.Ieee.{Float}
 use native.Mathlib.Nat.{mul-le-mul-right}
 use borrow.Rule.Slice.PartMut.{same-len-mid}
 use Rattle.definitions.specs.Coarse.{packedLength}
-use Rattle.averaging.proofs.Places.{place, next-row, square-small}
+use Rattle.averaging.proofs.Places.{place, next-row}
 use Rattle.coarse_factor.specs.Stored.{solvedRows}
-use Rattle.coarse_factor.proofs.Rows.{solved-more, row-length, length-unit}
+use Rattle.coarse_factor.proofs.Rows.{solved-more, row-length}
 use Rattle.coarse_factor.proofs.Products.{length-solve}
-use Prim.Native.Nat.{ℕ, suc, _+_, _*_, _/_, _<_, _≤_, _-_}
+use Prim.Native.Nat.{ℕ, _+_, _*_, _<_, _≤_, _-_}
 use mathlib.Core.Path.{_≡_, refl, ap, sym, _∙_}
 use native.Mathlib.Omega.{arith}
 use borrow.Author.Needs.{needs}

@@ -1,9 +1,8 @@
 use lib.ListN.{length}
-use Rattle.definitions.specs.Coarse.{packedLength, packedSolve}
+use Rattle.definitions.specs.Coarse.{packedLength}
 use Rattle.coarse_factor.proofs.Cholesky.{triangle-small}
 use Rattle.coarse_factor.proofs.Rows.{length-unit}
-use Prim.Native.Nat.{ℕ, suc, _+_, _*_, _/_, _<_, _≤_, _-_}
-use mathlib.Core.Path.{_≡_, refl, ap, sym, _∙_}
+use mathlib.Core.Path.{_≡_, ap, sym, _∙_}
 use native.Mathlib.Omega.{arith}
 use borrow.Author.Needs.{needs}
 use Rattle.coarse_factor.proofs.inverse.unit_solve.Statement.{statement}

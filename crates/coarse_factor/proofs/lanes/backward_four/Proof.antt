@@ -1,12 +1,11 @@
 use lib.ListN.{length, getD}
-use lib.Ieee.{Float, nan}
-use Rattle.definitions.specs.Coarse.{packed, packedLength, packedEntry}
+use lib.Ieee.{nan}
+use Rattle.definitions.specs.Coarse.{packedLength}
 use Rattle.coarse_factor.specs.Lanes.{Backward4}
 use Rattle.coarse_factor.proofs.Packed.{tri-back, back-facts, back-end}
-use Rattle.coarse_factor.proofs.Cholesky.{triangle-small}
 use Rattle.coarse_factor.proofs.Sides.{backward4-none, backward4-more}
-use Prim.Native.Nat.{ℕ, suc, _+_, _*_, _/_, _<_, _≤_, _-_}
-use mathlib.Core.Path.{_≡_, refl, ap, sym, _∙_}
+use Prim.Native.Nat.{ℕ, suc, _+_, _≤_, _-_}
+use mathlib.Core.Path.{_≡_, ap, sym}
 use native.Mathlib.Omega.{arith}
 use borrow.Author.Needs.{needs}
 use Rattle.coarse_factor.proofs.lanes.backward_four.Statement.{statement}

@@ -1,14 +1,12 @@
-use lib.ListN.{length, getD, drop}
-use lib.Ieee.{Float, nan}
+use lib.ListN.{length, drop}
 use Rattle.definitions.specs.Coarse.{packed, packedLength}
-use Rattle.coarse_factor.specs.Lanes.{colSum, ColFour}
+use Rattle.coarse_factor.specs.Lanes.{colSum}
 use Rattle.coarse_factor.proofs.Packed.{tri-row, next-at, col-none}
 use Rattle.coarse_factor.proofs.Cholesky.{triangle-small}
 use Rattle.coarse_factor.proofs.Sides.{col-more}
-use Prim.Native.Nat.{ℕ, suc, _+_, _*_, _/_, _<_, _≤_, _-_}
-use mathlib.Core.Path.{_≡_, refl, ap, sym, _∙_}
+use Prim.Native.Nat.{suc, _+_, _<_, _≤_, _-_}
+use mathlib.Core.Path.{_≡_}
 use native.Mathlib.Omega.{arith}
-use borrow.Author.Needs.{needs}
 use Rattle.coarse_factor.proofs.lanes.col_dots.Statement.{statement}
 use Rattle.coarse_factor.proofs.lanes.col_dots.Tie as tie
 use Rattle.coarse_factor.proofs.lanes.col_dots.Reads as reads

@@ -1,11 +1,11 @@
 use lib.ListN.{length, getD}
-use lib.Ieee.{Float, nan}
+use lib.Ieee.{nan}
 use Rattle.definitions.specs.Coarse.{packedLength}
 use Rattle.coarse_factor.specs.Lanes.{Forward4}
 use Rattle.coarse_factor.proofs.Packed.{tri-row, tri-next}
 use Rattle.coarse_factor.proofs.Sides.{forward4-none, forward4-more}
-use Prim.Native.Nat.{ℕ, suc, _+_, _*_, _/_, _<_, _≤_, _-_}
-use mathlib.Core.Path.{_≡_, refl, ap, sym, _∙_}
+use Prim.Native.Nat.{suc, _+_, _≤_, _-_}
+use mathlib.Core.Path.{_≡_, refl, _∙_}
 use native.Mathlib.Omega.{arith}
 use borrow.Author.Needs.{needs}
 use Rattle.coarse_factor.proofs.lanes.forward_four.Statement.{statement}

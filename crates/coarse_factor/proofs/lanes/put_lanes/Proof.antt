@@ -1,8 +1,6 @@
-use lib.ListN.{length, length-set}
-use Prim.Native.Nat.{ℕ, suc, _+_, _*_, _/_, _<_, _≤_, _-_}
-use mathlib.Core.Path.{_≡_, refl, ap, sym, _∙_}
+use lib.ListN.{length-set}
+use mathlib.Core.Path.{refl}
 use native.Mathlib.Omega.{arith}
-use borrow.Author.Needs.{needs}
 use Rattle.coarse_factor.proofs.lanes.put_lanes.Statement.{statement}
 use Rattle.coarse_factor.proofs.lanes.put_lanes.Tie as tie
 use Rattle.coarse_factor.proofs.lanes.put_lanes.Reads as reads

@@ -1,13 +1,12 @@
-use lib.ListN.{length, getD, drop}
+use lib.ListN.{getD, drop}
 use lib.Ieee.{Float, nan}
 use Rattle.definitions.specs.Numbers.{_*ᶠ_}
 use Rattle.laws.specs.Growing.{summed-none}
-use Rattle.coarse_factor.specs.Lanes.{rowSum, RowFour}
+use Rattle.coarse_factor.specs.Lanes.{rowSum}
 use Rattle.coarse_factor.proofs.Sides.{row-more}
-use Prim.Native.Nat.{ℕ, suc, _+_, _*_, _/_, _<_, _≤_, _-_}
-use mathlib.Core.Path.{_≡_, refl, ap, sym, _∙_}
+use Prim.Native.Nat.{ℕ, _+_, _≤_, _-_}
+use mathlib.Core.Path.{_≡_}
 use native.Mathlib.Omega.{arith}
-use borrow.Author.Needs.{needs}
 use Rattle.coarse_factor.proofs.lanes.row_dots.Statement.{statement}
 use Rattle.coarse_factor.proofs.lanes.row_dots.Tie as tie
 use Rattle.coarse_factor.proofs.lanes.row_dots.Reads as reads

@@ -1,8 +1,7 @@
 use lib.ListN.{length, length-set, length-replicate}
 use Rattle.definitions.specs.Numbers.{zeroᶠ}
 use Rattle.coarse_factor.proofs.Sides.{units4}
-use Prim.Native.Nat.{ℕ, suc, _+_, _*_, _/_, _<_, _≤_, _-_}
-use mathlib.Core.Path.{_≡_, refl, ap, sym, _∙_}
+use mathlib.Core.Path.{_≡_, ap, _∙_}
 use native.Mathlib.Omega.{arith}
 use borrow.Author.Needs.{needs}
 use Rattle.coarse_factor.proofs.lanes.set_units.Statement.{statement}

@@ -1,9 +1,5 @@
-use lib.ListN.{length}
 use Rattle.coarse_factor.proofs.Sides.{four-solved}
-use Prim.Native.Nat.{ℕ, suc, _+_, _*_, _/_, _<_, _≤_, _-_}
-use mathlib.Core.Path.{_≡_, refl, ap, sym, _∙_}
-use native.Mathlib.Omega.{arith}
-use borrow.Author.Needs.{needs}
+use mathlib.Core.Path.{_∙_}
 use Rattle.coarse_factor.proofs.lanes.solve_four.Statement.{statement}
 use Rattle.coarse_factor.proofs.lanes.solve_four.Tie as tie
 use Rattle.coarse_factor.proofs.lanes.solve_four.Reads as reads

@@ -1,11 +1,11 @@
-use Prim.Native.Nat.{ℕ, suc, _+_, _*_, _/_, _<_, _≤_, _-_}
-use mathlib.Core.Path.{_≡_, refl, sym, ap, _∙_}
+use Prim.Native.Nat.{ℕ, suc, _+_, _<_, _≤_, _-_}
+use mathlib.Core.Path.{_≡_, refl, sym, ap}
 use mathlib.Core.List.{_++_}
 use native.Mathlib.Omega.{arith}
 use lib.ListN.{length, getD, take, length-set}
-use lib.Ieee.{Float, nan}
+use lib.Ieee.{nan}
 use Rattle.definitions.specs.Numbers.{_-ᶠ_, _/ᶠ_}
-use Rattle.definitions.specs.Coarse.{packed, packedLength, packedBackward, packedEntry}
+use Rattle.definitions.specs.Coarse.{packedLength, packedBackward}
 use Rattle.coarse_factor.proofs.Packed.{back-facts, back-end, backward-none, backward-step, backward-all, tri-back}
 use borrow.Author.Needs.{needs}
 use Rattle.coarse_factor.proofs.solve.backward.Statement.{statement}

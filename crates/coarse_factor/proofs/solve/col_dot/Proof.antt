@@ -1,8 +1,7 @@
-use Prim.Native.Nat.{ℕ, suc, _+_, _≤_, _-_}
-use mathlib.Core.Path.{_≡_, refl, sym, ap, _∙_}
+use Prim.Native.Nat.{suc, _+_, _≤_, _-_}
+use mathlib.Core.Path.{_≡_, refl}
 use native.Mathlib.Omega.{arith}
-use lib.ListN.{length, getD}
-use lib.Ieee.{Float, nan, neg, ofBits}
+use lib.ListN.{length}
 use Rattle.definitions.specs.Lists.{tab}
 use Rattle.definitions.specs.Numbers.{summed}
 use Rattle.definitions.specs.Coarse.{packed, packedLength}

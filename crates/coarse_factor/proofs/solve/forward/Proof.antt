@@ -1,11 +1,11 @@
-use Prim.Native.Nat.{ℕ, suc, _+_, _≤_, _-_}
-use mathlib.Core.Path.{_≡_, refl, sym, ap, _∙_}
+use Prim.Native.Nat.{suc, _+_, _≤_, _-_}
+use mathlib.Core.Path.{_≡_, refl, ap, _∙_}
 use mathlib.Core.List.{_++_}
 use native.Mathlib.Omega.{arith}
 use lib.ListN.{length, getD, drop, length-set}
-use lib.Ieee.{Float, nan}
+use lib.Ieee.{nan}
 use Rattle.definitions.specs.Numbers.{_-ᶠ_, _/ᶠ_}
-use Rattle.definitions.specs.Coarse.{packedLength, packedForward, packedEntry}
+use Rattle.definitions.specs.Coarse.{packedLength, packedForward}
 use Rattle.coarse_factor.specs.Lanes.{rowSum}
 use Rattle.coarse_factor.proofs.Packed.{tri-row, tri-next, forward-none, forward-step, forward-all}
 use borrow.Author.Needs.{needs}

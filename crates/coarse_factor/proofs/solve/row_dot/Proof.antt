@@ -1,10 +1,10 @@
-use lib.ListN.{length, getD}
-use lib.Ieee.{Float, nan}
+use lib.ListN.{getD}
+use lib.Ieee.{nan}
 use Rattle.definitions.specs.Numbers.{_*ᶠ_, _+ᶠ_}
 use Rattle.laws.specs.Growing.{summed-none, summed-more}
 use Rattle.coarse_factor.specs.Lanes.{rowSum}
-use Prim.Native.Nat.{ℕ, suc, _+_, _*_, _/_, _<_, _≤_, _-_}
-use mathlib.Core.Path.{_≡_, refl, ap, sym, _∙_}
+use Prim.Native.Nat.{_+_, _≤_, _-_}
+use mathlib.Core.Path.{_≡_, refl}
 use native.Mathlib.Omega.{arith}
 use borrow.Author.Needs.{needs}
 use Rattle.coarse_factor.proofs.solve.row_dot.Statement.{statement}

@@ -1,11 +1,11 @@
 use Rattle.averaging.proofs.Lists.{front-length}
-use lib.ListN.{length, take, drop}
+use lib.ListN.{drop}
 use mathlib.Core.List.{_++_}
 use Rattle.definitions.specs.Coarse.{packedLength}
 use Rattle.coarse_factor.proofs.Cholesky.{triangle-small}
 use Rattle.coarse_factor.proofs.Products.{factor-law}
-use Prim.Native.Nat.{ℕ, suc, _+_, _*_, _/_, _<_, _≤_, _-_}
-use mathlib.Core.Path.{_≡_, refl, ap, sym, _∙_}
+use Prim.Native.Nat.{_-_}
+use mathlib.Core.Path.{refl, ap, sym, _∙_}
 use native.Mathlib.Omega.{arith}
 use borrow.Author.Needs.{needs}
 use Rattle.coarse_factor.proofs.stored.by_factor.Statement.{statement}

@@ -1,9 +1,9 @@
-use lib.ListN.{length, length-set}
+use lib.ListN.{length}
 use Rattle.averaging.proofs.Places.{place, next-row}
 use Rattle.coarse_factor.specs.Stored.{Products}
 use Rattle.coarse_factor.proofs.Products.{products-none, products-more}
-use Prim.Native.Nat.{ℕ, suc, _+_, _*_, _/_, _<_, _≤_, _-_}
-use mathlib.Core.Path.{_≡_, refl, ap, sym, _∙_}
+use Prim.Native.Nat.{_+_, _*_, _<_, _≤_, _-_}
+use mathlib.Core.Path.{_≡_}
 use native.Mathlib.Omega.{arith}
 use borrow.Author.Needs.{needs}
 use Rattle.coarse_factor.proofs.stored.inverse_rows.Statement.{statement}

@@ -1,8 +1,7 @@
-use lib.ListN.{length, length-set}
 use Rattle.coarse_factor.specs.Stored.{Moved}
 use Rattle.coarse_factor.proofs.Products.{moved-none, moved-more}
-use Prim.Native.Nat.{ℕ, suc, _+_, _*_, _/_, _<_, _≤_, _-_}
-use mathlib.Core.Path.{_≡_, refl, ap, sym, _∙_}
+use Prim.Native.Nat.{_≤_, _-_}
+use mathlib.Core.Path.{_≡_}
 use native.Mathlib.Omega.{arith}
 use borrow.Author.Needs.{needs}
 use Rattle.coarse_factor.proofs.stored.move_front.Statement.{statement}

@@ -1,8 +1,6 @@
 use lib.ListN.{length, take}
 use Rattle.coarse_factor.proofs.Products.{length-auto, length-factor, length-inverse, solve-auto, solve-factor, solve-inverse}
-use Prim.Native.Nat.{ℕ, suc, _+_, _*_, _/_, _<_, _≤_, _-_}
-use mathlib.Core.Path.{_≡_, refl, ap, sym, _∙_}
-use native.Mathlib.Omega.{arith}
+use mathlib.Core.Path.{_∙_}
 use borrow.Author.Needs.{needs}
 use Rattle.coarse_factor.proofs.stored.solve_stored.Statement.{statement}
 use Rattle.coarse_factor.proofs.stored.solve_stored.Tie as tie

@@ -1,8 +1,6 @@
 use Rattle.definitions.specs.Coarse.{coarseLength}
 use Rattle.averaging.proofs.Places.{square-small}
 use Rattle.coarse_factor.proofs.Cholesky.{triangle-small}
-use Prim.Native.Nat.{ℕ, suc, _+_, _*_, _/_, _<_, _≤_, _-_}
-use mathlib.Core.Path.{_≡_, refl, ap, sym, _∙_}
 use native.Mathlib.Omega.{arith}
 use borrow.Author.Needs.{needs}
 use Rattle.coarse_factor.proofs.stored.stored_length.Statement.{statement}

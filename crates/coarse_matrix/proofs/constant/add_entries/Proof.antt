@@ -1,7 +1,7 @@
-use Prim.Native.Nat.{ℕ, suc, _+_, _<_, _≤_, _-_, _/_, _^_}
+use Prim.Native.Nat.{_+_, _<_, _≤_, _-_}
 use mathlib.Core.Path.{_≡_, refl, ap, sym, _∙_}
 use native.Mathlib.Omega.{arith}
-use lib.ListN.{length, getD, length-set}
+use lib.ListN.{length, length-set}
 use Rattle.definitions.specs.Transfer.{coarseColumn}
 use Rattle.coarse_matrix.proofs.Squares.{rest, entry-step, span-done}
 use borrow.Author.Needs.{needs}

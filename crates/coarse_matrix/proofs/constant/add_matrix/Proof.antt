@@ -1,7 +1,7 @@
-use Prim.Native.Nat.{ℕ, suc, _+_, _*_, _<_, _≤_, _-_, _/_, _^_}
-use mathlib.Core.Path.{_≡_, refl, ap, sym, _∙_}
+use Prim.Native.Nat.{_+_, _*_, _<_, _≤_, _-_}
+use mathlib.Core.Path.{_≡_, refl, ap, _∙_}
 use native.Mathlib.Omega.{arith}
-use lib.ListN.{length, getD}
+use lib.ListN.{length}
 use Rattle.definitions.specs.Matrix.{rowOf}
 use Rattle.definitions.specs.Transfer.{coarseColumn}
 use Rattle.coarse_matrix.specs.Scatter.{scattered, rowPuts, moved}

@@ -3,8 +3,8 @@ use lib.ListN.{length, drop, getD, length-replicate}
 use Rattle.definitions.specs.Transfer.{coarseColumn}
 use Rattle.averaging.proofs.Lists.{front-length}
 use Rattle.coarse_matrix.proofs.Squares.{constant-law}
-use Prim.Native.Nat.{ℕ, suc, _+_, _*_, _/_, _<_, _≤_, _-_}
-use mathlib.Core.Path.{_≡_, refl, ap, sym, _∙_}
+use Prim.Native.Nat.{_*_, _-_}
+use mathlib.Core.Path.{_≡_, refl, ap, _∙_}
 use native.Mathlib.Omega.{arith}
 use borrow.Author.Needs.{needs}
 use Rattle.coarse_matrix.proofs.constant.constant_into.Statement.{statement}

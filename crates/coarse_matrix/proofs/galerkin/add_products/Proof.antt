@@ -4,8 +4,8 @@ use Rattle.definitions.specs.Numbers.{_*ᶠ_}
 use Rattle.definitions.specs.Matrix.{stored}
 use Rattle.coarse_matrix.specs.Galerkin.{Put, scaled}
 use Rattle.coarse_matrix.proofs.Marking.{put-none, put-one, weights-more, scaled-none, place-left, marked-long}
-use Prim.Native.Nat.{ℕ, suc, _+_, _*_, _/_, _<_, _≤_, _-_}
-use mathlib.Core.Path.{_≡_, refl, ap, sym, _∙_}
+use Prim.Native.Nat.{_<_, _≤_, _-_}
+use mathlib.Core.Path.{_≡_}
 use native.Mathlib.Omega.{arith}
 use borrow.Author.Needs.{needs}
 use Rattle.coarse_matrix.proofs.galerkin.add_products.Statement.{statement}

@@ -1,10 +1,9 @@
-use lib.ListN.{length, getD}
 use Rattle.definitions.specs.Matrix.{stored, rowOf}
 use Rattle.coarse_matrix.specs.Galerkin.{Put, productPuts}
 use Rattle.coarse_matrix.proofs.Squares.{row-stored}
 use Rattle.coarse_matrix.proofs.Marking.{put-none, entries-more, products-none}
-use Prim.Native.Nat.{ℕ, suc, _+_, _*_, _/_, _<_, _≤_, _-_}
-use mathlib.Core.Path.{_≡_, refl, ap, sym, _∙_}
+use Prim.Native.Nat.{_<_, _≤_, _-_}
+use mathlib.Core.Path.{_≡_}
 use native.Mathlib.Omega.{arith}
 use borrow.Author.Needs.{needs}
 use Rattle.coarse_matrix.proofs.galerkin.add_row.Statement.{statement}

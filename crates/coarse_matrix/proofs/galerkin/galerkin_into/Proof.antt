@@ -1,8 +1,7 @@
-use lib.ListN.{length, replicate}
+use lib.ListN.{replicate}
 use Rattle.definitions.specs.Matrix.{csr, rowOf}
 use Rattle.coarse_matrix.proofs.Product.{galerkin-law}
-use Prim.Native.Nat.{ℕ, suc, _+_, _*_, _/_, _<_, _≤_, _-_}
-use mathlib.Core.Path.{_≡_, refl, ap, sym, _∙_}
+use mathlib.Core.Path.{ap, _∙_}
 use native.Mathlib.Omega.{arith}
 use borrow.Author.Needs.{needs}
 use Rattle.coarse_matrix.proofs.galerkin.galerkin_into.Statement.{statement}

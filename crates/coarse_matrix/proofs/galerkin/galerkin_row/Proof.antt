@@ -1,12 +1,12 @@
-use lib.ListN.{length, getD, take, drop}
+use lib.ListN.{length, take, drop}
 use Rattle.definitions.specs.Matrix.{csr, rowOf, entriesOf}
 use Rattle.coarse_matrix.specs.Galerkin.{Put, productPuts, weighedPuts}
 use Rattle.coarse_matrix.specs.Scatter.{scatter}
 use Rattle.coarse_matrix.proofs.Scattered.{length-scatter}
 use Rattle.coarse_matrix.proofs.Squares.{row-stored}
 use Rattle.coarse_matrix.proofs.Product.{room-first, row-count, row-below, row-law, row-is, entries-are}
-use Prim.Native.Nat.{ℕ, suc, _+_, _*_, _/_, _<_, _≤_, _-_}
-use mathlib.Core.Path.{_≡_, refl, ap, sym, _∙_}
+use Prim.Native.Nat.{suc, _+_, _*_}
+use mathlib.Core.Path.{_≡_, refl, ap, _∙_}
 use native.Mathlib.Omega.{arith}
 use borrow.Author.Needs.{needs}
 use Rattle.coarse_matrix.proofs.galerkin.galerkin_row.Statement.{statement}

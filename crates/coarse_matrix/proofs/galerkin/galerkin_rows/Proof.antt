@@ -1,9 +1,8 @@
-use lib.ListN.{length}
 use Rattle.definitions.specs.Matrix.{csr, rowOf}
 use Rattle.coarse_matrix.specs.Galerkin.{RowsAdded}
 use Rattle.coarse_matrix.proofs.Product.{rows-more}
-use Prim.Native.Nat.{ℕ, suc, _+_, _*_, _/_, _<_, _≤_, _-_}
-use mathlib.Core.Path.{_≡_, refl, ap, sym, _∙_}
+use Prim.Native.Nat.{_≤_, _-_}
+use mathlib.Core.Path.{_≡_}
 use native.Mathlib.Omega.{arith}
 use borrow.Author.Needs.{needs}
 use Rattle.coarse_matrix.proofs.galerkin.galerkin_rows.Statement.{statement}

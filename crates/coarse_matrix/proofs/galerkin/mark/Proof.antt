@@ -1,7 +1,6 @@
-use lib.ListN.{length, length-set, getD}
+use lib.ListN.{length-set}
 use Rattle.coarse_matrix.proofs.Marking.{marked-there, marked-new, marksOf}
-use Prim.Native.Nat.{ℕ, suc, _+_, _*_, _/_, _<_, _≤_, _-_}
-use mathlib.Core.Path.{_≡_, refl, ap, sym, _∙_}
+use mathlib.Core.Path.{sym}
 use native.Mathlib.Omega.{arith}
 use borrow.Author.Needs.{needs}
 use Rattle.coarse_matrix.proofs.galerkin.mark.Statement.{statement}

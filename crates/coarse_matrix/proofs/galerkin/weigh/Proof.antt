@@ -5,8 +5,8 @@ use Rattle.coarse_matrix.specs.Scatter.{scatter}
 use Rattle.coarse_matrix.specs.Galerkin.{weightPuts}
 use Rattle.coarse_matrix.proofs.Scattered.{length-scatter}
 use Rattle.coarse_matrix.proofs.Weighing.{weigh-none, weigh-more}
-use Prim.Native.Nat.{ℕ, suc, _+_, _*_, _/_, _<_, _≤_, _-_}
-use mathlib.Core.Path.{_≡_, refl, ap, sym, _∙_}
+use Prim.Native.Nat.{_+_, _<_, _≤_, _-_}
+use mathlib.Core.Path.{_≡_, refl, ap, _∙_}
 use native.Mathlib.Omega.{arith}
 use borrow.Author.Needs.{needs}
 use Rattle.coarse_matrix.proofs.galerkin.weigh.Statement.{statement}

@@ -1,11 +1,11 @@
-use lib.ListN.{length, getD, take, drop}
+use lib.ListN.{length, take, drop}
 use Rattle.definitions.specs.Matrix.{stored}
 use Rattle.coarse_matrix.specs.Scatter.{scatter}
 use Rattle.coarse_matrix.specs.Galerkin.{weighedPuts}
 use Rattle.coarse_matrix.proofs.Scattered.{length-scatter}
 use Rattle.coarse_matrix.proofs.Weighing.{weighed-none, weighed-more, listed-below, row-room}
-use Prim.Native.Nat.{ℕ, suc, _+_, _*_, _/_, _<_, _≤_, _-_}
-use mathlib.Core.Path.{_≡_, refl, ap, sym, _∙_}
+use Prim.Native.Nat.{_*_, _<_, _≤_, _-_}
+use mathlib.Core.Path.{_≡_, refl, ap, _∙_}
 use native.Mathlib.Omega.{arith}
 use borrow.Author.Needs.{needs}
 use Rattle.coarse_matrix.proofs.galerkin.weigh_row.Statement.{statement}

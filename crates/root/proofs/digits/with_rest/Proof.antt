@@ -1,5 +1,5 @@
 -- With s the whole root of a, `parts` says what the division finds; the test of q² says whether the candidate is one too many.
-use Prim.Native.Nat.{ℕ, _*_, _/_, _^_}
+use Prim.Native.Nat.{ℕ, _*_, _^_}
 use native.Mathlib.Omega.{arith}
 use borrow.Author.Needs.{needs}
 use Rattle.root.proofs.Division.{quo, left, cand, Parts, parts, root-fits, root-pos, square-fits, cand-fits, cand-pos, sum-fits, rest-pos, rest-at, rest-before}

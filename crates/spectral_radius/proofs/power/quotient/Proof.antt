@@ -1,5 +1,4 @@
 -- A dot product of two regions is the sum of their products in pairs.
-use Prim.Native.Nat.{_-_}
 use Rattle.spectral_radius.specs.Power.{vectorIn, imageIn}
 use Rattle.spectral_radius.proofs.Regions.{halves}
 use Rattle.spectral_radius.proofs.Stages.{dot-zip}

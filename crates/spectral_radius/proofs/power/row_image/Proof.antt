@@ -1,8 +1,7 @@
 -- A row's element of the image: the sum over its stored entries, times its inverse root.
-use Prim.Native.Nat.{_-_}
 use mathlib.Core.Path.{sym, ap, _∙_}
 use native.Mathlib.Omega.{arith}
-use lib.ListN.{length, getD, take}
+use lib.ListN.{take}
 use lib.Seq.{length-take-le, getD-take}
 use lib.Ieee.{nan}
 use Rattle.definitions.specs.Numbers.{_*ᶠ_}

@@ -1,9 +1,7 @@
 -- The columns visited hold every column that the row names; there the weights are the definition's, elsewhere they are zero and dropped.
-use Prim.Native.Nat.{_≤_, _-_, _^_}
-use mathlib.Core.Path.{_≡_, _∙_}
 use mathlib.Core.List.{_∷_}
 use native.Mathlib.Omega.{arith}
-use lib.ListN.{length, take}
+use lib.ListN.{length}
 use lib.Seq.{slice}
 use Rattle.definitions.specs.Transfer.{coarseColumn}
 use Rattle.transfer.specs.Touched.{named}

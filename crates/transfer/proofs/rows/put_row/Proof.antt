@@ -3,7 +3,7 @@ use borrow.Rule.Slice.PartMut.{putMid, postOf, same-len-mid}
 use Prim.Native.Nat.{_+_, _≤_, _-_}
 use mathlib.Core.Path.{_≡_, sym, ap, _∙_}
 use native.Mathlib.Omega.{arith}
-use lib.ListN.{length, take, drop, length-take}
+use lib.ListN.{length, take, drop}
 use Rattle.definitions.specs.Matrix.{csr}
 use Rattle.definitions.specs.Transfer.{transferRow}
 use Rattle.transfer.specs.Touched.{Below}

@@ -1,7 +1,6 @@
 -- Zeros at the columns visited, 1 at the row's own, and the smoothing taken off.
-use Prim.Native.Nat.{_-_}
 use mathlib.Core.Path.{ap, _∙_}
-use lib.ListN.{length, set, length-set}
+use lib.ListN.{set, length-set}
 use Rattle.definitions.specs.Numbers.{oneᶠ, _/ᶠ_}
 use Rattle.definitions.specs.Transfer.{coarseColumn}
 use Rattle.definitions.specs.Matrix.{stored}

@@ -1,5 +1,4 @@
 -- A short row's columns are put in one by one, and its entries taken off at once; a long row visits every column.
-use Prim.Native.Nat.{_-_}
 use mathlib.Core.Path.{_≡_, ap, sym, _∙_}
 use mathlib.Core.List.{_∷_}
 use native.Mathlib.Omega.{arith}

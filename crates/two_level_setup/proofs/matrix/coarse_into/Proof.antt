@@ -2,7 +2,6 @@
 use Rattle.two_level_setup.specs.Fit.{CoarseFit, roomOf}
 use Rattle.two_level_setup.specs.Contracts.{MatrixStage}
 use Rattle.definitions.specs.Matrix.{csr}
-use Prim.Native.Nat.{_-_}
 use lib.ListN.{length}
 use mathlib.Core.Path.{sym, subst}
 use borrow.Author.Needs.{needs}

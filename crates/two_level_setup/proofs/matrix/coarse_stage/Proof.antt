@@ -2,7 +2,7 @@
 use Rattle.two_level_setup.proofs.Building.{front-left}
 use Rattle.two_level_setup.specs.Fit.{coarse-part, roomOf}
 use Rattle.definitions.specs.Matrix.{csr}
-use Prim.Native.Nat.{_+_, _-_, _*_, _≤_}
+use Prim.Native.Nat.{_+_, _*_, _≤_}
 use lib.ListN.{length}
 use lib.Seq.{length-take-le}
 use native.Mathlib.Omega.{arith}

@@ -2,7 +2,6 @@
 use Rattle.two_level_setup.proofs.Building.{bounds, coarse-left}
 use Rattle.two_level_grouping.specs.Front.{front-rows}
 use Rattle.definitions.specs.Matrix.{csr}
-use Prim.Native.Nat.{_-_}
 use native.Mathlib.Omega.{arith}
 use borrow.Author.Needs.{needs}
 use Rattle.two_level_setup.proofs.matrix.dense_stage.Statement.{statement}

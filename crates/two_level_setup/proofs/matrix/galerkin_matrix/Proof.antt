@@ -1,7 +1,6 @@
 -- No check of the stage fails, and the transfer's rows read back as they were.
 use Rattle.two_level_setup.proofs.Matrices.{galerkin-made}
 use Rattle.definitions.specs.Matrix.{csr}
-use Prim.Native.Nat.{_-_}
 use borrow.Author.Needs.{needs}
 use Rattle.two_level_setup.proofs.matrix.galerkin_matrix.Statement.{statement}
 use Rattle.two_level_setup.proofs.matrix.galerkin_matrix.Tie as tie

@@ -2,7 +2,7 @@
 use Rattle.two_level_setup.proofs.Smoothing.{estimate-refused, estimate-built}
 use Rattle.two_level_setup.proofs.Building.{wide-same}
 use Rattle.definitions.specs.Matrix.{csr}
-use Prim.Native.Nat.{_-_, _*_}
+use Prim.Native.Nat.{_*_}
 use native.Mathlib.Omega.{arith}
 use lib.ListN.{length}
 use lib.Seq.{length-take-le, length-front}

@@ -2,7 +2,6 @@
 use Rattle.two_level_setup.proofs.Smoothing.{kept-built}
 use Rattle.two_level_setup.proofs.Building.{wide-same, smoothed-only}
 use Rattle.definitions.specs.Matrix.{csr}
-use Prim.Native.Nat.{_-_}
 use lib.ListN.{length}
 use borrow.Author.Needs.{needs}
 use Rattle.two_level_setup.proofs.smoothed.kept_stage.Statement.{statement}

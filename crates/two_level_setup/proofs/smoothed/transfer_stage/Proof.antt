@@ -2,7 +2,7 @@
 use Rattle.two_level_setup.proofs.Smoothing.{transfer-refused, transfer-built}
 use Rattle.two_level_setup.proofs.Building.{wide-same, bounds}
 use Rattle.definitions.specs.Matrix.{csr}
-use Prim.Native.Nat.{_+_, _-_, _*_}
+use Prim.Native.Nat.{_+_, _*_}
 use lib.ListN.{length}
 use lib.Seq.{length-take-le, length-front}
 use native.Mathlib.Omega.{arith}

@@ -2,7 +2,6 @@
 use Rattle.two_level_setup.proofs.Groupings.{blocks-refused, blocks-built}
 use Rattle.two_level_setup.proofs.Building.{fit-same}
 use Rattle.definitions.specs.Matrix.{csr}
-use Prim.Native.Nat.{_-_}
 use lib.ListN.{length}
 use mathlib.Core.Path.{refl}
 use borrow.Author.Needs.{needs}

@@ -5,7 +5,7 @@ use Rattle.two_level_setup.specs.Fit.{ample-of, roomOf}
 use Rattle.definitions.specs.Setup.{entryNeeds, coarseNeeds}
 use Rattle.two_level_setup.specs.Contracts.{lentOf}
 use Rattle.definitions.specs.Matrix.{csr}
-use Prim.Native.Nat.{_-_, _*_}
+use Prim.Native.Nat.{_*_}
 use lib.ListN.{length}
 use native.Mathlib.Omega.{arith}
 use mathlib.Core.Path.{sym, _∙_}

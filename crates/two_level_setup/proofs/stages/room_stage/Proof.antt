@@ -2,7 +2,6 @@
 use Rattle.two_level_setup.proofs.Building.{constant-room}
 use Rattle.two_level_setup.specs.Contracts.{lentOf}
 use Rattle.definitions.specs.Matrix.{csr}
-use Prim.Native.Nat.{_-_}
 use borrow.Author.Needs.{needs}
 use Rattle.two_level_setup.proofs.stages.room_stage.Statement.{statement}
 use Rattle.two_level_setup.proofs.stages.room_stage.Tie as tie

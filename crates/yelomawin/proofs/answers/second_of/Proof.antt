@@ -1,4 +1,5 @@
 -- By the cases of the cause.
+use Rattle.definitions.specs.Refusal.{valuesOf}
 use Rattle.yelomawin.specs.Boundary.{secondOf}
 use borrow.Author.Needs.{needs}
 use Rattle.yelomawin.proofs.answers.second_of.Statement.{statement}
@@ -89,115 +90,115 @@ enum-told-27 : tie.Need-enum-told-27
 enum-told-27 c = search needs
 
 returns : tie.Need-returns
-unfolding secondOf
+unfolding secondOf valuesOf
 returns c = rw (c .enum-told .given .1)
 
 returns-2 : tie.Need-returns-2
-unfolding secondOf
+unfolding secondOf valuesOf
 returns-2 c = rw (c .enum-told2 .given .1)
 
 returns-3 : tie.Need-returns-3
-unfolding secondOf
+unfolding secondOf valuesOf
 returns-3 c = rw (c .enum-told3 .given .1)
 
 returns-4 : tie.Need-returns-4
-unfolding secondOf
+unfolding secondOf valuesOf
 returns-4 c = rw (c .enum-told4 .given .1)
 
 returns-5 : tie.Need-returns-5
-unfolding secondOf
+unfolding secondOf valuesOf
 returns-5 c = rw (c .enum-told5 .given .1)
 
 returns-6 : tie.Need-returns-6
-unfolding secondOf
+unfolding secondOf valuesOf
 returns-6 c = rw (c .enum-told6 .given .1)
 
 returns-7 : tie.Need-returns-7
-unfolding secondOf
+unfolding secondOf valuesOf
 returns-7 c = rw (c .enum-told7 .given .1)
 
 returns-8 : tie.Need-returns-8
-unfolding secondOf
+unfolding secondOf valuesOf
 returns-8 c = rw (c .enum-told8 .given .1)
 
 returns-9 : tie.Need-returns-9
-unfolding secondOf
+unfolding secondOf valuesOf
 returns-9 c = rw (c .enum-told9 .given .1)
 
 returns-10 : tie.Need-returns-10
-unfolding secondOf
+unfolding secondOf valuesOf
 returns-10 c = rw (c .enum-told10 .given .1)
 
 returns-11 : tie.Need-returns-11
-unfolding secondOf
+unfolding secondOf valuesOf
 returns-11 c = rw (c .enum-told11 .given .1)
 
 returns-12 : tie.Need-returns-12
-unfolding secondOf
+unfolding secondOf valuesOf
 returns-12 c = rw (c .enum-told12 .given .1)
 
 returns-13 : tie.Need-returns-13
-unfolding secondOf
+unfolding secondOf valuesOf
 returns-13 c = rw (c .enum-told13 .given .1)
 
 returns-14 : tie.Need-returns-14
-unfolding secondOf
+unfolding secondOf valuesOf
 returns-14 c = rw (c .enum-told14 .given .1)
 
 returns-15 : tie.Need-returns-15
-unfolding secondOf
+unfolding secondOf valuesOf
 returns-15 c = rw (c .enum-told15 .given .1)
 
 returns-16 : tie.Need-returns-16
-unfolding secondOf
+unfolding secondOf valuesOf
 returns-16 c = rw (c .enum-told16 .given .1)
 
 returns-17 : tie.Need-returns-17
-unfolding secondOf
+unfolding secondOf valuesOf
 returns-17 c = rw (c .enum-told17 .given .1)
 
 returns-18 : tie.Need-returns-18
-unfolding secondOf
+unfolding secondOf valuesOf
 returns-18 c = rw (c .enum-told18 .given .1)
 
 returns-19 : tie.Need-returns-19
-unfolding secondOf
+unfolding secondOf valuesOf
 returns-19 c = rw (c .enum-told19 .given .1)
 
 returns-20 : tie.Need-returns-20
-unfolding secondOf
+unfolding secondOf valuesOf
 returns-20 c = rw (c .enum-told20 .given .1)
 
 returns-21 : tie.Need-returns-21
-unfolding secondOf
+unfolding secondOf valuesOf
 returns-21 c = rw (c .enum-told21 .given .1)
 
 returns-22 : tie.Need-returns-22
-unfolding secondOf
+unfolding secondOf valuesOf
 returns-22 c = rw (c .enum-told22 .given .1)
 
 returns-23 : tie.Need-returns-23
-unfolding secondOf
+unfolding secondOf valuesOf
 returns-23 c = rw (c .enum-told23 .given .1)
 
 returns-24 : tie.Need-returns-24
-unfolding secondOf
+unfolding secondOf valuesOf
 returns-24 c = rw (c .enum-told24 .given .1)
 
 returns-25 : tie.Need-returns-25
-unfolding secondOf
+unfolding secondOf valuesOf
 returns-25 c = rw (c .before .cause .given .1)
 
 returns-26 : tie.Need-returns-26
-unfolding secondOf
+unfolding secondOf valuesOf
 returns-26 c = rw (c .enum-told25 .given .1)
 
 returns-27 : tie.Need-returns-27
-unfolding secondOf
+unfolding secondOf valuesOf
 returns-27 c = rw (c .enum-told26 .given .1)
 
 returns-28 : tie.Need-returns-28
-unfolding secondOf
+unfolding secondOf valuesOf
 returns-28 c = rw (c .enum-told27 .given .1)
 
 pub second-of-spec : {M : Type 1} → statement M

@@ -1,7 +1,6 @@
 -- By the number.
 use Rattle.yelomawin.specs.Boundary.{aggregationOf}
 use Rattle.yelomawin.proofs.Policies.{last-aggregation}
-use borrow.Author.Needs.{needs}
 use Rattle.yelomawin.proofs.record.aggregation_of.Statement.{statement}
 use Rattle.yelomawin.proofs.record.aggregation_of.Tie as tie
 

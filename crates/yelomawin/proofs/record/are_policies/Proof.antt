@@ -1,6 +1,5 @@
 -- Each bound in turn.
 use Rattle.yelomawin.proofs.Policies.{none-first, none-second, third-decides}
-use borrow.Author.Needs.{needs}
 use Rattle.yelomawin.proofs.record.are_policies.Statement.{statement}
 use Rattle.yelomawin.proofs.record.are_policies.Tie as tie
 

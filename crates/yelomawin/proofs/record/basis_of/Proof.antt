@@ -1,7 +1,6 @@
 -- By the number.
 use Rattle.yelomawin.specs.Boundary.{basisOf}
 use Rattle.yelomawin.proofs.Policies.{last-basis}
-use borrow.Author.Needs.{needs}
 use Rattle.yelomawin.proofs.record.basis_of.Statement.{statement}
 use Rattle.yelomawin.proofs.record.basis_of.Tie as tie
 

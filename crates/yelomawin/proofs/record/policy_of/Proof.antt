@@ -1,7 +1,6 @@
 -- By the number.
 use Rattle.yelomawin.specs.Boundary.{policyOf}
 use Rattle.yelomawin.proofs.Policies.{last-policy}
-use borrow.Author.Needs.{needs}
 use Rattle.yelomawin.proofs.record.policy_of.Statement.{statement}
 use Rattle.yelomawin.proofs.record.policy_of.Tie as tie
 

@@ -1,6 +1,6 @@
 -- By the cases of the answer.
 use mathlib.Core.Path.{refl}
-use Rattle.yelomawin.specs.Boundary.{estimateNumber, estimateValues}
+use Rattle.definitions.specs.Answers.{estimateNumber, estimateValues}
 use borrow.Author.Needs.{needs}
 use Rattle.yelomawin.proofs.told.estimate.Statement.{statement}
 use Rattle.yelomawin.proofs.told.estimate.Tie as tie

@@ -1,6 +1,6 @@
 -- By the cases of the answer.
 use mathlib.Core.Path.{refl, _∙_}
-use Rattle.yelomawin.specs.Boundary.{groupingNumber, groupingValues}
+use Rattle.definitions.specs.Answers.{groupingNumber, groupingValues}
 use Rattle.yelomawin.proofs.Receiving.{one-told}
 use borrow.Author.Needs.{needs}
 use Rattle.yelomawin.proofs.told.grouping.Statement.{statement}

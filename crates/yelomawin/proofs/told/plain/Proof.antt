@@ -1,7 +1,6 @@
 -- By the cases of the answer.
 use mathlib.Core.Path.{refl, _∙_}
-use Rattle.definitions.specs.Answers.{answerNumber}
-use Rattle.yelomawin.specs.Boundary.{answerValues}
+use Rattle.definitions.specs.Answers.{answerNumber, answerValues}
 use Rattle.yelomawin.proofs.Receiving.{none-told}
 use borrow.Author.Needs.{needs}
 use Rattle.yelomawin.proofs.told.plain.Statement.{statement}
