@@ -1,9 +1,8 @@
 // Printing: bytes into a list, as far as it goes.
-ghost use mathlib.Core.Path.{_≡_};
-ghost use mathlib.Core.List.{[], _∷_, _++_};
+ghost use mathlib.Core.List.{[], _∷_};
 ghost use Prim.Native.Nat.{_≤_};
 ghost use lib.ListN.{length};
-ghost use Rattle.definitions.specs.Text.{decimalIn, decimal, line, groupsWord, refusedWord};
+ghost use Rattle.definitions.specs.Text.{decimalIn, decimal, line};
 ghost use Rattle.grouping_text.specs.Puts.{Puts, linesFrom};
 
 fn put(out: &mut [u8], at: usize, b: u8) -> usize
