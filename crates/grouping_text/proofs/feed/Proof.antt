@@ -25,7 +25,7 @@ shared-slice-read-byte-in : tie.Need-shared-slice-read-byte-in Inv-loop μ-loop
 shared-slice-read-byte-in c = search needs
 
 byte-in-requires : tie.Need-byte-in-requires Inv-loop μ-loop
-byte-in-requires c κs = search needs
+byte-in-requires c κs = tt
 
 add-i : tie.Need-add-i Inv-loop μ-loop
 add-i c = search needs

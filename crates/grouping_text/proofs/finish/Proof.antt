@@ -1,12 +1,12 @@
 -- `finish` closes the last number and says what was read.
 use mathlib.Core.Path.{ap}
 use Prim.Native.Nat.{_-_}
+use native.Mathlib.Omega.{arith}
 use lib.ListN.{take, drop}
 use Rattle.definitions.specs.Text.{printed}
 use Rattle.grouping_text.specs.Numbers.{askedIn, answered}
 use Rattle.grouping_text.specs.Feeding.{held, said}
 use Rattle.grouping_text.proofs.Program.{puts-whole, said-is}
-use borrow.Author.Needs.{needs}
 use Rattle.grouping_text.proofs.finish.Statement.{statement}
 use Rattle.grouping_text.proofs.finish.Tie as tie
 use Rattle.grouping_text.proofs.finish.Reads as reads
@@ -16,28 +16,28 @@ use Rattle.grouping_text.proofs.reading.close.Reads as close-reads
 use Rattle.grouping_text.proofs.say.Reads as say-reads
 
 close-requires : tie.Need-close-requires
-close-requires c κs = search needs
+close-requires c κs = tt
 
 least-requires : tie.Need-least-requires
-least-requires c κs = search needs
+least-requires c κs = tt
 
 sub-say : tie.Need-sub-say
-sub-say c = search needs
+sub-say c = omega arith
 
 part-say-start : tie.Need-part-say-start
-part-say-start c = search needs
+part-say-start c = omega arith
 
 part-say-end : tie.Need-part-say-end
-part-say-end c = search needs
+part-say-end c = omega arith
 
 say-requires : tie.Need-say-requires
-say-requires c κs = search needs
+say-requires c κs = tt
 
 same-length : tie.Need-same-length
-same-length c = search needs
+same-length c = omega arith
 
 same-length-2 : tie.Need-same-length-2
-same-length-2 c = search needs
+same-length-2 c = omega arith
 
 returns : tie.Need-returns
 returns c =

@@ -15,19 +15,19 @@ use Rattle.grouping_text.proofs.finish.Reads as finish-reads
 use Rattle.grouping_text.proofs.start.Reads as start-reads
 
 start-requires : tie.Need-start-requires
-start-requires c κs = search needs
+start-requires c κs = tt
 
 slice-aggregate-feed : tie.Need-slice-aggregate-feed
 slice-aggregate-feed c = search needs
 
 feed-requires : tie.Need-feed-requires
-feed-requires c κs = search needs
+feed-requires c κs = tt
 
 slice-aggregate-finish : tie.Need-slice-aggregate-finish
 slice-aggregate-finish c = search needs
 
 finish-requires : tie.Need-finish-requires
-finish-requires c κs = search needs
+finish-requires c κs = tt
 
 same-length : tie.Need-same-length
 same-length c = search needs

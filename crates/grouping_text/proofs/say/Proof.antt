@@ -1,6 +1,7 @@
 -- `say`: what was asked is answered, or its cause is printed.
 use mathlib.Core.Path.{ap, _∙_}
 use Prim.Native.Nat.{_+_, _-_, _*_}
+use native.Mathlib.Omega.{arith}
 use lib.ListN.{length, take, drop}
 use Rattle.definitions.specs.Groups.{groupingCall}
 use Rattle.definitions.specs.Text.{printed, line, decimal, refusedWord}
@@ -17,40 +18,40 @@ use Rattle.grouping_text.proofs.printing.put_head.Reads as put-head-rea
 use Rattle.grouping_text.proofs.whole.ask.Reads as ask-reads
 
 slice-aggregate-ask : tie.Need-slice-aggregate-ask
-slice-aggregate-ask c = search needs
+slice-aggregate-ask c = omega arith
 
 slice-aggregate-ask-2 : tie.Need-slice-aggregate-ask-2
-slice-aggregate-ask-2 c = search needs
+slice-aggregate-ask-2 c = omega arith
 
 ask-requires : tie.Need-ask-requires
 ask-requires c κs = search needs
 
 add-end : tie.Need-add-end
-add-end c = search needs
+add-end c = omega arith
 
 sub-answer : tie.Need-sub-answer
-sub-answer c = search needs
+sub-answer c = omega arith
 
 part-answer-start : tie.Need-part-answer-start
-part-answer-start c = search needs
+part-answer-start c = omega arith
 
 part-answer-end : tie.Need-part-answer-end
-part-answer-end c = search needs
+part-answer-end c = omega arith
 
 sub-answer-2 : tie.Need-sub-answer-2
-sub-answer-2 c = search needs
+sub-answer-2 c = omega arith
 
 part-answer-start-2 : tie.Need-part-answer-start-2
-part-answer-start-2 c = search needs
+part-answer-start-2 c = omega arith
 
 part-answer-end-2 : tie.Need-part-answer-end-2
-part-answer-end-2 c = search needs
+part-answer-end-2 c = omega arith
 
 answer-requires : tie.Need-answer-requires
 answer-requires c κs = search needs
 
 same-length : tie.Need-same-length
-same-length c = search needs
+same-length c = omega arith
 
 returns : tie.Need-returns
 returns c =
@@ -69,13 +70,13 @@ returns c =
     (f .ensures)
 
 slice-aggregate-put-head : tie.Need-slice-aggregate-put-head
-slice-aggregate-put-head c = search needs
+slice-aggregate-put-head c = omega arith
 
 put-head-requires : tie.Need-put-head-requires
-put-head-requires c κs = search needs
+put-head-requires c κs = tt
 
 same-length-2 : tie.Need-same-length-2
-same-length-2 c = search needs
+same-length-2 c = omega arith
 
 returns-2 : tie.Need-returns-2
 returns-2 c =
@@ -88,13 +89,13 @@ returns-2 c =
     puts-as (a .out .now) 0 (line refusedWord (decimal 1)) (printed (answered (askedIn (a .numbers .now) (a .whole)))) (h .last .0) (h .result) (prints-large (askedIn (a .numbers .now) (a .whole)) r (take (r .nodes + 1) o) (take (r .count) n) (k .ensures .0) (c .before .before .before .before .before .if2 .taken)) (h .ensures)
 
 slice-aggregate-put-head-2 : tie.Need-slice-aggregate-put-head-2
-slice-aggregate-put-head-2 c = search needs
+slice-aggregate-put-head-2 c = omega arith
 
 put-head-requires-2 : tie.Need-put-head-requires-2
-put-head-requires-2 c κs = search needs
+put-head-requires-2 c κs = tt
 
 same-length-3 : tie.Need-same-length-3
-same-length-3 c = search needs
+same-length-3 c = omega arith
 
 returns-3 : tie.Need-returns-3
 returns-3 c =

@@ -12,7 +12,7 @@ use Rattle.grouping_text.proofs.reading.digit.Reads as digit-reads
 use Rattle.grouping_text.proofs.reading.more.Reads as more-reads
 
 digit-requires : tie.Need-digit-requires
-digit-requires c κs = search needs
+digit-requires c κs = tt
 
 more-requires : tie.Need-more-requires
 more-requires c κs = digit-range (c .before .before .before .before .args .b) (sym (c .before .digit .ensures) ∙ c .if2 .taken)
@@ -23,10 +23,10 @@ returns c =
     byte-grown (a .reader) (a .numbers .now) (a .b) (c .before .before .before .if1 .taken) (sym (c .before .before .digit .ensures) ∙ c .before .if2 .taken) (c .more .result) (c .more .ensures)
 
 blank-requires : tie.Need-blank-requires
-blank-requires c κs = search needs
+blank-requires c κs = tt
 
 close-requires : tie.Need-close-requires
-close-requires c κs = search needs
+close-requires c κs = tt
 
 same-length : tie.Need-same-length
 same-length c = search needs

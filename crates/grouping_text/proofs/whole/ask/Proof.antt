@@ -40,10 +40,10 @@ nodes-of-requires : tie.Need-nodes-of-requires
 nodes-of-requires c κs = search needs
 
 same-length : tie.Need-same-length
-same-length c = search needs
+same-length c = c .before .before .before .before .before .nodes-of .kept .1 .1 .1 .0
 
 same-length-2 : tie.Need-same-length-2
-same-length-2 c = search needs
+same-length-2 c = c .before .before .before .before .before .nodes-of .kept .1 .1 .1 .1 .0
 
 returns-4 : tie.Need-returns-4
 returns-4 c =
@@ -54,10 +54,10 @@ returns-4 c =
     (asks-4 (a .numbers .now) (a .whole) (c .before .before .before .before .before .before .before .before .before .before .before .before .if1 .taken) (c .before .before .before .before .before .before .before .before .before .before .if2 .left) (c .before .before .before .before .before .before .before .before .before .if3 .taken) (g .result) o l (g .ensures .0) (c .if4 .left) (record { cause = g .result .cause; nodes = 0; size = 0; count = 0 }) (take (0 + 1) (g .last .1 .1 .1 .0)) (take 0 (g .last .1 .1 .1 .1 .0)) refl, (omega arith, omega arith))
 
 same-length-3 : tie.Need-same-length-3
-same-length-3 c = search needs
+same-length-3 c = c .before .before .before .before .before .before .nodes-of .kept .1 .1 .1 .0
 
 same-length-4 : tie.Need-same-length-4
-same-length-4 c = search needs
+same-length-4 c = c .before .before .before .before .before .before .nodes-of .kept .1 .1 .1 .1 .0
 
 returns-5 : tie.Need-returns-5
 unfolding askedOf
@@ -69,10 +69,10 @@ returns-5 c =
     (asks-5 (a .numbers .now) (a .whole) (c .before .before .before .before .before .before .before .before .before .before .before .before .before .if1 .taken) (c .before .before .before .before .before .before .before .before .before .before .before .if2 .left) (c .before .before .before .before .before .before .before .before .before .before .if3 .taken) (g .result) o l (g .ensures .0) (c .before .if4 .taken) (c .if5 .taken), (omega arith, omega arith))
 
 same-length-5 : tie.Need-same-length-5
-same-length-5 c = search needs
+same-length-5 c = c .before .before .before .before .before .before .before .nodes-of .kept .1 .1 .1 .0
 
 same-length-6 : tie.Need-same-length-6
-same-length-6 c = search needs
+same-length-6 c = c .before .before .before .before .before .before .before .nodes-of .kept .1 .1 .1 .1 .0
 
 returns-6 : tie.Need-returns-6
 unfolding askedOf
@@ -84,10 +84,10 @@ returns-6 c =
     (asks-6 (a .numbers .now) (a .whole) (c .before .before .before .before .before .before .before .before .before .before .before .before .before .before .if1 .taken) (c .before .before .before .before .before .before .before .before .before .before .before .before .if2 .left) (c .before .before .before .before .before .before .before .before .before .before .before .if3 .taken) (g .result) o l (g .ensures .0) (c .before .before .if4 .taken) (c .before .if5 .left) (c .if6 .taken), (c .before .before .before .before .before .before .before .before .before .before .before .before .if2 .left, g .ensures .1))
 
 same-length-7 : tie.Need-same-length-7
-same-length-7 c = search needs
+same-length-7 c = c .before .before .before .before .before .before .before .nodes-of .kept .1 .1 .1 .0
 
 same-length-8 : tie.Need-same-length-8
-same-length-8 c = search needs
+same-length-8 c = c .before .before .before .before .before .before .before .nodes-of .kept .1 .1 .1 .1 .0
 
 returns-7 : tie.Need-returns-7
 unfolding askedOf
