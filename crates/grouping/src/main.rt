@@ -1,13 +1,27 @@
-// Reads nodes, size and what each node lists from standard input, and prints the groups.
-// A text of 65,536 bytes or more is refused as too large: with single blanks no text that can be accepted reaches 10,000.
-fn main() {
-    let mut text = io::large_buffer();
-    let n = io::read_full(0, &mut text);
-    if 65536 <= n {
-        io::write_all(1, b"refused 1\n");
-        return;
+// Reads nodes, size and what each node lists from standard input, piece by piece, and prints the groups.
+use grouping_text::Reader;
+
+// Reads the input to its end. A proved loop has to end, and nothing says that the input does: so it counts its turns down, from a number
+// that no input uses up.
+fn read_all(numbers: &mut [u32]) -> Reader {
+    let mut piece = io::large_buffer();
+    let mut reader = grouping_text::start();
+    let mut turns = u64::MAX;
+    while 0 < turns {
+        let n = io::read_full(0, &mut piece);
+        reader = grouping_text::feed(reader, &piece[..n], numbers);
+        if n < 65536 {
+            return reader;
+        }
+        turns -= 1;
     }
+    reader
+}
+
+fn main() {
+    let mut numbers = [0u32; grouping_text::ROOM];
+    let reader = read_all(&mut numbers);
     let mut out = [0u8; 2059];
-    let m = grouping_text::grouping_text(&text[..n], &mut out);
+    let m = grouping_text::finish(reader, &mut numbers, &mut out);
     io::write_all(1, &out[..m]);
 }

@@ -1,2 +1,2 @@
--- The laws of the public function.
+-- The laws of the public functions.
 mod Program

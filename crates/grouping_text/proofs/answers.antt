@@ -1,2 +1,2 @@
 -- The laws of the printed answer.
-mod Printed
+pub mod Printed

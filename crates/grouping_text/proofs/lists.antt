@@ -1,3 +1,2 @@
 -- The laws of reading lists that several proofs cite.
-pub mod Lists
 pub mod Nodes

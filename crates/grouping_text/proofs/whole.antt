@@ -1,2 +1,2 @@
--- The laws of reading a whole text.
+-- The laws of what the numbers ask.
 mod Asks

@@ -12,11 +12,7 @@ use Rattle.definitions.specs.declared.Refusal.{Refusal}
 use Rattle.definitions.specs.Groups.{Joining, Groups, Grouping, free, waiting, grow, growFrom, grown, relabelled, joined, replay, joinings, groupsOf, renumbered, place, firsts, graphGrouping, groupingCall, listed, noAnchor}
 use Rattle.definitions.specs.Text.{line, decimal, printed, groupsWord}
 use Rattle.grouping_text.specs.Puts.{linesFrom}
-use Rattle.grouping_text.specs.Agrees.{ordered, call-is}
-
-split {ℓ} : {X : Type ℓ} (b : Bool) → (b ≡ true → X) → (b ≡ false → X) → X
-split true t f = t refl
-split false t f = f refl
+use Rattle.grouping_text.specs.Agrees.{split, ordered, call-is}
 
 relabelled-length : (b : ℕ) (vs ids : List ℕ) → length (relabelled b vs ids) ≡ length ids
 unfolding relabelled

@@ -1,16 +1,15 @@
-// Reading decimal numbers with white space between them. Numbers stop growing at the largest u32.
+// Reading decimal numbers with white space between them, byte by byte. Numbers stop growing at the largest u32.
 ghost use mathlib.Core.Path.{_≡_};
 ghost use Prim.Native.Nat.{_≤_, _+_, _-_, _*_};
-ghost use lib.ListN.{drop};
-ghost use Rattle.definitions.specs.Text.{isBlank, isDigit, trimmed};
-ghost use Rattle.grouping_text.specs.Capped.{cap, digitsC, numberC};
-ghost use Rattle.grouping_text.specs.Steps.{readOf};
-use crate::Step;
+ghost use Rattle.definitions.specs.Text.{isBlank, isDigit};
+ghost use Rattle.grouping_text.specs.Numbers.{cap};
+ghost use Rattle.grouping_text.specs.Feeding.{held, closed, byteIn};
+use crate::Reader;
 
-fn wide(x: u8) -> usize
+fn wide(x: u8) -> u64
     ensures { λ r. ⌜ r ≡ x ⌝ }
 {
-    x as usize
+    x as u64
 }
 
 // Space, tab, line feed, carriage return.
@@ -38,78 +37,72 @@ fn digit(b: u8) -> bool
     b <= 57
 }
 
-// Where the text's first byte from `at` on is that is not blank.
-pub fn skip(text: &[u8], at: usize) -> usize
-    ensures { λ r. ⌜ drop r (now (text .entry)) ≡ trimmed (drop at (now (text .entry))) ⌝ }
-{
-    let mut i = at;
-    while i < text.len() {
-        if blank(text[i]) {
-            i += 1;
-        } else {
-            return i;
-        }
-    }
-    i
-}
-
 // The next digit of a number, of which n is there already.
-fn more(n: usize, b: u8) -> usize
-    requires { ⌜ (n ≤ 4294967295) × ((48 ≤ b) × (b ≤ 57)) ⌝ }
+fn more(n: u32, b: u8) -> u32
+    requires { ⌜ (48 ≤ b) × (b ≤ 57) ⌝ }
     ensures { λ r. ⌜ r ≡ cap (n * 10 + (b - 48)) ⌝ }
 {
-    let m = n * 10 + (wide(b) - 48);
-    if 4294967295 < m { 4294967295 } else { m }
+    let m = (n as u64) * 10 + (wide(b) - 48);
+    if 4294967295 < m { 4294967295 } else { m as u32 }
 }
 
-// The digits of a number from `at` on, up to a blank or the text's end.
-fn digits(text: &[u8], at: usize) -> Step
-    ensures { λ r. ⌜ readOf (now (text .entry)) r ≡ digitsC 0 (drop at (now (text .entry))) ⌝ }
-    ensures { λ r. ⌜ r .number ≤ 4294967295 ⌝ }
+// Puts the number that is being read, if there is one, into the list, as far as there is room.
+pub fn close(reader: Reader, numbers: &mut [u32]) -> Reader
+    ensures { λ r. ⌜ held r (now (numbers .exit)) ≡ closed (held reader (now (numbers .entry))) ⌝ }
 {
-    let mut n: usize = 0;
-    let mut i = at;
-    while i < text.len() {
-        let b = text[i];
-        if digit(b) {
-            n = more(n, b);
-            i += 1;
-        } else {
-            if blank(b) {
-                return Step {
-                    ok: true,
-                    number: n,
-                    next: i + 1,
-                };
-            }
-            return Step {
-                ok: false,
-                number: 0,
-                next: i,
+    let inside = reader.inside;
+    if inside {
+        let count = reader.count;
+        let room = numbers.len();
+        if count < room {
+            let value = reader.value;
+            numbers[count] = value;
+            return Reader {
+                good: reader.good,
+                inside: false,
+                value: 0,
+                count: count + 1,
             };
         }
+        return Reader {
+            good: reader.good,
+            inside: false,
+            value: 0,
+            count: room,
+        };
     }
-    Step {
-        ok: true,
-        number: n,
-        next: i,
+    Reader {
+        good: reader.good,
+        inside: false,
+        value: 0,
+        count: reader.count,
     }
 }
 
-// The first number from `at` on.
-pub fn number(text: &[u8], at: usize) -> Step
-    ensures { λ r. ⌜ readOf (now (text .entry)) r ≡ numberC (drop at (now (text .entry))) ⌝ }
-    ensures { λ r. ⌜ r .number ≤ 4294967295 ⌝ }
+// One byte of the text.
+pub fn byte_in(reader: Reader, b: u8, numbers: &mut [u32]) -> Reader
+    ensures { λ r. ⌜ held r (now (numbers .exit)) ≡ byteIn b (held reader (now (numbers .entry))) ⌝ }
 {
-    let i = skip(text, at);
-    if i < text.len() {
-        if digit(text[i]) {
-            return digits(text, i);
+    let good = reader.good;
+    if good {
+        if digit(b) {
+            let value = more(reader.value, b);
+            return Reader {
+                good: good,
+                inside: true,
+                value: value,
+                count: reader.count,
+            };
         }
+        if blank(b) {
+            return close(reader, numbers);
+        }
+        return Reader {
+            good: false,
+            inside: false,
+            value: 0,
+            count: reader.count,
+        };
     }
-    Step {
-        ok: false,
-        number: 0,
-        next: i,
-    }
+    reader
 }

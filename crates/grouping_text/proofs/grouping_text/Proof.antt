@@ -1,131 +1,54 @@
--- `grouping_text`: what was read is answered, or its cause is printed.
+-- `grouping_text`: one piece, fed to a fresh reader.
 use mathlib.Core.Path.{ap, _∙_}
-use Prim.Native.Nat.{_+_, _-_, _*_}
-use lib.ListN.{length, take, drop}
-use Rattle.definitions.specs.Groups.{groupingCall}
-use Rattle.definitions.specs.Text.{program, printed, line, decimal, refusedWord}
-use Rattle.grouping_text.proofs.Program.{puts-whole, program-answers, program-large, program-bad, parts}
+use Prim.Native.Nat.{ℕ, min}
+use native.Mathlib.Omega.{arith}
+use lib.ListN.{length, replicate, length-replicate}
+use Rattle.numbers.specs.Copied.{copied}
+use Rattle.grouping_text.proofs.Program.{text-said}
 use borrow.Author.Needs.{needs}
 use Rattle.grouping_text.proofs.grouping_text.Statement.{statement}
 use Rattle.grouping_text.proofs.grouping_text.Tie as tie
 use Rattle.grouping_text.proofs.grouping_text.Reads as reads
 use Rattle.grouping_text.proofs.grouping_text.Lts as lts
-use Rattle.grouping_text.proofs.answers.answer.Reads as answer-reads
-use Rattle.grouping_text.proofs.printing.put_head.Reads as put-head-reads
-use Rattle.grouping_text.proofs.whole.ask.Reads as ask-reads
+use Rattle.grouping_text.proofs.feed.Reads as feed-reads
+use Rattle.grouping_text.proofs.finish.Reads as finish-reads
+use Rattle.grouping_text.proofs.start.Reads as start-reads
 
-slice-aggregate-ask : tie.Need-slice-aggregate-ask
-slice-aggregate-ask c = search needs
+start-requires : tie.Need-start-requires
+start-requires c κs = tt
 
-slice-aggregate-ask-2 : tie.Need-slice-aggregate-ask-2
-slice-aggregate-ask-2 c = search needs
+slice-aggregate-feed : tie.Need-slice-aggregate-feed
+slice-aggregate-feed c = search needs
 
-ask-requires : tie.Need-ask-requires
-ask-requires c κs = search needs
+feed-requires : tie.Need-feed-requires
+feed-requires c κs = tt
 
-add-end : tie.Need-add-end
-add-end c = search needs
+slice-aggregate-finish : tie.Need-slice-aggregate-finish
+slice-aggregate-finish c = search needs
 
-sub-answer : tie.Need-sub-answer
-sub-answer c = search needs
-
-part-answer-start : tie.Need-part-answer-start
-part-answer-start c = search needs
-
-part-answer-end : tie.Need-part-answer-end
-part-answer-end c = search needs
-
-sub-answer-2 : tie.Need-sub-answer-2
-sub-answer-2 c = search needs
-
-part-answer-start-2 : tie.Need-part-answer-start-2
-part-answer-start-2 c = search needs
-
-part-answer-end-2 : tie.Need-part-answer-end-2
-part-answer-end-2 c = search needs
-
-answer-requires : tie.Need-answer-requires
-answer-requires c κs = search needs
+finish-requires : tie.Need-finish-requires
+finish-requires c κs = tt
 
 same-length : tie.Need-same-length
 same-length c = search needs
 
 returns : tie.Need-returns
 returns c =
-    let a = c .before .before .before .before .before .before .before .before .before .before .before .before .before .before .before .before .args in
-    let k = c .before .before .before .before .before .before .before .before .before .before .before .ask in
-    let r = k .result in
-    let o = k .last .1 .0 in
-    let n = k .last .1 .1 .0 in
-    let f = c .before .before .answer in
-    let whole = program-answers (a .text .now) r (take (r .nodes + 1) o) (take (r .count) n) (k .ensures .0) (c .before .before .before .before .before .before .before .before .if1 .taken) in
-    puts-whole (a .out .now)
-    (printed (groupingCall (r .nodes) (r .size) (take (r .nodes + 1 - 0) (drop 0 o)) (take (r .count - 0) (drop 0 n)) (r .nodes) (8 * r .nodes + 4 * length (take (r .count - 0) (drop 0 n)) + 16)))
-    (program (a .text .now)) (f .last .1 .1 .1 .1 .0) (f .result)
-    (ap (λ l. printed (groupingCall (r .nodes) (r .size) l (take (r .count - 0) (drop 0 n)) (r .nodes) (8 * r .nodes + 4 * length (take (r .count - 0) (drop 0 n)) + 16))) (parts (r .nodes + 1) o)
-    ∙ ap (λ l. printed (groupingCall (r .nodes) (r .size) (take (r .nodes + 1) o) l (r .nodes) (8 * r .nodes + 4 * length l + 16))) (parts (r .count) n) ∙ whole)
-    (f .ensures)
-
-slice-aggregate-put-head : tie.Need-slice-aggregate-put-head
-slice-aggregate-put-head c = search needs
-
-put-head-requires : tie.Need-put-head-requires
-put-head-requires c κs = search needs
-
-same-length-2 : tie.Need-same-length-2
-same-length-2 c = search needs
-
-returns-2 : tie.Need-returns-2
-returns-2 c =
-    let a = c .before .before .before .before .before .before .before .before .before .before .before .before .before .before .args in
-    let k = c .before .before .before .before .before .before .before .before .before .ask in
-    let r = k .result in
-    let o = k .last .1 .0 in
-    let n = k .last .1 .1 .0 in
-    let h = c .before .before .put-head in
-    puts-whole (a .out .now) (line refusedWord (decimal 1)) (program (a .text .now)) (h .last .0) (h .result) (program-large (a .text .now) r (take (r .nodes + 1) o) (take (r .count) n) (k .ensures .0) (c .before .before .before .before .before .if2 .taken)) (h .ensures)
-
-slice-aggregate-put-head-2 : tie.Need-slice-aggregate-put-head-2
-slice-aggregate-put-head-2 c = search needs
-
-put-head-requires-2 : tie.Need-put-head-requires-2
-put-head-requires-2 c κs = search needs
-
-same-length-3 : tie.Need-same-length-3
-same-length-3 c = search needs
-
-returns-3 : tie.Need-returns-3
-returns-3 c =
-    let a = c .before .before .before .before .before .before .before .before .before .before .before .before .before .before .args in
-    let k = c .before .before .before .before .before .before .before .before .before .ask in
-    let r = k .result in
-    let o = k .last .1 .0 in
-    let n = k .last .1 .1 .0 in
-    let h = c .before .before .put-head2 in
-    puts-whole (a .out .now) (line refusedWord (decimal 27)) (program (a .text .now)) (h .last .0) (h .result) (program-bad (a .text .now) r (take (r .nodes + 1) o) (take (r .count) n) (k .ensures .0) (c .before .before .before .before .before .before .if1 .left) (c .before .before .before .before .before .if2 .left)) (h .ensures)
+    let a = c .before .before .before .before .before .before .before .before .before .before .before .before .args in
+    let s = c .before .before .before .before .before .before .before .before .before .start in
+    let d = c .before .before .before .before .before .before .before .feed in
+    let f = c .before .before .before .finish in
+    let e = text-said (a .text .now) (replicate 2307 0) (s .result) (d .result) (d .last .1 .1 .0) (omega (arith, length-replicate {A = ℕ} 2307 0)) (s .ensures) (d .ensures) in
+    (f .ensures .0 ∙ ap (λ p. min (length p) (length (a .out .now))) e, f .ensures .1 .0 ∙ ap (λ p. copied p (a .out .now)) e)
 
 pub grouping-text-spec : {M : Type 1} → statement M
 grouping-text-spec =
     tie.close
     (tie.spec
-    slice-aggregate-ask
-    slice-aggregate-ask-2
-    ask-requires
-    add-end
-    sub-answer
-    part-answer-start
-    part-answer-end
-    sub-answer-2
-    part-answer-start-2
-    part-answer-end-2
-    answer-requires
+    start-requires
+    slice-aggregate-feed
+    feed-requires
+    slice-aggregate-finish
+    finish-requires
     same-length
-    returns
-    slice-aggregate-put-head
-    put-head-requires
-    same-length-2
-    returns-2
-    slice-aggregate-put-head-2
-    put-head-requires-2
-    same-length-3
-    returns-3)
+    returns)

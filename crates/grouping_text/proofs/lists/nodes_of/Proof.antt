@@ -12,10 +12,10 @@ use Rattle.grouping_text.proofs.lists.nodes_of.Lts as lts
 use Rattle.grouping_text.proofs.lists.node_of.Reads as node-of-reads
 
 abbrev Inv-loop : tie.InvT-loop
-Inv-loop text at nodes offsets₀ neighbours₀ i₀ have₀ pos₀ offsets neighbours i have pos = Noting text at nodes offsets₀ neighbours₀ offsets neighbours i have pos
+Inv-loop numbers at nodes offsets₀ neighbours₀ i₀ have₀ pos₀ offsets neighbours i have pos = Noting numbers at nodes offsets₀ neighbours₀ offsets neighbours i have pos
 
 abbrev μ-loop : tie.MeasureT-loop
-μ-loop text at nodes offsets₀ neighbours₀ i₀ have₀ pos₀ offsets neighbours i have pos = nodes - i
+μ-loop numbers at nodes offsets₀ neighbours₀ i₀ have₀ pos₀ offsets neighbours i have pos = nodes - i
 
 slice-write-offsets : tie.Need-slice-write-offsets Inv-loop μ-loop
 slice-write-offsets c = search needs
@@ -24,7 +24,7 @@ loop-holds : tie.Need-loop-holds Inv-loop μ-loop
 loop-holds c =
     let s = c .before .before .before in
     let a = s .args in
-    noting-first (a .text .now) (a .at) (a .nodes) (a .offsets .now) (a .neighbours .now) (s .pre .0) (s .pre .1)
+    noting-first (a .numbers .now) (a .at) (a .nodes) (a .offsets .now) (a .neighbours .now) (s .pre .0) (s .pre .1)
 
 node-of-requires : tie.Need-node-of-requires Inv-loop μ-loop
 node-of-requires c κs =
@@ -43,7 +43,7 @@ returns c =
     let a = s .args in
     let l = c .before .before .before .before .before .before .loop in
     let n = c .before .before .before .node-of in
-    (noting-bad (a .text .now) (a .at) (a .nodes) (set (a .offsets .now) 0 0) (a .neighbours .now) (simp length-set (s .pre .0)) (s .pre .1) (l .offsets) (l .neighbours) (l .i) (l .have) (l .pos) (l .inv) (c .before .before .before .before .before .loop-test .taken) (n .last .1 .1 .0) (n .result) (n .kept .1 .1 .0) (n .ensures .0) (n .ensures .1) (record { cause = n .result .cause; count = 0; next = 0 }) (c .if1 .left) refl (take (a .nodes + 1) (l .offsets)) (take 0 (n .last .1 .1 .0)), omega arith)
+    (noting-bad (a .numbers .now) (a .at) (a .nodes) (set (a .offsets .now) 0 0) (a .neighbours .now) (simp length-set (s .pre .0)) (s .pre .1) (l .offsets) (l .neighbours) (l .i) (l .have) (l .pos) (l .inv) (c .before .before .before .before .before .loop-test .taken) (n .last .1 .1 .0) (n .result) (n .kept .1 .1 .0) (n .ensures .0) (n .ensures .1) (record { cause = n .result .cause; count = 0; next = 0 }) (c .if1 .left) refl (take (a .nodes + 1) (l .offsets)) (take 0 (n .last .1 .1 .0)), omega arith)
 
 add-i : tie.Need-add-i Inv-loop μ-loop
 add-i c = search needs
@@ -69,7 +69,7 @@ loop-again c =
     let a = s .args in
     let l = c .before .before .before .before .before .before .loop in
     let n = c .before .before .before .node-of in
-    noting-next (a .text .now) (a .at) (a .nodes) (set (a .offsets .now) 0 0) (a .neighbours .now) (simp length-set (s .pre .0)) (s .pre .1) (l .offsets) (l .neighbours) (l .i) (l .have) (l .pos) (l .inv) (c .before .before .before .before .before .loop-test .taken) (n .last .1 .1 .0) (n .result) (n .kept .1 .1 .0) (n .ensures .0) (n .ensures .1) (c .if1 .taken)
+    noting-next (a .numbers .now) (a .at) (a .nodes) (set (a .offsets .now) 0 0) (a .neighbours .now) (simp length-set (s .pre .0)) (s .pre .1) (l .offsets) (l .neighbours) (l .i) (l .have) (l .pos) (l .inv) (c .before .before .before .before .before .loop-test .taken) (n .last .1 .1 .0) (n .result) (n .kept .1 .1 .0) (n .ensures .0) (n .ensures .1) (c .if1 .taken)
 
 same-length-3 : tie.Need-same-length-3 Inv-loop μ-loop
 same-length-3 c = c .before .loop .inv .same-o ∙ simp length-set
@@ -82,7 +82,7 @@ returns-2 c =
     let s = c .before .before .before .before .before in
     let a = s .args in
     let l = c .before .loop in
-    (noting-last (a .text .now) (a .at) (a .nodes) (set (a .offsets .now) 0 0) (a .neighbours .now) (simp length-set (s .pre .0)) (s .pre .1) (l .offsets) (l .neighbours) (l .i) (l .have) (l .pos) (l .inv) (record { cause = 0; count = l .have; next = l .pos }) (c .loop-test .left) refl refl, l .inv .few)
+    (noting-last (a .numbers .now) (a .at) (a .nodes) (set (a .offsets .now) 0 0) (a .neighbours .now) (simp length-set (s .pre .0)) (s .pre .1) (l .offsets) (l .neighbours) (l .i) (l .have) (l .pos) (l .inv) (record { cause = 0; count = l .have; next = l .pos }) (c .loop-test .left) refl refl, l .inv .few)
 
 pub nodes-of-spec : {M : Type 1} → statement M
 nodes-of-spec =

@@ -1,9 +1,9 @@
 -- `more` caps at the largest u32.
 use mathlib.Core.Path.{_≡_, ap, _∙_}
 use Prim.Native.Nat.{_+_, _-_, _*_}
-use Rattle.grouping_text.specs.Capped.{cap}
+use native.Mathlib.Omega.{arith}
+use Rattle.grouping_text.specs.Numbers.{cap}
 use Rattle.grouping_text.proofs.reading.Bytes.{cap-over, cap-under}
-use borrow.Author.Needs.{needs}
 use Rattle.grouping_text.proofs.reading.more.Statement.{statement}
 use Rattle.grouping_text.proofs.reading.more.Tie as tie
 use Rattle.grouping_text.proofs.reading.more.Reads as reads
@@ -11,30 +11,31 @@ use Rattle.grouping_text.proofs.reading.more.Lts as lts
 use Rattle.grouping_text.proofs.reading.wide.Reads as wide-reads
 
 mul-m : tie.Need-mul-m
-mul-m c = search needs
+mul-m c = omega arith
 
 wide-requires : tie.Need-wide-requires
-wide-requires c κs = search needs
+wide-requires c κs = tt
 
 sub-m : tie.Need-sub-m
-sub-m c = search needs
+sub-m c = omega arith
 
 add-m : tie.Need-add-m
-add-m c = search needs
+add-m c = omega arith
+
+cast-result : tie.Need-cast-result
+cast-result c = omega arith
 
 returns : tie.Need-returns
 returns c =
     let a = c .before .before .args in
-    let e = c .before .wide .ensures in
-    let s : a .n * 10 + (c .before .wide .result - 48) ≡ a .n * 10 + (a .b - 48) = ap (λ k. a .n * 10 + (k - 48)) e in
+    let s : a .n * 10 + (c .before .wide .result - 48) ≡ a .n * 10 + (a .b - 48) = ap (λ k. a .n * 10 + (k - 48)) (c .before .wide .ensures) in
     cap-over (a .n * 10 + (c .before .wide .result - 48)) (c .if1 .taken) ∙ ap cap s
 
 returns-2 : tie.Need-returns-2
 returns-2 c =
     let a = c .before .before .args in
-    let e = c .before .wide .ensures in
-    let s : a .n * 10 + (c .before .wide .result - 48) ≡ a .n * 10 + (a .b - 48) = ap (λ k. a .n * 10 + (k - 48)) e in
+    let s : a .n * 10 + (c .before .wide .result - 48) ≡ a .n * 10 + (a .b - 48) = ap (λ k. a .n * 10 + (k - 48)) (c .before .wide .ensures) in
     cap-under (a .n * 10 + (c .before .wide .result - 48)) (c .if1 .left) ∙ ap cap s
 
 pub more-spec : {M : Type 1} → statement M
-more-spec = tie.close (tie.spec mul-m wide-requires sub-m add-m returns returns-2)
+more-spec = tie.close (tie.spec mul-m wide-requires sub-m add-m cast-result returns returns-2)

@@ -1,120 +1,124 @@
--- `ask` reads the parts in their order.
+-- `ask` makes the tests in their order.
 use native.Mathlib.Omega.{arith}
 use mathlib.Core.Path.{refl}
 use Prim.Native.Nat.{_+_}
-use lib.ListN.{take}
+use lib.ListN.{getD, take}
 use Rattle.grouping_text.specs.Steps.{askedOf}
-use Rattle.grouping_text.proofs.whole.Asks.{asks-1, asks-2, asks-3, asks-4, asks-5, asks-6}
+use Rattle.grouping_text.proofs.whole.Asks.{asks-1, asks-2, asks-3, asks-4, asks-5, asks-6, asks-7}
 use borrow.Author.Needs.{needs}
 use Rattle.grouping_text.proofs.whole.ask.Statement.{statement}
 use Rattle.grouping_text.proofs.whole.ask.Tie as tie
 use Rattle.grouping_text.proofs.whole.ask.Reads as reads
 use Rattle.grouping_text.proofs.whole.ask.Lts as lts
 use Rattle.grouping_text.proofs.lists.nodes_of.Reads as nodes-of-reads
-use Rattle.grouping_text.proofs.reading.number.Reads as number-reads
-use Rattle.grouping_text.proofs.reading.skip.Reads as skip-reads
-
-number-requires : tie.Need-number-requires
-number-requires c κs = search needs
 
 returns : tie.Need-returns
 unfolding askedOf
-returns c =
-    let a = c .before .before .before .before .before .args in
-    let n = c .before .number in
-    (asks-1 (a .text .now) (n .result) (n .ensures .0) (c .if1 .left), (omega arith, omega arith))
+returns c = let a = c .before .before .before .before .args in (asks-1 (a .numbers .now) (a .whole) (c .if1 .left), (omega arith, omega arith))
+
+shared-slice-read-nodes : tie.Need-shared-slice-read-nodes
+shared-slice-read-nodes c = search needs
+
+cast-nodes : tie.Need-cast-nodes
+cast-nodes c = omega (arith, c .shared-slice-known2 .given 0)
 
 returns-2 : tie.Need-returns-2
 unfolding askedOf
-returns-2 c =
-    let a = c .before .before .before .before .before .before .args in
-    let n = c .before .before .number in
-    (asks-2 (a .text .now) (n .result) (n .ensures .0) (c .before .if1 .taken) (c .if2 .taken), (omega arith, omega arith))
-
-number-requires-2 : tie.Need-number-requires-2
-number-requires-2 c κs = search needs
+returns-2 c = let a = c .before .before .before .before .before .before .args in (asks-2 (a .numbers .now) (a .whole) (c .before .before .if1 .taken) (c .if2 .taken), (omega arith, omega arith))
 
 returns-3 : tie.Need-returns-3
 unfolding askedOf
-returns-3 c =
-    let a = c .before .before .before .before .before .before .before .before .args in
-    let n = c .before .before .before .before .number in
-    let s = c .before .number2 in
-    (asks-3 (a .text .now) (n .result) (n .ensures .0) (c .before .before .before .if1 .taken) (c .before .before .if2 .left) (s .result) (s .ensures .0) (c .if3 .left), (omega arith, omega arith))
+returns-3 c = let a = c .before .before .before .before .before .before .before .args in (asks-3 (a .numbers .now) (a .whole) (c .before .before .before .if1 .taken) (c .before .if2 .left) (c .if3 .left), (omega arith, omega arith))
+
+shared-slice-read-size : tie.Need-shared-slice-read-size
+shared-slice-read-size c = search needs
+
+cast-size : tie.Need-cast-size
+cast-size c = omega (arith, c .shared-slice-known3 .given 1)
 
 nodes-of-requires : tie.Need-nodes-of-requires
 nodes-of-requires c κs = search needs
 
 same-length : tie.Need-same-length
-same-length c = search needs
+same-length c = c .before .before .before .before .before .nodes-of .kept .1 .1 .1 .0
 
 same-length-2 : tie.Need-same-length-2
-same-length-2 c = search needs
+same-length-2 c = c .before .before .before .before .before .nodes-of .kept .1 .1 .1 .1 .0
 
 returns-4 : tie.Need-returns-4
 returns-4 c =
     let a = c .before .before .before .before .before .before .before .before .before .before .before .before .before .before .before .before .args in
-    let n = c .before .before .before .before .before .before .before .before .before .before .before .before .number in
-    let s = c .before .before .before .before .before .before .before .before .before .number2 in
     let g = c .before .before .before .before .before .nodes-of in
-    let o = take (n .result .number + 1) (g .last .1 .1 .1 .0) in
+    let o = take (getD (a .numbers .now) 0 0 + 1) (g .last .1 .1 .1 .0) in
     let l = take (g .result .count) (g .last .1 .1 .1 .1 .0) in
-    (asks-4 (a .text .now) (n .result) (n .ensures .0) (c .before .before .before .before .before .before .before .before .before .before .before .if1 .taken) (c .before .before .before .before .before .before .before .before .before .before .if2 .left) (s .result) (s .ensures .0) (c .before .before .before .before .before .before .before .before .if3 .taken) (g .result) o l (g .ensures .0) (c .if4 .left) (record { cause = g .result .cause; nodes = 0; size = 0; count = 0 }) (take (0 + 1) (g .last .1 .1 .1 .0)) (take 0 (g .last .1 .1 .1 .1 .0)) refl, (omega arith, omega arith))
-
-skip-requires : tie.Need-skip-requires
-skip-requires c κs = search needs
+    (asks-4 (a .numbers .now) (a .whole) (c .before .before .before .before .before .before .before .before .before .before .before .before .if1 .taken) (c .before .before .before .before .before .before .before .before .before .before .if2 .left) (c .before .before .before .before .before .before .before .before .before .if3 .taken) (g .result) o l (g .ensures .0) (c .if4 .left) (record { cause = g .result .cause; nodes = 0; size = 0; count = 0 }) (take (0 + 1) (g .last .1 .1 .1 .0)) (take 0 (g .last .1 .1 .1 .1 .0)) refl, (omega arith, omega arith))
 
 same-length-3 : tie.Need-same-length-3
-same-length-3 c = search needs
+same-length-3 c = c .before .before .before .before .before .before .nodes-of .kept .1 .1 .1 .0
 
 same-length-4 : tie.Need-same-length-4
-same-length-4 c = search needs
+same-length-4 c = c .before .before .before .before .before .before .nodes-of .kept .1 .1 .1 .1 .0
 
 returns-5 : tie.Need-returns-5
 unfolding askedOf
 returns-5 c =
-    let a = c .before .before .before .before .before .before .before .before .before .before .before .before .before .before .before .before .before .before .args in
-    let n = c .before .before .before .before .before .before .before .before .before .before .before .before .before .before .number in
-    let s = c .before .before .before .before .before .before .before .before .before .before .before .number2 in
-    let g = c .before .before .before .before .before .before .before .nodes-of in
-    let o = take (n .result .number + 1) (g .last .1 .1 .1 .0) in
+    let a = c .before .before .before .before .before .before .before .before .before .before .before .before .before .before .before .before .before .args in
+    let g = c .before .before .before .before .before .before .nodes-of in
+    let o = take (getD (a .numbers .now) 0 0 + 1) (g .last .1 .1 .1 .0) in
     let l = take (g .result .count) (g .last .1 .1 .1 .1 .0) in
-    (asks-5 (a .text .now) (n .result) (n .ensures .0) (c .before .before .before .before .before .before .before .before .before .before .before .before .before .if1 .taken) (c .before .before .before .before .before .before .before .before .before .before .before .before .if2 .left) (s .result) (s .ensures .0) (c .before .before .before .before .before .before .before .before .before .before .if3 .taken) (g .result) o l (g .ensures .0) (c .before .before .if4 .taken) (c .before .skip .result) (c .before .skip .ensures) (c .if5 .taken), (omega arith, omega arith))
+    (asks-5 (a .numbers .now) (a .whole) (c .before .before .before .before .before .before .before .before .before .before .before .before .before .if1 .taken) (c .before .before .before .before .before .before .before .before .before .before .before .if2 .left) (c .before .before .before .before .before .before .before .before .before .before .if3 .taken) (g .result) o l (g .ensures .0) (c .before .if4 .taken) (c .if5 .taken), (omega arith, omega arith))
 
 same-length-5 : tie.Need-same-length-5
-same-length-5 c = search needs
+same-length-5 c = c .before .before .before .before .before .before .before .nodes-of .kept .1 .1 .1 .0
 
 same-length-6 : tie.Need-same-length-6
-same-length-6 c = search needs
+same-length-6 c = c .before .before .before .before .before .before .before .nodes-of .kept .1 .1 .1 .1 .0
 
 returns-6 : tie.Need-returns-6
 unfolding askedOf
 returns-6 c =
     let a = c .before .before .before .before .before .before .before .before .before .before .before .before .before .before .before .before .before .before .args in
-    let n = c .before .before .before .before .before .before .before .before .before .before .before .before .before .before .number in
-    let s = c .before .before .before .before .before .before .before .before .before .before .before .number2 in
     let g = c .before .before .before .before .before .before .before .nodes-of in
-    let o = take (n .result .number + 1) (g .last .1 .1 .1 .0) in
+    let o = take (getD (a .numbers .now) 0 0 + 1) (g .last .1 .1 .1 .0) in
     let l = take (g .result .count) (g .last .1 .1 .1 .1 .0) in
-    (asks-6 (a .text .now) (n .result) (n .ensures .0) (c .before .before .before .before .before .before .before .before .before .before .before .before .before .if1 .taken) (c .before .before .before .before .before .before .before .before .before .before .before .before .if2 .left) (s .result) (s .ensures .0) (c .before .before .before .before .before .before .before .before .before .before .if3 .taken) (g .result) o l (g .ensures .0) (c .before .before .if4 .taken) (c .before .skip .result) (c .before .skip .ensures) (c .if5 .left), (c .before .before .before .before .before .before .before .before .before .before .before .before .if2 .left, g .ensures .1))
+    (asks-6 (a .numbers .now) (a .whole) (c .before .before .before .before .before .before .before .before .before .before .before .before .before .before .if1 .taken) (c .before .before .before .before .before .before .before .before .before .before .before .before .if2 .left) (c .before .before .before .before .before .before .before .before .before .before .before .if3 .taken) (g .result) o l (g .ensures .0) (c .before .before .if4 .taken) (c .before .if5 .left) (c .if6 .taken), (c .before .before .before .before .before .before .before .before .before .before .before .before .if2 .left, g .ensures .1))
+
+same-length-7 : tie.Need-same-length-7
+same-length-7 c = c .before .before .before .before .before .before .before .nodes-of .kept .1 .1 .1 .0
+
+same-length-8 : tie.Need-same-length-8
+same-length-8 c = c .before .before .before .before .before .before .before .nodes-of .kept .1 .1 .1 .1 .0
+
+returns-7 : tie.Need-returns-7
+unfolding askedOf
+returns-7 c =
+    let a = c .before .before .before .before .before .before .before .before .before .before .before .before .before .before .before .before .before .before .args in
+    let g = c .before .before .before .before .before .before .before .nodes-of in
+    let o = take (getD (a .numbers .now) 0 0 + 1) (g .last .1 .1 .1 .0) in
+    let l = take (g .result .count) (g .last .1 .1 .1 .1 .0) in
+    (asks-7 (a .numbers .now) (a .whole) (c .before .before .before .before .before .before .before .before .before .before .before .before .before .before .if1 .taken) (c .before .before .before .before .before .before .before .before .before .before .before .before .if2 .left) (c .before .before .before .before .before .before .before .before .before .before .before .if3 .taken) (g .result) o l (g .ensures .0) (c .before .before .if4 .taken) (c .if6 .left), (omega arith, omega arith))
 
 pub ask-spec : {M : Type 1} → statement M
 ask-spec =
     tie.close
     (tie.spec
-    number-requires
     returns
+    shared-slice-read-nodes
+    cast-nodes
     returns-2
-    number-requires-2
     returns-3
+    shared-slice-read-size
+    cast-size
     nodes-of-requires
     same-length
     same-length-2
     returns-4
-    skip-requires
     same-length-3
     same-length-4
     returns-5
     same-length-5
     same-length-6
-    returns-6)
+    returns-6
+    same-length-7
+    same-length-8
+    returns-7)

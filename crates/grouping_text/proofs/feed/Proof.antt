@@ -1,0 +1,64 @@
+-- `feed` goes through the bytes.
+use mathlib.Core.Path.{_≡_, refl, ap, sym, _∙_}
+use Prim.Native.Nat.{_+_, _-_}
+use native.Mathlib.Omega.{arith}
+use lib.ListN.{length, drop}
+use Rattle.grouping_text.specs.Feeding.{held, fed}
+use Rattle.grouping_text.proofs.reading.Bytes.{fed-next, fed-over}
+use borrow.Author.Needs.{needs}
+use Rattle.grouping_text.proofs.feed.Statement.{statement}
+use Rattle.grouping_text.proofs.feed.Tie as tie
+use Rattle.grouping_text.proofs.feed.Reads as reads
+use Rattle.grouping_text.proofs.feed.Lts as lts
+use Rattle.grouping_text.proofs.reading.byte_in.Reads as byte-in-reads
+
+abbrev Inv-loop : tie.InvT-loop
+Inv-loop piece numbers₀ last₀ i₀ numbers last i = (length numbers ≡ length numbers₀) × (fed (drop i piece) (held last numbers) ≡ fed piece (held last₀ numbers₀))
+
+abbrev μ-loop : tie.MeasureT-loop
+μ-loop piece numbers₀ last₀ i₀ numbers last i = length piece - i
+
+loop-holds : tie.Need-loop-holds Inv-loop μ-loop
+loop-holds c = (refl, refl)
+
+shared-slice-read-byte-in : tie.Need-shared-slice-read-byte-in Inv-loop μ-loop
+shared-slice-read-byte-in c = search needs
+
+byte-in-requires : tie.Need-byte-in-requires Inv-loop μ-loop
+byte-in-requires c κs = tt
+
+add-i : tie.Need-add-i Inv-loop μ-loop
+add-i c = search needs
+
+loop-less : tie.Need-loop-less Inv-loop μ-loop
+loop-less c = omega arith
+
+loop-again : tie.Need-loop-again Inv-loop μ-loop
+loop-again c =
+    let l = c .before .before .before .before .before .before .loop in
+    let p = c .before .before .before .before .before .before .before .before .before .args .piece .now in
+    let b = c .before .before .byte-in in
+    (b .kept .1 .1 .0 ∙ l .inv .0, ap (fed (drop (l .i + 1) p)) (b .ensures) ∙ sym (fed-next p (l .i) (held (l .last) (l .numbers)) (omega arith)) ∙ l .inv .1)
+
+same-length : tie.Need-same-length Inv-loop μ-loop
+same-length c = c .before .loop .inv .0
+
+returns : tie.Need-returns Inv-loop μ-loop
+returns c =
+    let l = c .before .loop in
+    sym (fed-over (c .before .before .before .before .args .piece .now) (l .i) (held (l .last) (l .numbers)) (omega arith)) ∙ l .inv .1
+
+pub feed-spec : {M : Type 1} → statement M
+feed-spec =
+    tie.close
+    (tie.spec
+    Inv-loop
+    μ-loop
+    loop-holds
+    shared-slice-read-byte-in
+    byte-in-requires
+    add-i
+    loop-less
+    loop-again
+    same-length
+    returns)

@@ -1,0 +1,64 @@
+-- `finish` closes the last number and says what was read.
+use mathlib.Core.Path.{ap}
+use Prim.Native.Nat.{_-_}
+use native.Mathlib.Omega.{arith}
+use lib.ListN.{take, drop}
+use Rattle.definitions.specs.Text.{printed}
+use Rattle.grouping_text.specs.Numbers.{askedIn, answered}
+use Rattle.grouping_text.specs.Feeding.{held, said}
+use Rattle.grouping_text.proofs.Program.{puts-whole, said-is}
+use Rattle.grouping_text.proofs.finish.Statement.{statement}
+use Rattle.grouping_text.proofs.finish.Tie as tie
+use Rattle.grouping_text.proofs.finish.Reads as reads
+use Rattle.grouping_text.proofs.finish.Lts as lts
+use Rattle.grouping_text.proofs.least.Reads as least-reads
+use Rattle.grouping_text.proofs.reading.close.Reads as close-reads
+use Rattle.grouping_text.proofs.say.Reads as say-reads
+
+close-requires : tie.Need-close-requires
+close-requires c κs = tt
+
+least-requires : tie.Need-least-requires
+least-requires c κs = tt
+
+sub-say : tie.Need-sub-say
+sub-say c = omega arith
+
+part-say-start : tie.Need-part-say-start
+part-say-start c = omega arith
+
+part-say-end : tie.Need-part-say-end
+part-say-end c = omega arith
+
+say-requires : tie.Need-say-requires
+say-requires c κs = tt
+
+same-length : tie.Need-same-length
+same-length c = omega arith
+
+same-length-2 : tie.Need-same-length-2
+same-length-2 c = omega arith
+
+returns : tie.Need-returns
+returns c =
+    let a = c .before .before .before .before .before .before .before .before .before .before .before .before .before .args in
+    let k = c .before .before .before .before .before .before .before .before .before .close in
+    let m = c .before .before .before .before .before .before .least in
+    let f = c .before .before .say in
+    let l = k .last .1 .0 in
+    let p = puts-whole (a .out .now) (printed (answered (askedIn (take (m .result - 0) (drop 0 l)) (k .result .good)))) (said (held (a .reader) (a .numbers .now))) (f .last .1 .1 .0) (f .result) (said-is (held (a .reader) (a .numbers .now)) (k .result) l (m .result) (k .ensures) (m .ensures)) (f .ensures) in
+    (p .0, (p .1, ap (λ h. h .numbers) (k .ensures)))
+
+pub finish-spec : {M : Type 1} → statement M
+finish-spec =
+    tie.close
+    (tie.spec
+    close-requires
+    least-requires
+    sub-say
+    part-say-start
+    part-say-end
+    say-requires
+    same-length
+    same-length-2
+    returns)

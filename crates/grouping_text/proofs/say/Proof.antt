@@ -1,0 +1,134 @@
+-- `say`: what was asked is answered, or its cause is printed.
+use mathlib.Core.Path.{ap, _∙_}
+use Prim.Native.Nat.{_+_, _-_, _*_}
+use native.Mathlib.Omega.{arith}
+use lib.ListN.{length, take, drop}
+use Rattle.definitions.specs.Groups.{groupingCall}
+use Rattle.definitions.specs.Text.{printed, line, decimal, refusedWord}
+use Rattle.grouping_text.specs.Numbers.{askedIn, answered}
+use Rattle.grouping_text.proofs.answers.Printed.{puts-as}
+use Rattle.grouping_text.proofs.Program.{prints-answer, prints-large, prints-bad, parts}
+use borrow.Author.Needs.{needs}
+use Rattle.grouping_text.proofs.say.Statement.{statement}
+use Rattle.grouping_text.proofs.say.Tie as tie
+use Rattle.grouping_text.proofs.say.Reads as reads
+use Rattle.grouping_text.proofs.say.Lts as lts
+use Rattle.grouping_text.proofs.answers.answer.Reads as answer-reads
+use Rattle.grouping_text.proofs.printing.put_head.Reads as put-head-reads
+use Rattle.grouping_text.proofs.whole.ask.Reads as ask-reads
+
+slice-aggregate-ask : tie.Need-slice-aggregate-ask
+slice-aggregate-ask c = omega arith
+
+slice-aggregate-ask-2 : tie.Need-slice-aggregate-ask-2
+slice-aggregate-ask-2 c = omega arith
+
+ask-requires : tie.Need-ask-requires
+ask-requires c κs = search needs
+
+add-end : tie.Need-add-end
+add-end c = omega arith
+
+sub-answer : tie.Need-sub-answer
+sub-answer c = omega arith
+
+part-answer-start : tie.Need-part-answer-start
+part-answer-start c = omega arith
+
+part-answer-end : tie.Need-part-answer-end
+part-answer-end c = omega arith
+
+sub-answer-2 : tie.Need-sub-answer-2
+sub-answer-2 c = omega arith
+
+part-answer-start-2 : tie.Need-part-answer-start-2
+part-answer-start-2 c = omega arith
+
+part-answer-end-2 : tie.Need-part-answer-end-2
+part-answer-end-2 c = omega arith
+
+answer-requires : tie.Need-answer-requires
+answer-requires c κs = search needs
+
+same-length : tie.Need-same-length
+same-length c = omega arith
+
+returns : tie.Need-returns
+returns c =
+    let a = c .before .before .before .before .before .before .before .before .before .before .before .before .before .before .before .before .args in
+    let k = c .before .before .before .before .before .before .before .before .before .before .before .ask in
+    let r = k .result in
+    let o = k .last .1 .1 .0 in
+    let n = k .last .1 .1 .1 .0 in
+    let f = c .before .before .answer in
+    let e = prints-answer (askedIn (a .numbers .now) (a .whole)) r (take (r .nodes + 1) o) (take (r .count) n) (k .ensures .0) (c .before .before .before .before .before .before .before .before .if1 .taken) in
+    puts-as (a .out .now) 0
+    (printed (groupingCall (r .nodes) (r .size) (take (r .nodes + 1 - 0) (drop 0 o)) (take (r .count - 0) (drop 0 n)) (r .nodes) (8 * r .nodes + 4 * length (take (r .count - 0) (drop 0 n)) + 16)))
+    (printed (answered (askedIn (a .numbers .now) (a .whole)))) (f .last .1 .1 .1 .1 .0) (f .result)
+    (ap (λ l. printed (groupingCall (r .nodes) (r .size) l (take (r .count - 0) (drop 0 n)) (r .nodes) (8 * r .nodes + 4 * length (take (r .count - 0) (drop 0 n)) + 16))) (parts (r .nodes + 1) o)
+    ∙ ap (λ l. printed (groupingCall (r .nodes) (r .size) (take (r .nodes + 1) o) l (r .nodes) (8 * r .nodes + 4 * length l + 16))) (parts (r .count) n) ∙ e)
+    (f .ensures)
+
+slice-aggregate-put-head : tie.Need-slice-aggregate-put-head
+slice-aggregate-put-head c = omega arith
+
+put-head-requires : tie.Need-put-head-requires
+put-head-requires c κs = tt
+
+same-length-2 : tie.Need-same-length-2
+same-length-2 c = omega arith
+
+returns-2 : tie.Need-returns-2
+returns-2 c =
+    let a = c .before .before .before .before .before .before .before .before .before .before .before .before .before .before .args in
+    let k = c .before .before .before .before .before .before .before .before .before .ask in
+    let r = k .result in
+    let o = k .last .1 .1 .0 in
+    let n = k .last .1 .1 .1 .0 in
+    let h = c .before .before .put-head in
+    puts-as (a .out .now) 0 (line refusedWord (decimal 1)) (printed (answered (askedIn (a .numbers .now) (a .whole)))) (h .last .0) (h .result) (prints-large (askedIn (a .numbers .now) (a .whole)) r (take (r .nodes + 1) o) (take (r .count) n) (k .ensures .0) (c .before .before .before .before .before .if2 .taken)) (h .ensures)
+
+slice-aggregate-put-head-2 : tie.Need-slice-aggregate-put-head-2
+slice-aggregate-put-head-2 c = omega arith
+
+put-head-requires-2 : tie.Need-put-head-requires-2
+put-head-requires-2 c κs = tt
+
+same-length-3 : tie.Need-same-length-3
+same-length-3 c = omega arith
+
+returns-3 : tie.Need-returns-3
+returns-3 c =
+    let a = c .before .before .before .before .before .before .before .before .before .before .before .before .before .before .args in
+    let k = c .before .before .before .before .before .before .before .before .before .ask in
+    let r = k .result in
+    let o = k .last .1 .1 .0 in
+    let n = k .last .1 .1 .1 .0 in
+    let h = c .before .before .put-head2 in
+    puts-as (a .out .now) 0 (line refusedWord (decimal 27)) (printed (answered (askedIn (a .numbers .now) (a .whole)))) (h .last .0) (h .result) (prints-bad (askedIn (a .numbers .now) (a .whole)) r (take (r .nodes + 1) o) (take (r .count) n) (k .ensures .0) (c .before .before .before .before .before .before .if1 .left) (c .before .before .before .before .before .if2 .left)) (h .ensures)
+
+pub say-spec : {M : Type 1} → statement M
+say-spec =
+    tie.close
+    (tie.spec
+    slice-aggregate-ask
+    slice-aggregate-ask-2
+    ask-requires
+    add-end
+    sub-answer
+    part-answer-start
+    part-answer-end
+    sub-answer-2
+    part-answer-start-2
+    part-answer-end-2
+    answer-requires
+    same-length
+    returns
+    slice-aggregate-put-head
+    put-head-requires
+    same-length-2
+    returns-2
+    slice-aggregate-put-head-2
+    put-head-requires-2
+    same-length-3
+    returns-3)
