@@ -110,7 +110,7 @@ pub fn finish(reader: Reader, numbers: &mut [u32], out: &mut [u8]) -> usize
     say(&numbers[0..end], last.good, out)
 }
 
-// THE GROUPING PROGRAM's text in one piece.
+// The grouping program's text in one piece.
 pub fn grouping_text(text: &[u8], out: &mut [u8]) -> usize
     ensures { λ r. ⌜ r ≡ min (length (program (now (text .entry)))) (length (now (out .entry))) ⌝ }
     ensures { λ r. ⌜ now (out .exit) ≡ copied (program (now (text .entry))) (now (out .entry)) ⌝ }

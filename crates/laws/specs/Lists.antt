@@ -223,10 +223,6 @@ module _ {A B : Type 0} where
   flatMap-cong f g none = refl
   flatMap-cong f g (more {x = x} {xs = xs} h t) = ap (λ (ys : List B). ys ++ flatMap f xs) h ∙ ap (λ (ys : List B). g x ++ ys) (flatMap-cong f g t)
 
-  pub map-cong : (f g : A → B) {xs : List A} → Each (λ x. f x ≡ g x) xs → map f xs ≡ map g xs
-  map-cong f g none = refl
-  map-cong f g (more {x = x} {xs = xs} h t) = ap (λ (y : B). y ∷ map f xs) h ∙ ap (λ (ys : List B). g x ∷ ys) (map-cong f g t)
-
 pub each-zipWith : {A B C : Type 0} {P : C → Type 0} {Q : A → Type 0} (f : A → B → C) {xs : List A} (ys : List B) → ((x : A) (y : B) → Q x → P (f x y)) → Each Q xs
     → Each P (zipWith f xs ys)
 unfolding zipWith

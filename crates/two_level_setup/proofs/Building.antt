@@ -41,9 +41,6 @@ leaves-refused o room r x e = record { answer = rw e; left = λ b k. never b (sy
 pub leaves-same : (o p : Outcome Built) (room : Lengths) (r : SetupAnswer) (x : Lent) → o ≡ p → Leaves p room r x → Leaves o room r x
 leaves-same o p room r x e l = subst (λ q. Leaves q room r x) (sym e) l
 
-pub leaves-room : (o : Outcome Built) (room room' : Lengths) (r : SetupAnswer) (x : Lent) → room ≡ room' → Leaves o room r x → Leaves o room' r x
-leaves-room o room room' r x e l = subst (λ q. Leaves o q r x) e l
-
 -- ---- the coarse stage
 
 answer-is : (a : Matrix) (o : Options) (factors : List Float) (g : Grouping) (t : Transfer) (m : List Float) (f : Outcome (List Float))

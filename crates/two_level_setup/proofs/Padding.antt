@@ -6,7 +6,7 @@ use native.Mathlib.Omega.{arith}
 use lib.ListN.{length, take, drop, replicate, length-append, length-replicate, length-take, length-drop, replicate-append-replicate}
 use lib.Seq.{take-at, drop-at, take-all, drop-append-add}
 use borrow.Rule.Slice.PartMut.{putMid}
-use Rattle.definitions.specs.Lists.{padded, part}
+use Rattle.definitions.specs.Lists.{padded}
 use Rattle.numbers.specs.Copied.{copied}
 use Rattle.two_level_grouping.proofs.Kept.{drop-replicate, put-tail}
 
@@ -85,6 +85,3 @@ pub tail-put : {A : Type 0} (a : ℕ) (s y : List A) → a ≤ length s → (tak
 tail-put a s y h =
     let l : length (take a s) ≡ a = length-take a s ∙ omega arith in
     (rw (put-tail a s y) (take-at (take a s) y a l), rw (put-tail a s y) (drop-at (take a s) y a l))
-
-pub whole-part : {A : Type 0} (s : List A) → part 0 (length s) s ≡ s
-whole-part s = take-all (length s - 0) s (omega arith)

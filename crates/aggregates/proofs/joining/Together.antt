@@ -48,11 +48,6 @@ module _ (base : ℕ) where
   bump-other [] w k a = refl
   bump-other (x ∷ xs) w k a = bump-other xs (set w (base + x) (getD w (base + x) 0 + 1)) k (a .1) ∙ getD-set-other w (base + x) k (getD w (base + x) 0 + 1) 0 (a .0)
 
-  pub length-wipe : (xs w : List ℕ) → length (wipe base xs w) ≡ length w
-  unfolding wipe
-  length-wipe [] w = refl
-  length-wipe (x ∷ xs) w = length-wipe xs (set w (base + x) 0) ∙ length-set w (base + x) 0
-
   wipe-to : (xs u w : List ℕ) → length u ≡ length w → All (λ x. base + x < length w) xs → All (λ x. getD w (base + x) 0 ≡ 0) xs → ((k : ℕ) → All (λ x. k ≡ base + x → ⊥) xs → getD u k 0 ≡ getD w k 0) → wipe base xs u ≡ w
   unfolding wipe
   wipe-to [] u w l a z agree = ext-getD 0 u w l (λ k h. agree k tt)
