@@ -2,6 +2,7 @@ pub mod Packed
 pub mod Cholesky
 pub mod Columns
 pub mod Fitting
+pub mod Kept
 pub mod Products
 pub mod Rows
 pub mod Sides

@@ -18,7 +18,7 @@ use Rattle.coarse_factor.specs.Lanes.{rowSum}
 use Rattle.coarse_factor.specs.Stored.{Products, Moved, inverseSolve}
 
 -- a fact of every index below i, and of i
-upto : (P : ℕ → Type 0) (i : ℕ) → ((j : ℕ) → j < i → P j) → P i → (j : ℕ) → j < i + 1 → P j
+pub upto : (P : ℕ → Type 0) (i : ℕ) → ((j : ℕ) → j < i → P j) → P i → (j : ℕ) → j < i + 1 → P j
 upto P i h p j q = step (ℕ-discrete j i)
   where
     step : Dec (j ≡ i) → P j

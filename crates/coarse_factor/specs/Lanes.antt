@@ -1,12 +1,12 @@
 -- Four numbers side by side: what the loops over them leave.
-use Prim.Native.Nat.{ℕ, suc, _+_, _-_}
+use Prim.Native.Nat.{ℕ, suc, _+_, _-_, _<_}
 use mathlib.Core.Path.{_≡_}
 use mathlib.Core.List.{List, _++_}
 use lib.ListN.{length, getD, set, take, drop}
 use lib.Ieee.{Float, nan}
 use Rattle.definitions.specs.Lists.{tab}
 use Rattle.definitions.specs.Numbers.{_-ᶠ_, _*ᶠ_, _/ᶠ_, reduced, summed}
-use Rattle.definitions.specs.Coarse.{packedEntry, packedForward, packedBackward, packedSolve, unit}
+use Rattle.definitions.specs.Coarse.{packed, packedEntry, packedForward, packedBackward, packedSolve, unit}
 use Rattle.coarse_factor.specs.declared.Four.{Four}
 
 -- x less the products of the first n numbers of two rows, which begin at a and b
@@ -38,6 +38,19 @@ solvedFour l x b c d e =
     let s = (x .d -ᶠ p *ᶠ getD l e nan -ᶠ q *ᶠ getD l (e + 1) nan -ᶠ r *ᶠ getD l (e + 2) nan) /ᶠ getD l (e + 3) nan in
     record { a = p; b = q; c = r; d = s }
 
+-- the column i of the factor below the diagonal, by y
+abbrev pub colSum : List Float → List Float → ℕ → ℕ → Float
+colSum l y i n = summed (tab (λ m. packedEntry l (suc i + m) i *ᶠ getD y (suc i + m) nan) n)
+
+-- the column i of a factor of c rows stands in kept, below the diagonal, each number at its row
+abbrev pub Column : List Float → ℕ → ℕ → List Float → Type 0
+Column l i c kept = (j : ℕ) → i < j → j < c → getD kept j nan ≡ packedEntry l j i
+
+-- what stands before the numbers of column i below the diagonal, each kept at its row
+pub record KeptBefore (l : List Float) (i c : ℕ) (kept₀ kept : List Float) : Type 0 where
+  pub long : length kept ≡ length kept₀
+  pub before : (j : ℕ) → i < j → j < c → getD kept j nan ≡ getD l (packed j i - 1) nan
+
 -- ---- four right-hand sides of c numbers each, one after the other
 
 pub record RowFour (l w : List Float) (n start c : ℕ) (r : Four) : Type 0 where
@@ -45,10 +58,6 @@ pub record RowFour (l w : List Float) (n start c : ℕ) (r : Four) : Type 0 wher
   pub second : r .b ≡ rowSum l (drop c w) n start
   pub third : r .c ≡ rowSum l (drop (c + c) w) n start
   pub fourth : r .d ≡ rowSum l (drop (c + c + c) w) n start
-
--- the column i of the factor below the diagonal, by y
-abbrev pub colSum : List Float → List Float → ℕ → ℕ → Float
-colSum l y i n = summed (tab (λ m. packedEntry l (suc i + m) i *ᶠ getD y (suc i + m) nan) n)
 
 pub record ColFour (l w : List Float) (i c : ℕ) (r : Four) : Type 0 where
   pub first : r .a ≡ colSum l w i (c - suc i)

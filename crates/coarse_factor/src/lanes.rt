@@ -3,14 +3,15 @@
 use crate::Four;
 use numbers::zero_floats;
 ghost use mathlib.Core.Path.{_≡_};
+ghost use mathlib.Core.Bool.{true, false};
 ghost use Prim.Native.Nat.{_+_, _-_, _*_, _<_, _≤_};
 ghost use lib.ListN.{length};
 ghost use Rattle.definitions.specs.Coarse.{packed, packedLength};
-ghost use Rattle.coarse_factor.specs.Lanes.{RowFour, ColFour, setLanes, lanesOf, Forward4, Backward4, Units4, fourSolved};
+ghost use Rattle.coarse_factor.specs.Lanes.{RowFour, ColFour, Column, KeptBefore, setLanes, lanesOf, Forward4, Backward4, Units4, fourSolved};
 
 // The n numbers of l from start on, by those of each right-hand side.
 fn row_dots(l: &[f64], w: &[f64], n: usize, start: usize, c: usize) -> Four
-    requires { ⌜ (n ≤ c) × (c + c + c + c ≤ length (now w)) × (start + n ≤ length (now l)) ⌝ }
+    requires { ⌜ (c + c + c + n ≤ length (now w)) × (start + n ≤ length (now l)) ⌝ }
     ensures { λ r. ⌜ RowFour (now (l .entry)) (now (w .entry)) n start c r ⌝ }
 {
     let third = c + c;
@@ -36,10 +37,11 @@ fn row_dots(l: &[f64], w: &[f64], n: usize, start: usize, c: usize) -> Four
     }
 }
 
-// The column i of the factor below the diagonal, by each right-hand side; it begins at first.
-fn col_dots(l: &[f64], w: &[f64], i: usize, first: usize, c: usize) -> Four
-    requires { ⌜ (i < c) × (c ≤ 2048) × (c + c + c + c ≤ length (now w)) × (first ≡ packed (i + 1) i) × (length (now l) ≡ packedLength c) ⌝ }
+// The column i of the factor below the diagonal, by each right-hand side; it begins at first. The column before it is kept on the way.
+fn col_dots(l: &[f64], w: &[f64], i: usize, first: usize, c: usize, kept: &mut [f64]) -> Four
+    requires { ⌜ (i < c) × (c ≤ 2048) × (c + c + c + c ≤ length (now w)) × (first ≡ packed (i + 1) i) × (length (now l) ≡ packedLength c) × (c ≤ length (now kept)) ⌝ }
     ensures { λ r. ⌜ ColFour (now (l .entry)) (now (w .entry)) i c r ⌝ }
+    ensures { λ _. ⌜ KeptBefore (now (l .entry)) i c (now (kept .entry)) (now (kept .exit)) ⌝ }
 {
     let third = c + c;
     let fourth = third + c;
@@ -50,6 +52,7 @@ fn col_dots(l: &[f64], w: &[f64], i: usize, first: usize, c: usize) -> Four
     let mut at = first;
     let mut j = i + 1;
     while j < c {
+        kept[j] = l[at - 1];
         let x = l[at];
         s += x * w[j];
         t += x * w[c + j];
@@ -64,6 +67,32 @@ fn col_dots(l: &[f64], w: &[f64], i: usize, first: usize, c: usize) -> Four
         c: u,
         d: v,
     }
+}
+
+// The same sums, from the column that is kept where it is known, else down the column; end is past row i.
+fn col_sums(
+    l: &[f64],
+    w: &[f64],
+    i: usize,
+    end: usize,
+    c: usize,
+    known: bool,
+    kept: &mut [f64],
+) -> Four
+    requires { ⌜ (i < c) × (c ≤ 2048) × (c + c + c + c ≤ length (now w)) × (end ≡ packedLength (i + 1)) × (length (now l) ≡ packedLength c) × (c ≤ length (now kept)) ⌝ }
+    requires { ⌜ (known ≡ true → Column (now l) i c (now kept)) ⌝ }
+    ensures { λ r. ⌜ ColFour (now (l .entry)) (now (w .entry)) i c r ⌝ }
+    ensures { λ _. ⌜ (length (now (kept .exit)) ≡ length (now (kept .entry))) × (known ≡ false → 0 < i → Column (now (l .entry)) (i - 1) c (now (kept .exit))) ⌝ }
+{
+    if known {
+        let first = i + 1;
+        return row_dots(&kept[..], &w[first..], c - first, first, c);
+    }
+    let sums = col_dots(l, w, i, end + i, c, kept);
+    if 0 < i {
+        kept[i] = l[end - 2];
+    }
+    sums
 }
 
 // The number i of each right-hand side, less its sum, over the pivot.
@@ -102,12 +131,15 @@ pub fn backward_four(l: &[f64], w: &mut [f64], c: usize)
     requires { ⌜ (c ≤ 2048) × (length (now w) ≡ c + c + c + c) × (length (now l) ≡ packedLength c) ⌝ }
     ensures { λ _. ⌜ Backward4 (now (l .entry)) c (now (w .entry)) (now (w .exit)) c ⌝ }
 {
+    let mut kept = [0.0; 2048];
+    let mut known = false;
     let mut end = l.len();
     let mut k = 0;
     while k < c {
         let i = c - 1 - k;
-        let x = col_dots(l, w, i, end + i, c);
+        let x = col_sums(l, w, i, end, c, known, &mut kept[..]);
         put_lanes(w, c, i, x, l[end - 1]);
+        known = !known;
         end -= i + 1;
         k += 1;
     }

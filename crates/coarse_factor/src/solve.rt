@@ -1,12 +1,10 @@
 // The solves with a packed factor, in place.
 ghost use mathlib.Core.Path.{_≡_};
-ghost use Prim.Native.Nat.{suc, _+_, _-_, _*_, _<_, _≤_, _^_};
-ghost use lib.ListN.{length, getD};
-ghost use lib.Ieee.{nan};
-ghost use Rattle.definitions.specs.Lists.{tab};
-ghost use Rattle.definitions.specs.Numbers.{summed, _*ᶠ_};
-ghost use Rattle.coarse_factor.specs.Lanes.{rowSum};
-ghost use Rattle.definitions.specs.Coarse.{packed, packedEntry, packedLength, packedForward, packedBackward, packedSolve};
+ghost use mathlib.Core.Bool.{true, false};
+ghost use Prim.Native.Nat.{suc, _+_, _-_, _<_, _≤_};
+ghost use lib.ListN.{length};
+ghost use Rattle.coarse_factor.specs.Lanes.{rowSum, colSum, Column, KeptBefore};
+ghost use Rattle.definitions.specs.Coarse.{packed, packedLength, packedForward, packedBackward, packedSolve};
 
 // The n numbers of l from start on, by those of y: a sum from -0.
 pub fn row_dot(l: &[f64], y: &[f64], n: usize, start: usize) -> f64
@@ -33,36 +31,60 @@ pub fn forward(l: &[f64], y: &mut [f64])
     }
 }
 
-// The column i of a packed factor below the diagonal, by y; it begins at first.
-fn col_dot(l: &[f64], y: &[f64], i: usize, first: usize) -> f64
-    requires { ⌜ (i < length (now y)) × (first ≡ packed (i + 1) i) × (length (now l) ≡ packedLength (length (now y))) × (length (now l) < 2 ^ 60) × (length (now y) < 2 ^ 60) ⌝ }
-    ensures { λ r. ⌜ r ≡ summed (tab (λ m. packedEntry (now (l .entry)) (suc i + m) i *ᶠ getD (now (y .entry)) (suc i + m) nan) (length (now (y .entry)) - suc i)) ⌝ }
+// The column i of a packed factor below the diagonal, by y; it begins at first. What stands before each of its numbers, the column i - 1, is
+// kept on the way: numbers of two rows stand far apart, and so each is fetched for two columns.
+fn col_dot(l: &[f64], y: &[f64], i: usize, first: usize, kept: &mut [f64]) -> f64
+    requires { ⌜ (i < length (now y)) × (first ≡ packed (i + 1) i) × (length (now l) ≡ packedLength (length (now y))) × (length (now y) ≤ length (now kept)) × (length (now y) ≤ 2048) ⌝ }
+    ensures { λ r. ⌜ r ≡ colSum (now (l .entry)) (now (y .entry)) i (length (now (y .entry)) - suc i) ⌝ }
+    ensures { λ _. ⌜ KeptBefore (now (l .entry)) i (length (now (y .entry))) (now (kept .entry)) (now (kept .exit)) ⌝ }
 {
     let mut sum = -0.0;
     let mut at = first;
     for j in i + 1..y.len() {
+        kept[j] = l[at - 1];
         sum += l[at] * y[j];
         at += j + 1;
     }
     sum
 }
 
+// The same sum, from the column that is kept where it is known, else down the column; end is past row i.
+fn col_sum(l: &[f64], y: &[f64], i: usize, end: usize, known: bool, kept: &mut [f64]) -> f64
+    requires { ⌜ (i < length (now y)) × (end ≡ packedLength (i + 1)) × (length (now l) ≡ packedLength (length (now y))) × (length (now y) ≤ length (now kept)) × (length (now y) ≤ 2048) ⌝ }
+    requires { ⌜ (known ≡ true → Column (now l) i (length (now y)) (now kept)) ⌝ }
+    ensures { λ r. ⌜ r ≡ colSum (now (l .entry)) (now (y .entry)) i (length (now (y .entry)) - suc i) ⌝ }
+    ensures { λ _. ⌜ (length (now (kept .exit)) ≡ length (now (kept .entry))) × (known ≡ false → 0 < i → Column (now (l .entry)) (i - 1) (length (now (y .entry))) (now (kept .exit))) ⌝ }
+{
+    if known {
+        let first = i + 1;
+        return row_dot(&kept[..], &y[first..], y.len() - first, first);
+    }
+    let sum = col_dot(l, y, i, end + i, kept);
+    if 0 < i {
+        kept[i] = l[end - 2];
+    }
+    sum
+}
+
 // Lᵀ x = y, in place.
 pub fn backward(l: &[f64], y: &mut [f64])
-    requires { ⌜ (length (now l) ≡ packedLength (length (now y))) × (length (now l) < 2 ^ 60) × (length (now y) < 2 ^ 60) ⌝ }
+    requires { ⌜ (length (now l) ≡ packedLength (length (now y))) × (length (now y) ≤ 2048) ⌝ }
     ensures { λ _. ⌜ now (y .exit) ≡ packedBackward (now (l .entry)) (length (now (y .entry))) (now (y .entry)) (length (now (y .entry))) ⌝ }
 {
+    let mut kept = [0.0; 2048];
+    let mut known = false;
     let mut end = l.len();
     for k in 0..y.len() {
         let i = y.len() - 1 - k;
-        let sum = col_dot(l, y, i, end + i);
+        let sum = col_sum(l, y, i, end, known, &mut kept[..]);
         y[i] = (y[i] - sum) / l[end - 1];
+        known = !known;
         end -= i + 1;
     }
 }
 
 pub fn solve(l: &[f64], y: &mut [f64])
-    requires { ⌜ (length (now l) ≡ packedLength (length (now y))) × (length (now l) < 2 ^ 60) × (length (now y) < 2 ^ 60) ⌝ }
+    requires { ⌜ (length (now l) ≡ packedLength (length (now y))) × (length (now y) ≤ 2048) ⌝ }
     ensures { λ _. ⌜ now (y .exit) ≡ packedSolve (length (now (y .entry))) (now (l .entry)) (now (y .entry)) ⌝ }
 {
     forward(l, y);

@@ -1,16 +1,11 @@
 use lib.ListN.{length}
 use Rattle.definitions.specs.Coarse.{packedLength}
-use Rattle.coarse_factor.proofs.Cholesky.{triangle-small}
 use Rattle.coarse_factor.proofs.Rows.{length-unit}
 use mathlib.Core.Path.{_≡_, ap, sym, _∙_}
 use native.Mathlib.Omega.{arith}
 use borrow.Author.Needs.{needs}
 use Rattle.coarse_factor.proofs.inverse.unit_solve.Statement.{statement}
 use Rattle.coarse_factor.proofs.inverse.unit_solve.Tie as tie
-use Rattle.coarse_factor.proofs.inverse.unit_solve.Reads as reads
-use Rattle.coarse_factor.proofs.inverse.unit_solve.Lts as lts
-use Rattle.coarse_factor.proofs.inverse.set_unit.Reads as set-unit-reads
-use Rattle.coarse_factor.proofs.solve.solve.Reads as solve-reads
 
 set-unit-requires : tie.Need-set-unit-requires
 set-unit-requires c κs = search needs
@@ -20,7 +15,7 @@ solve-requires c κs =
     let a = c .before .before .before .before .before .before .before .args in
     let p = c .before .before .before .before .before .before .before .pre in
     let n : length (c .before .before .before .set-unit .last .0) ≡ length (a .y .now) = ap length (c .before .before .before .set-unit .ensures) ∙ length-unit (length (a .y .now)) (a .i) in
-    (p .0 ∙ ap (λ t. packedLength t) (sym n), omega (arith, p .0, triangle-small (length (a .y .now)) (p .2)), omega (arith, n, p .2))
+    (p .0 ∙ ap (λ t. packedLength t) (sym n), omega (arith, n, p .2))
 
 same-length : tie.Need-same-length
 same-length c = search needs

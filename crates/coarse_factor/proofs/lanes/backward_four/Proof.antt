@@ -1,25 +1,23 @@
 use lib.ListN.{length, getD}
 use lib.Ieee.{nan}
 use Rattle.definitions.specs.Coarse.{packedLength}
-use Rattle.coarse_factor.specs.Lanes.{Backward4}
+use Rattle.coarse_factor.specs.Lanes.{Backward4, Column}
 use Rattle.coarse_factor.proofs.Packed.{tri-back, back-facts, back-end}
+use Rattle.coarse_factor.proofs.Kept.{kept-here, kept-next}
 use Rattle.coarse_factor.proofs.Sides.{backward4-none, backward4-more}
-use Prim.Native.Nat.{ℕ, suc, _+_, _≤_, _-_}
-use mathlib.Core.Path.{_≡_, ap, sym}
+use Prim.Native.Nat.{ℕ, suc, _+_, _<_, _≤_, _-_}
+use mathlib.Core.Path.{_≡_, refl, ap, sym, _∙_}
+use mathlib.Core.Bool.{true, true≢false}
 use native.Mathlib.Omega.{arith}
 use borrow.Author.Needs.{needs}
 use Rattle.coarse_factor.proofs.lanes.backward_four.Statement.{statement}
 use Rattle.coarse_factor.proofs.lanes.backward_four.Tie as tie
-use Rattle.coarse_factor.proofs.lanes.backward_four.Reads as reads
-use Rattle.coarse_factor.proofs.lanes.backward_four.Lts as lts
-use Rattle.coarse_factor.proofs.lanes.col_dots.Reads as col-dots-reads
-use Rattle.coarse_factor.proofs.lanes.put_lanes.Reads as put-lanes-reads
 
 abbrev Inv-loop : tie.InvT-loop
-Inv-loop l w₀ c end₀ k₀ w end k = (k ≤ c) × (end ≡ packedLength (c - k)) × Backward4 l c w₀ w k
+Inv-loop l w₀ c kept₀ known₀ end₀ k₀ w kept known end k = (k ≤ c) × (end ≡ packedLength (c - k)) × Backward4 l c w₀ w k × (length kept ≡ 2_048) × (known ≡ true → k < c → Column l (c - suc k) c kept)
 
 abbrev μ-loop : tie.MeasureT-loop
-μ-loop l w₀ c end₀ k₀ w end k = c - k
+μ-loop l w₀ c kept₀ known₀ end₀ k₀ w kept known end k = c - k
 
 abbrev row : (c : tie.In-loop Inv-loop μ-loop) → ℕ
 row c = c .before .before .before .before .args .c - 1 - c .before .loop .k
@@ -36,7 +34,7 @@ loop-holds : tie.Need-loop-holds Inv-loop μ-loop
 loop-holds c =
     let a = c .before .before .args in
     let z : a .c - 0 ≡ a .c = omega arith in
-    (omega arith, rw z (c .before .before .pre .2), backward4-none (a .l .now) (a .c) (a .w .now) (c .before .before .pre .1))
+    (omega arith, rw z (c .before .before .pre .2), backward4-none (a .l .now) (a .c) (a .w .now) (c .before .before .pre .1), refl, λ e. absurd (true≢false (sym e)))
 
 sub-i : tie.Need-sub-i Inv-loop μ-loop
 sub-i c = omega arith
@@ -44,33 +42,36 @@ sub-i c = omega arith
 sub-i-2 : tie.Need-sub-i-2 Inv-loop μ-loop
 sub-i-2 c = omega arith
 
-add-col-dots : tie.Need-add-col-dots Inv-loop μ-loop
-add-col-dots c = omega (arith, facts (c .before))
+slice-aggregate-col-sums : tie.Need-slice-aggregate-col-sums Inv-loop μ-loop
+slice-aggregate-col-sums c = sym (c .before .before .before .loop .inv .3)
 
-col-dots-requires : tie.Need-col-dots-requires Inv-loop μ-loop
-col-dots-requires c κs =
-    let a = c .before .before .before .before .before .args in
-    let p = c .before .before .before .before .before .pre in
-    let f = facts (c .before) in
-    (omega arith, p .0, omega (arith, c .before .before .loop .inv .2 .long, p .1), ap (λ n. n + row (c .before)) (f .1), p .2)
+col-sums-requires : tie.Need-col-sums-requires Inv-loop μ-loop
+col-sums-requires c κs =
+    let s = c .before .before .before .before .before .before in
+    let a = s .args in
+    let o = c .before .before .before .loop in
+    let f = facts (c .before .before) in (
+      (omega arith, s .pre .0, omega (arith, o .inv .2 .long, s .pre .1), f .1, s .pre .2, omega (arith, s .pre .0, o .inv .3)),
+      λ e. kept-here (a .l .now) (o .kept) (a .c) (a .c) (o .k) (row (c .before .before)) refl (f .0) (o .inv .4 e (omega arith)),
+    )
 
 sub-put-lanes : tie.Need-sub-put-lanes Inv-loop μ-loop
-sub-put-lanes c = omega (arith, facts (c .before .before .before))
+sub-put-lanes c = omega (arith, facts (c .before .before .before .before .before))
 
 mul-put-lanes : tie.Need-mul-put-lanes Inv-loop μ-loop
-mul-put-lanes c = omega (arith, facts (c .before .before .before))
+mul-put-lanes c = omega (arith, facts (c .before .before .before .before .before))
 
 shared-slice-read-put-lanes : tie.Need-shared-slice-read-put-lanes Inv-loop μ-loop
-shared-slice-read-put-lanes c = omega (arith, facts (c .before .before .before .before))
+shared-slice-read-put-lanes c = omega (arith, facts (c .before .before .before .before .before .before))
 
 put-lanes-requires : tie.Need-put-lanes-requires Inv-loop μ-loop
-put-lanes-requires c κs = (omega arith, omega (arith, c .before .before .before .before .before .loop .inv .2 .long, c .before .before .before .before .before .before .before .before .pre .1))
+put-lanes-requires c κs = (omega arith, omega (arith, c .before .before .before .before .before .before .before .loop .inv .2 .long, c .before .before .before .before .before .before .before .before .before .before .pre .1))
 
 add-end : tie.Need-add-end Inv-loop μ-loop
-add-end c = omega (arith, facts (c .before .before .before .before .before .before .before))
+add-end c = omega (arith, facts (c .before .before .before .before .before .before .before .before .before))
 
 sub-end : tie.Need-sub-end Inv-loop μ-loop
-sub-end c = omega (arith, facts (c .before .before .before .before .before .before .before))
+sub-end c = omega (arith, facts (c .before .before .before .before .before .before .before .before .before))
 
 add-k : tie.Need-add-k Inv-loop μ-loop
 add-k c = search needs
@@ -80,15 +81,18 @@ loop-less c = omega arith
 
 loop-again : tie.Need-loop-again Inv-loop μ-loop
 loop-again c =
-    let a = c .before .before .before .before .before .before .before .before .before .before .before .args in
-    let p = c .before .before .before .before .before .before .before .before .before .before .before .pre in
-    let o = c .before .before .before .before .before .before .before .before .loop in
-    let f = facts (c .before .before .before .before .before .before .before) in
-    let i = row (c .before .before .before .before .before .before .before) in (
+    let s = c .before .before .before .before .before .before .before .before .before .before .before .before .before in
+    let a = s .args in
+    let o = c .before .before .before .before .before .before .before .before .before .before .loop in
+    let d = c .before .before .before .before .before .before .col-sums in
+    let f = facts (c .before .before .before .before .before .before .before .before .before) in
+    let i = row (c .before .before .before .before .before .before .before .before .before) in (
       omega arith,
       back-end (o .end) (o .k) (a .c) i (f .0) (f .2),
-      backward4-more (a .l .now) (a .c) (a .w .now) (o .w) (c .before .before .put-lanes .last .0) (o .k) i (c .before .before .before .before .before .col-dots .result) (getD (a .l .now) (o .end - 1) nan) (omega arith) (f .0) (p .1) (o .inv .2) (c .before .before .before .before .before .col-dots .ensures)
+      backward4-more (a .l .now) (a .c) (a .w .now) (o .w) (c .before .before .put-lanes .last .0) (o .k) i (d .result) (getD (a .l .now) (o .end - 1) nan) (omega arith) (f .0) (s .pre .1) (o .inv .2) (d .ensures .0)
           (ap (λ n. getD (a .l .now) n nan) (sym (tri-back (o .end) i (f .1) .1))) (c .before .before .put-lanes .ensures),
+      d .ensures .1 .0 ∙ o .inv .3,
+      kept-next (a .l .now) (d .last .1 .1 .1 .1 .1 .1 .0) (a .c) (a .c) (o .k) i refl (f .0) (o .known) (d .ensures .1 .1),
     )
 
 same-length : tie.Need-same-length Inv-loop μ-loop
@@ -106,8 +110,8 @@ backward-four-spec =
     loop-holds
     sub-i
     sub-i-2
-    add-col-dots
-    col-dots-requires
+    slice-aggregate-col-sums
+    col-sums-requires
     sub-put-lanes
     mul-put-lanes
     shared-slice-read-put-lanes

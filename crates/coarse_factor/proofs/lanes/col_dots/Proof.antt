@@ -1,27 +1,26 @@
 use lib.ListN.{length, drop}
-use Rattle.definitions.specs.Coarse.{packed, packedLength}
-use Rattle.coarse_factor.specs.Lanes.{colSum}
-use Rattle.coarse_factor.proofs.Packed.{tri-row, next-at, col-none}
-use Rattle.coarse_factor.proofs.Cholesky.{triangle-small}
+use Rattle.definitions.specs.Coarse.{packed}
+use Rattle.coarse_factor.specs.Lanes.{colSum, KeptBefore}
+use Rattle.coarse_factor.proofs.Packed.{next-at, col-none}
+use Rattle.coarse_factor.proofs.Kept.{walk-room, kept-none, kept-more}
 use Rattle.coarse_factor.proofs.Sides.{col-more}
 use Prim.Native.Nat.{suc, _+_, _<_, _≤_, _-_}
 use mathlib.Core.Path.{_≡_}
 use native.Mathlib.Omega.{arith}
 use Rattle.coarse_factor.proofs.lanes.col_dots.Statement.{statement}
 use Rattle.coarse_factor.proofs.lanes.col_dots.Tie as tie
-use Rattle.coarse_factor.proofs.lanes.col_dots.Reads as reads
-use Rattle.coarse_factor.proofs.lanes.col_dots.Lts as lts
 
 abbrev Inv-loop : tie.InvT-loop
-Inv-loop l w i first c third fourth s₀ t₀ u₀ v₀ at₀ j₀ s t u v at j = (i < j) × (j ≤ c) × (at ≡ packed j i) × (s ≡ colSum l w i (j - suc i)) × (t ≡ colSum l (drop c w) i (j - suc i)) × (u ≡ colSum l (drop (c + c) w) i (j - suc i)) × (v ≡ colSum l (drop (c + c + c) w) i (j - suc i))
+Inv-loop l w i first c kept₀ third fourth s₀ t₀ u₀ v₀ at₀ j₀ kept s t u v at j = (i < j) × (j ≤ c) × (at ≡ packed j i) × (s ≡ colSum l w i (j - suc i)) × (t ≡ colSum l (drop c w) i (j - suc i)) × (u ≡ colSum l (drop (c + c) w) i (j - suc i)) × (v ≡ colSum l (drop (c + c + c) w) i (j - suc i)) × KeptBefore l i j kept₀ kept
 
 abbrev μ-loop : tie.MeasureT-loop
-μ-loop l w i first c third fourth s₀ t₀ u₀ v₀ at₀ j₀ s t u v at j = c - j
+μ-loop l w i first c kept₀ third fourth s₀ t₀ u₀ v₀ at₀ j₀ kept s t u v at j = c - j
 
-room : (c : tie.In-loop Inv-loop μ-loop) → (c .before .loop .at < length (c .before .before .args .l .now)) × (length (c .before .before .args .l .now) ≡ packedLength (c .before .before .args .c))
+room : (c : tie.In-loop Inv-loop μ-loop) → (0 < c .before .loop .at) × (c .before .loop .at < length (c .before .before .args .l .now)) × (length (c .before .before .args .l .now) < 2_098_177)
 room c =
+    let p = c .before .before .pre in
     let o = c .before .loop in
-    (omega (arith, o .inv .2, c .before .before .pre .4, tri-row (o .j) (c .before .before .args .c) (omega arith)), c .before .before .pre .4)
+    rw (p .4) (walk-room (o .at) (c .before .before .args .i) (o .j) (c .before .before .args .c) (o .inv .0) (omega arith) (p .1) (o .inv .2))
 
 add-third : tie.Need-add-third Inv-loop μ-loop
 add-third c = omega arith
@@ -35,13 +34,28 @@ add-j c = omega arith
 loop-holds : tie.Need-loop-holds Inv-loop μ-loop
 loop-holds c =
     let a = c .args in
-    (omega arith, omega arith, c .pre .3, col-none (a .l .now) (a .w .now) (a .i), col-none (a .l .now) (drop (a .c) (a .w .now)) (a .i), col-none (a .l .now) (drop (a .c + a .c) (a .w .now)) (a .i), col-none (a .l .now) (drop (a .c + a .c + a .c) (a .w .now)) (a .i))
+    (omega arith, omega arith, c .pre .3, col-none (a .l .now) (a .w .now) (a .i), col-none (a .l .now) (drop (a .c) (a .w .now)) (a .i), col-none (a .l .now) (drop (a .c + a .c) (a .w .now)) (a .i), col-none (a .l .now) (drop (a .c + a .c + a .c) (a .w .now)) (a .i), kept-none (a .l .now) (a .kept .now) (a .i))
+
+sub-kept : tie.Need-sub-kept Inv-loop μ-loop
+sub-kept c = omega (arith, room c)
+
+mul-kept : tie.Need-mul-kept Inv-loop μ-loop
+mul-kept c = omega (arith, room c)
+
+shared-slice-read-kept : tie.Need-shared-slice-read-kept Inv-loop μ-loop
+shared-slice-read-kept c = omega (arith, room (c .before))
+
+mul-kept-2 : tie.Need-mul-kept-2 Inv-loop μ-loop
+mul-kept-2 c = omega arith
+
+slice-write-kept : tie.Need-slice-write-kept Inv-loop μ-loop
+slice-write-kept c = omega (arith, c .before .before .loop .inv .7 .long)
 
 mul-x : tie.Need-mul-x Inv-loop μ-loop
-mul-x c = omega (arith, room c)
+mul-x c = omega (arith, room (c .before))
 
 shared-slice-read-x : tie.Need-shared-slice-read-x Inv-loop μ-loop
-shared-slice-read-x c = omega (arith, room (c .before))
+shared-slice-read-x c = omega (arith, room (c .before .before))
 
 mul-s : tie.Need-mul-s Inv-loop μ-loop
 mul-s c = omega arith
@@ -80,7 +94,7 @@ add-at : tie.Need-add-at Inv-loop μ-loop
 add-at c = omega arith
 
 add-at-2 : tie.Need-add-at-2 Inv-loop μ-loop
-add-at-2 c = omega (arith, room (c .before .before .before .before .before), triangle-small (c .before .before .before .before .before .before .before .args .c) (omega arith))
+add-at-2 c = omega (arith, room (c .before .before .before .before .before .before))
 
 add-j-2 : tie.Need-add-j-2 Inv-loop μ-loop
 add-j-2 c = omega arith
@@ -90,8 +104,8 @@ loop-less c = omega arith
 
 loop-again : tie.Need-loop-again Inv-loop μ-loop
 loop-again c =
-    let a = c .before .before .before .before .before .before .before .args in
-    let o = c .before .before .before .before .before .before .loop in
+    let a = c .before .before .before .before .before .before .before .before .args in
+    let o = c .before .before .before .before .before .before .before .loop in
     let z : 0 + o .j ≡ o .j = omega arith in (
       omega arith,
       omega arith,
@@ -100,13 +114,17 @@ loop-again c =
       col-more (a .l .now) (a .w .now) (a .c) (a .i) (o .j) (o .at) (o .t) (o .inv .0) (o .inv .2) (o .inv .4),
       col-more (a .l .now) (a .w .now) (a .c + a .c) (a .i) (o .j) (o .at) (o .u) (o .inv .0) (o .inv .2) (o .inv .5),
       col-more (a .l .now) (a .w .now) (a .c + a .c + a .c) (a .i) (o .j) (o .at) (o .v) (o .inv .0) (o .inv .2) (o .inv .6),
+      kept-more (a .l .now) (a .kept .now) (o .kept) (a .i) (o .j) (o .at) (omega arith) (o .inv .2) (o .inv .7),
     )
+
+same-length : tie.Need-same-length Inv-loop μ-loop
+same-length c = c .before .loop .inv .7 .long
 
 returns : tie.Need-returns Inv-loop μ-loop
 returns c =
     let o = c .before .loop in
     let e : o .j ≡ c .before .before .args .c = omega arith in
-    record { first = rw e at (o .inv .3); second = rw e at (o .inv .4); third = rw e at (o .inv .5); fourth = rw e at (o .inv .6) }
+    (record { first = rw e at (o .inv .3); second = rw e at (o .inv .4); third = rw e at (o .inv .5); fourth = rw e at (o .inv .6) }, rw e at (o .inv .7))
 
 pub col-dots-spec : {M : Type 1} → statement M
 col-dots-spec =
@@ -118,6 +136,11 @@ col-dots-spec =
     add-fourth
     add-j
     loop-holds
+    sub-kept
+    mul-kept
+    shared-slice-read-kept
+    mul-kept-2
+    slice-write-kept
     mul-x
     shared-slice-read-x
     mul-s
@@ -136,4 +159,5 @@ col-dots-spec =
     add-j-2
     loop-less
     loop-again
+    same-length
     returns)

@@ -10,10 +10,6 @@ use native.Mathlib.Omega.{arith}
 use borrow.Author.Needs.{needs}
 use Rattle.coarse_factor.proofs.lanes.forward_four.Statement.{statement}
 use Rattle.coarse_factor.proofs.lanes.forward_four.Tie as tie
-use Rattle.coarse_factor.proofs.lanes.forward_four.Reads as reads
-use Rattle.coarse_factor.proofs.lanes.forward_four.Lts as lts
-use Rattle.coarse_factor.proofs.lanes.put_lanes.Reads as put-lanes-reads
-use Rattle.coarse_factor.proofs.lanes.row_dots.Reads as row-dots-reads
 
 abbrev Inv-loop : tie.InvT-loop
 Inv-loop l w₀ c start₀ i₀ w start i = (i ≤ c) × (start ≡ packedLength i) × Forward4 l c w₀ w i
@@ -31,7 +27,7 @@ loop-holds : tie.Need-loop-holds Inv-loop μ-loop
 loop-holds c = (omega arith, refl, forward4-none (c .before .before .args .l .now) (c .before .before .args .c) (c .before .before .args .w .now))
 
 row-dots-requires : tie.Need-row-dots-requires Inv-loop μ-loop
-row-dots-requires c κs = let f = room (c .before) in (omega arith, omega arith, omega arith)
+row-dots-requires c κs = let f = room (c .before) in (omega arith, omega arith)
 
 add-put-lanes : tie.Need-add-put-lanes Inv-loop μ-loop
 add-put-lanes c = omega (arith, room (c .before .before .before))

@@ -1,24 +1,24 @@
 use Prim.Native.Nat.{ℕ, suc, _+_, _<_, _≤_, _-_}
-use mathlib.Core.Path.{_≡_, refl, sym, ap}
+use mathlib.Core.Path.{_≡_, refl, sym, ap, _∙_}
+use mathlib.Core.Bool.{true, true≢false}
 use mathlib.Core.List.{_++_}
 use native.Mathlib.Omega.{arith}
 use lib.ListN.{length, getD, take, length-set}
 use lib.Ieee.{nan}
 use Rattle.definitions.specs.Numbers.{_-ᶠ_, _/ᶠ_}
 use Rattle.definitions.specs.Coarse.{packedLength, packedBackward}
+use Rattle.coarse_factor.specs.Lanes.{Column}
+use Rattle.coarse_factor.proofs.Kept.{kept-here, kept-next}
 use Rattle.coarse_factor.proofs.Packed.{back-facts, back-end, backward-none, backward-step, backward-all, tri-back}
 use borrow.Author.Needs.{needs}
 use Rattle.coarse_factor.proofs.solve.backward.Statement.{statement}
 use Rattle.coarse_factor.proofs.solve.backward.Tie as tie
-use Rattle.coarse_factor.proofs.solve.backward.Reads as reads
-use Rattle.coarse_factor.proofs.solve.backward.Lts as lts
-use Rattle.coarse_factor.proofs.solve.col_dot.Reads as col-dot-reads
 
 abbrev Inv-loop : tie.InvT-loop
-Inv-loop l y₀ end₀ k₀ k-end y end k = (k ≤ k-end) × (k-end ≡ length y₀) × (length y ≡ length y₀) × (end ≡ packedLength (length y₀ - k)) × (y ≡ take (length y₀ - k) y₀ ++ packedBackward l (length y₀) y₀ k)
+Inv-loop l y₀ kept₀ known₀ end₀ k₀ k-end y kept known end k = (k ≤ k-end) × (k-end ≡ length y₀) × (length y ≡ length y₀) × (end ≡ packedLength (length y₀ - k)) × (y ≡ take (length y₀ - k) y₀ ++ packedBackward l (length y₀) y₀ k) × (length kept ≡ 2_048) × (known ≡ true → k < length y₀ → Column l (length y₀ - suc k) (length y₀) kept)
 
 abbrev μ-loop : tie.MeasureT-loop
-μ-loop l y₀ end₀ k₀ k-end y end k = k-end - k
+μ-loop l y₀ kept₀ known₀ end₀ k₀ k-end y kept known end k = k-end - k
 
 abbrev row : (c : tie.In-loop Inv-loop μ-loop) → ℕ
 row c = length (c .before .loop .y) - 1 - c .before .loop .k
@@ -38,7 +38,7 @@ loop-holds c =
     let s = c .before .before in
     let a = s .args in
     let z : length (a .y .now) - 0 ≡ length (a .y .now) = omega arith in
-    (omega arith, refl, refl, rw z (s .pre .0), backward-none (a .l .now) (a .y .now) (length (a .y .now)))
+    (omega arith, refl, refl, rw z (s .pre .0), backward-none (a .l .now) (a .y .now) (length (a .y .now)), refl, λ e. absurd (true≢false (sym e)))
 
 sub-i : tie.Need-sub-i Inv-loop μ-loop
 sub-i c = search needs
@@ -46,41 +46,45 @@ sub-i c = search needs
 sub-i-2 : tie.Need-sub-i-2 Inv-loop μ-loop
 sub-i-2 c = search needs
 
-add-col-dot : tie.Need-add-col-dot Inv-loop μ-loop
-add-col-dot c = omega (arith, facts (c .before))
+slice-aggregate-col-sum : tie.Need-slice-aggregate-col-sum Inv-loop μ-loop
+slice-aggregate-col-sum c = sym (c .before .before .before .loop .inv .5)
 
-col-dot-requires : tie.Need-col-dot-requires Inv-loop μ-loop
-col-dot-requires c κs =
-    let s = c .before .before .before .before .before in
-    let l = c .before .before .loop in
-    (omega (arith, row-is (c .before)), ap (λ n. n + row (c .before)) (facts (c .before) .0), rw (l .inv .2) (s .pre .0), s .pre .1, omega (arith, s .pre .2, l .inv .2))
+col-sum-requires : tie.Need-col-sum-requires Inv-loop μ-loop
+col-sum-requires c κs =
+    let s = c .before .before .before .before .before .before in
+    let o = c .before .before .before .loop in
+    let r = row-is (c .before .before) in
+    let n = o .inv .2 in (
+      (omega arith, facts (c .before .before) .0, rw n (s .pre .0), omega (arith, s .pre .1, n, o .inv .5), omega (arith, s .pre .1, n)),
+      λ e. kept-here (s .args .l .now) (o .kept) (length (o .y)) (length (s .args .y .now)) (o .k) (row (c .before .before)) n (r .1) (o .inv .6 e (r .0)),
+    )
 
 mul-y : tie.Need-mul-y Inv-loop μ-loop
-mul-y c = omega (arith, facts (c .before .before), row-is (c .before .before))
+mul-y c = omega (arith, facts (c .before .before .before .before), row-is (c .before .before .before .before))
 
 slice-read-y : tie.Need-slice-read-y Inv-loop μ-loop
-slice-read-y c = omega (arith, facts (c .before .before .before), row-is (c .before .before .before))
+slice-read-y c = omega (arith, facts (c .before .before .before .before .before), row-is (c .before .before .before .before .before))
 
 sub-y : tie.Need-sub-y Inv-loop μ-loop
-sub-y c = omega (arith, facts (c .before .before .before), row-is (c .before .before .before))
+sub-y c = omega (arith, facts (c .before .before .before .before .before), row-is (c .before .before .before .before .before))
 
 mul-y-2 : tie.Need-mul-y-2 Inv-loop μ-loop
-mul-y-2 c = omega (arith, facts (c .before .before .before), row-is (c .before .before .before))
+mul-y-2 c = omega (arith, facts (c .before .before .before .before .before), row-is (c .before .before .before .before .before))
 
 shared-slice-read-y : tie.Need-shared-slice-read-y Inv-loop μ-loop
-shared-slice-read-y c = omega (arith, facts (c .before .before .before .before), row-is (c .before .before .before .before))
+shared-slice-read-y c = omega (arith, facts (c .before .before .before .before .before .before), row-is (c .before .before .before .before .before .before))
 
 mul-y-3 : tie.Need-mul-y-3 Inv-loop μ-loop
-mul-y-3 c = omega (arith, facts (c .before .before .before .before), row-is (c .before .before .before .before))
+mul-y-3 c = omega (arith, facts (c .before .before .before .before .before .before), row-is (c .before .before .before .before .before .before))
 
 slice-write-y : tie.Need-slice-write-y Inv-loop μ-loop
-slice-write-y c = omega (arith, facts (c .before .before .before .before), row-is (c .before .before .before .before))
+slice-write-y c = omega (arith, facts (c .before .before .before .before .before .before), row-is (c .before .before .before .before .before .before))
 
 add-end : tie.Need-add-end Inv-loop μ-loop
-add-end c = omega (arith, facts (c .before .before .before .before), row-is (c .before .before .before .before))
+add-end c = omega (arith, facts (c .before .before .before .before .before .before), row-is (c .before .before .before .before .before .before))
 
 sub-end : tie.Need-sub-end Inv-loop μ-loop
-sub-end c = omega (arith, facts (c .before .before .before .before), row-is (c .before .before .before .before))
+sub-end c = omega (arith, facts (c .before .before .before .before .before .before), row-is (c .before .before .before .before .before .before))
 
 add-k : tie.Need-add-k Inv-loop μ-loop
 add-k c = search needs
@@ -90,19 +94,21 @@ loop-less c = omega arith
 
 loop-again : tie.Need-loop-again Inv-loop μ-loop
 loop-again c =
-    let s = c .before .before .before .before .before .before .before .before in
+    let s = c .before .before .before .before .before .before .before .before .before .before in
     let a = s .args in
-    let l = c .before .before .before .before .before .loop in
-    let d = c .before .before .col-dot in
-    let i = row (c .before .before .before .before) in
-    let f = facts (c .before .before .before .before) in
-    let r = row-is (c .before .before .before .before) in (
+    let l = c .before .before .before .before .before .before .before .loop in
+    let d = c .before .before .before .col-sum in
+    let i = row (c .before .before .before .before .before .before) in
+    let f = facts (c .before .before .before .before .before .before) in
+    let r = row-is (c .before .before .before .before .before .before) in (
       omega arith,
       l .inv .1,
       simp length-set (l .inv .2),
       back-end (l .end) (l .k) (length (a .y .now)) i (r .1) (f .1),
-      backward-step (a .l .now) (a .y .now) (l .y) (l .k) i (r .0) (r .1) (l .inv .4) (d .result) ((getD (l .y) i nan -ᶠ d .result) /ᶠ getD (a .l .now) (l .end - 1) nan) (l .inv .2) (d .ensures)
+      backward-step (a .l .now) (a .y .now) (l .y) (l .k) i (r .0) (r .1) (l .inv .4) (d .result) ((getD (l .y) i nan -ᶠ d .result) /ᶠ getD (a .l .now) (l .end - 1) nan) (l .inv .2) (d .ensures .0)
           (ap (λ n. (getD (l .y) i nan -ᶠ d .result) /ᶠ getD (a .l .now) n nan) (sym (tri-back (l .end) i (f .0) .1))),
+      d .ensures .1 .0 ∙ l .inv .5,
+      kept-next (a .l .now) (d .last .1 .1 .1 .1 .1 .0) (length (l .y)) (length (a .y .now)) (l .k) i (l .inv .2) (r .1) (l .known) (d .ensures .1 .1),
     )
 
 same-length : tie.Need-same-length Inv-loop μ-loop
@@ -123,8 +129,8 @@ backward-spec =
     loop-holds
     sub-i
     sub-i-2
-    add-col-dot
-    col-dot-requires
+    slice-aggregate-col-sum
+    col-sum-requires
     mul-y
     slice-read-y
     sub-y

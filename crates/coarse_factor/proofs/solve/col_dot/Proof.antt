@@ -1,39 +1,55 @@
-use Prim.Native.Nat.{suc, _+_, _≤_, _-_}
+use Prim.Native.Nat.{suc, _<_, _≤_, _-_}
 use mathlib.Core.Path.{_≡_, refl}
 use native.Mathlib.Omega.{arith}
 use lib.ListN.{length}
-use Rattle.definitions.specs.Lists.{tab}
-use Rattle.definitions.specs.Numbers.{summed}
-use Rattle.definitions.specs.Coarse.{packed, packedLength}
-use Rattle.coarse_factor.proofs.Packed.{tri-row, next-at, colTerm, col-none, col-step}
+use Rattle.definitions.specs.Coarse.{packed}
+use Rattle.coarse_factor.specs.Lanes.{colSum, KeptBefore}
+use Rattle.coarse_factor.proofs.Packed.{next-at, col-none, col-step}
+use Rattle.coarse_factor.proofs.Kept.{walk-room, kept-none, kept-more}
 use borrow.Author.Needs.{needs}
 use Rattle.coarse_factor.proofs.solve.col_dot.Statement.{statement}
 use Rattle.coarse_factor.proofs.solve.col_dot.Tie as tie
-use Rattle.coarse_factor.proofs.solve.col_dot.Reads as reads
-use Rattle.coarse_factor.proofs.solve.col_dot.Lts as lts
 
 abbrev Inv-loop : tie.InvT-loop
-Inv-loop l y i first sum₀ at₀ j₀ j-end sum at j = (suc i ≤ j) × (j ≤ j-end) × (j-end ≡ length y) × (at ≡ packed j i) × (sum ≡ summed (tab (colTerm l y i) (j - suc i)))
+Inv-loop l y i first kept₀ sum₀ at₀ j₀ j-end kept sum at j = (suc i ≤ j) × (j ≤ j-end) × (j-end ≡ length y) × (at ≡ packed j i) × (sum ≡ colSum l y i (j - suc i)) × KeptBefore l i j kept₀ kept
 
 abbrev μ-loop : tie.MeasureT-loop
-μ-loop l y i first sum₀ at₀ j₀ j-end sum at j = j-end - j
+μ-loop l y i first kept₀ sum₀ at₀ j₀ j-end kept sum at j = j-end - j
 
-row-fits : (c : tie.In-loop Inv-loop μ-loop) → packedLength (c .before .loop .j) + suc (c .before .loop .j) ≤ length (c .before .before .args .l .now)
-row-fits c =
-    let s = c .before .before in
-    rw (s .pre .2) (tri-row (c .before .loop .j) (length (s .args .y .now)) (omega arith))
+room : (c : tie.In-loop Inv-loop μ-loop) → (0 < c .before .loop .at) × (c .before .loop .at < length (c .before .before .args .l .now)) × (length (c .before .before .args .l .now) < 2_098_177)
+room c =
+    let p = c .before .before .pre in
+    let o = c .before .loop in
+    rw (p .2) (walk-room (o .at) (c .before .before .args .i) (o .j) (length (c .before .before .args .y .now)) (o .inv .0) (omega arith) (p .4) (o .inv .3))
 
 add-j : tie.Need-add-j Inv-loop μ-loop
 add-j c = search needs
 
 loop-holds : tie.Need-loop-holds Inv-loop μ-loop
-loop-holds c = let a = c .args in (omega arith, omega arith, refl, c .pre .1, col-none (a .l .now) (a .y .now) (a .i))
+loop-holds c =
+    let a = c .args in
+    (omega arith, omega arith, refl, c .pre .1, col-none (a .l .now) (a .y .now) (a .i), kept-none (a .l .now) (a .kept .now) (a .i))
+
+sub-kept : tie.Need-sub-kept Inv-loop μ-loop
+sub-kept c = omega (arith, room c)
+
+mul-kept : tie.Need-mul-kept Inv-loop μ-loop
+mul-kept c = omega (arith, room c)
+
+shared-slice-read-kept : tie.Need-shared-slice-read-kept Inv-loop μ-loop
+shared-slice-read-kept c = omega (arith, room (c .before))
+
+mul-kept-2 : tie.Need-mul-kept-2 Inv-loop μ-loop
+mul-kept-2 c = omega arith
+
+slice-write-kept : tie.Need-slice-write-kept Inv-loop μ-loop
+slice-write-kept c = omega (arith, c .before .before .loop .inv .5 .long)
 
 mul-sum : tie.Need-mul-sum Inv-loop μ-loop
-mul-sum c = omega (arith, row-fits (c))
+mul-sum c = omega (arith, room (c .before))
 
 shared-slice-read-sum : tie.Need-shared-slice-read-sum Inv-loop μ-loop
-shared-slice-read-sum c = omega (arith, row-fits (c .before))
+shared-slice-read-sum c = omega (arith, room (c .before .before))
 
 mul-sum-2 : tie.Need-mul-sum-2 Inv-loop μ-loop
 mul-sum-2 c = search needs
@@ -42,10 +58,10 @@ shared-slice-read-sum-2 : tie.Need-shared-slice-read-sum-2 Inv-loop μ-loop
 shared-slice-read-sum-2 c = search needs
 
 add-at : tie.Need-add-at Inv-loop μ-loop
-add-at c = omega (arith, row-fits (c .before .before))
+add-at c = omega (arith, room (c .before .before .before))
 
 add-at-2 : tie.Need-add-at-2 Inv-loop μ-loop
-add-at-2 c = omega (arith, row-fits (c .before .before))
+add-at-2 c = omega (arith, room (c .before .before .before))
 
 add-j-2 : tie.Need-add-j-2 Inv-loop μ-loop
 add-j-2 c = search needs
@@ -55,15 +71,24 @@ loop-less c = omega arith
 
 loop-again : tie.Need-loop-again Inv-loop μ-loop
 loop-again c =
-    let a = c .before .before .before .before .args in
-    let l = c .before .before .before .loop in
-    (omega arith, omega arith, l .inv .2, next-at (l .at) (a .i) (l .j) (l .inv .3), col-step (a .l .now) (a .y .now) (a .i) (l .j) (l .at) (l .sum) (l .inv .0) (l .inv .3) (l .inv .4))
+    let a = c .before .before .before .before .before .args in
+    let o = c .before .before .before .before .loop in (
+      omega arith,
+      omega arith,
+      o .inv .2,
+      next-at (o .at) (a .i) (o .j) (o .inv .3),
+      col-step (a .l .now) (a .y .now) (a .i) (o .j) (o .at) (o .sum) (o .inv .0) (o .inv .3) (o .inv .4),
+      kept-more (a .l .now) (a .kept .now) (o .kept) (a .i) (o .j) (o .at) (omega arith) (o .inv .3) (o .inv .5),
+    )
+
+same-length : tie.Need-same-length Inv-loop μ-loop
+same-length c = c .before .loop .inv .5 .long
 
 returns : tie.Need-returns Inv-loop μ-loop
 returns c =
-    let l = c .before .loop in
-    let e : l .j ≡ length (c .before .before .args .y .now) = omega arith in
-    rw e at (l .inv .4)
+    let o = c .before .loop in
+    let e : o .j ≡ length (c .before .before .args .y .now) = omega arith in
+    (rw e at (o .inv .4), rw e at (o .inv .5))
 
 pub col-dot-spec : {M : Type 1} → statement M
 col-dot-spec =
@@ -73,6 +98,11 @@ col-dot-spec =
     μ-loop
     add-j
     loop-holds
+    sub-kept
+    mul-kept
+    shared-slice-read-kept
+    mul-kept-2
+    slice-write-kept
     mul-sum
     shared-slice-read-sum
     mul-sum-2
@@ -82,4 +112,5 @@ col-dot-spec =
     add-j-2
     loop-less
     loop-again
+    same-length
     returns)

@@ -2,7 +2,6 @@ use Rattle.averaging.proofs.Lists.{front-length}
 use lib.ListN.{drop}
 use mathlib.Core.List.{_++_}
 use Rattle.definitions.specs.Coarse.{packedLength}
-use Rattle.coarse_factor.proofs.Cholesky.{triangle-small}
 use Rattle.coarse_factor.proofs.Products.{factor-law}
 use Prim.Native.Nat.{_-_}
 use mathlib.Core.Path.{refl, ap, sym, _∙_}
@@ -10,10 +9,6 @@ use native.Mathlib.Omega.{arith}
 use borrow.Author.Needs.{needs}
 use Rattle.coarse_factor.proofs.stored.by_factor.Statement.{statement}
 use Rattle.coarse_factor.proofs.stored.by_factor.Tie as tie
-use Rattle.coarse_factor.proofs.stored.by_factor.Reads as reads
-use Rattle.coarse_factor.proofs.stored.by_factor.Lts as lts
-use Rattle.coarse_factor.proofs.solve.solve.Reads as solve-reads
-use Rattle.numbers.proofs.zero_floats.Reads as zero-floats-reads
 
 mul-solve : tie.Need-mul-solve
 mul-solve c = search needs
@@ -32,7 +27,7 @@ solve-requires c κs =
     let a = c .before .before .before .args in
     let p = c .before .before .before .pre in
     let n = front-length (a .work .now) (a .c) (omega arith) in
-    (p .0 ∙ ap (λ t. packedLength t) (sym n), omega (arith, triangle-small (a .c) (omega arith)), omega (arith, n))
+    (p .0 ∙ ap (λ t. packedLength t) (sym n), omega (arith, n))
 
 mul-zero-floats : tie.Need-mul-zero-floats
 mul-zero-floats c = search needs

@@ -1,0 +1,117 @@
+use Prim.Native.Nat.{_+_, _<_, _≤_}
+use mathlib.Core.Path.{refl, ap, sym, _∙_}
+use mathlib.Core.Bool.{true≢false}
+use native.Mathlib.Omega.{arith}
+use lib.ListN.{length, length-set}
+use Rattle.coarse_factor.proofs.Kept.{end-room, kept-column, kept-sums}
+use borrow.Author.Needs.{needs}
+use Rattle.coarse_factor.proofs.lanes.col_sums.Statement.{statement}
+use Rattle.coarse_factor.proofs.lanes.col_sums.Tie as tie
+use Rattle.coarse_factor.proofs.lanes.col_sums.Reads as reads
+use Rattle.coarse_factor.proofs.lanes.col_sums.Lts as lts
+use Rattle.coarse_factor.proofs.lanes.col_dots.Reads as col-dots-reads
+use Rattle.coarse_factor.proofs.lanes.row_dots.Reads as row-dots-reads
+
+-- row i ends within the factor
+room : (c : lts.Else1 (row-dots-reads.Asked, row-dots-reads.Learnt, col-dots-reads.Asked, col-dots-reads.Learnt) reads.Pre reads.Post) → (c .before .before .before .before .args .i < c .before .before .before .before .args .end) × (c .before .before .before .before .args .end ≤ length (c .before .before .before .before .args .l .now)) × (length (c .before .before .before .before .args .l .now) < 2_098_177)
+room c =
+    let s = c .before .before .before .before in
+    rw (s .pre .0 .4) (end-room (s .args .end) (s .args .i) (s .args .c) (s .pre .0 .0) (s .pre .0 .1) (s .pre .0 .3))
+
+add-first : tie.Need-add-first
+add-first c = search needs
+
+mul-row-dots : tie.Need-mul-row-dots
+mul-row-dots c = search needs
+
+sub-row-dots : tie.Need-sub-row-dots
+sub-row-dots c = search needs
+
+part-row-dots-start : tie.Need-part-row-dots-start
+part-row-dots-start c = search needs
+
+part-row-dots-end : tie.Need-part-row-dots-end
+part-row-dots-end c = search needs
+
+sub-row-dots-2 : tie.Need-sub-row-dots-2
+sub-row-dots-2 c = search needs
+
+row-dots-requires : tie.Need-row-dots-requires
+row-dots-requires c κs = search needs
+
+same-length : tie.Need-same-length
+same-length c = search needs
+
+returns : tie.Need-returns
+returns c =
+    let s = c .before .before .before .before .before .before .before in
+    let a = s .args in
+    let known = c .before .before .before .if1 .taken in
+    (kept-sums (a .l .now) (a .w .now) (a .kept .now) (a .i) (a .c) (c .row-dots .result) (s .pre .1 known) (c .row-dots .ensures), (refl, λ e. absurd (true≢false (sym known ∙ e))))
+
+add-col-dots : tie.Need-add-col-dots
+add-col-dots c = omega (arith, room c)
+
+col-dots-requires : tie.Need-col-dots-requires
+col-dots-requires c κs =
+    let s = c .before .before .before .before .before in
+    (s .pre .0 .0, s .pre .0 .1, s .pre .0 .2, ap (λ n. n + s .args .i) (s .pre .0 .3), s .pre .0 .4, s .pre .0 .5)
+
+sub-kept : tie.Need-sub-kept
+sub-kept c = omega (arith, room (c .before .before .before .before .before))
+
+mul-kept : tie.Need-mul-kept
+mul-kept c = omega (arith, room (c .before .before .before .before .before))
+
+shared-slice-read-kept : tie.Need-shared-slice-read-kept
+shared-slice-read-kept c = omega (arith, room (c .before .before .before .before .before .before))
+
+mul-kept-2 : tie.Need-mul-kept-2
+mul-kept-2 c = search needs
+
+slice-write-kept : tie.Need-slice-write-kept
+slice-write-kept c = search needs
+
+same-length-2 : tie.Need-same-length-2
+same-length-2 c = search needs
+
+returns-2 : tie.Need-returns-2
+returns-2 c =
+    let s = c .before .before .before .before .before .before .before .before .before .before in
+    let a = s .args in
+    let d = c .before .before .before .before .col-dots in
+    let k = d .ensures .1 in
+    (d .ensures .0, (simp length-set (k .long), λ e h. kept-column (a .l .now) (a .kept .now) (d .last .1 .1 .1 .1 .1 .0) (a .i) (a .c) (a .end) h (omega arith) (s .pre .0 .3) k))
+
+same-length-3 : tie.Need-same-length-3
+same-length-3 c = search needs
+
+returns-3 : tie.Need-returns-3
+returns-3 c =
+    let d = c .before .before .before .col-dots in
+    (d .ensures .0, (d .ensures .1 .long, λ e h. absurd (omega arith)))
+
+pub col-sums-spec : {M : Type 1} → statement M
+col-sums-spec =
+    tie.close
+    (tie.spec
+    add-first
+    mul-row-dots
+    sub-row-dots
+    part-row-dots-start
+    part-row-dots-end
+    sub-row-dots-2
+    row-dots-requires
+    same-length
+    returns
+    add-col-dots
+    col-dots-requires
+    sub-kept
+    mul-kept
+    shared-slice-read-kept
+    mul-kept-2
+    slice-write-kept
+    same-length-2
+    returns-2
+    same-length-3
+    returns-3)

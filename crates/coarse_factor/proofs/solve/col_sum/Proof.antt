@@ -1,0 +1,118 @@
+use Prim.Native.Nat.{_+_, _<_, _≤_}
+use mathlib.Core.Path.{refl, ap, sym, _∙_}
+use mathlib.Core.Bool.{true≢false}
+use native.Mathlib.Omega.{arith}
+use lib.ListN.{length, length-set}
+use Rattle.coarse_factor.proofs.Kept.{end-room, kept-column, kept-sum}
+use borrow.Author.Needs.{needs}
+use Rattle.coarse_factor.proofs.solve.col_sum.Statement.{statement}
+use Rattle.coarse_factor.proofs.solve.col_sum.Tie as tie
+use Rattle.coarse_factor.proofs.solve.col_sum.Reads as reads
+use Rattle.coarse_factor.proofs.solve.col_sum.Lts as lts
+use Rattle.coarse_factor.proofs.solve.col_dot.Reads as col-dot-reads
+use Rattle.coarse_factor.proofs.solve.row_dot.Reads as row-dot-reads
+
+-- row i ends within the factor
+room : (c : lts.Else1 (row-dot-reads.Asked, row-dot-reads.Learnt, col-dot-reads.Asked, col-dot-reads.Learnt) reads.Pre reads.Post) → (c .before .before .before .before .args .i < c .before .before .before .before .args .end) × (c .before .before .before .before .args .end ≤ length (c .before .before .before .before .args .l .now)) × (length (c .before .before .before .before .args .l .now) < 2_098_177)
+room c =
+    let s = c .before .before .before .before in
+    rw (s .pre .0 .2) (end-room (s .args .end) (s .args .i) (length (s .args .y .now)) (s .pre .0 .0) (s .pre .0 .4) (s .pre .0 .1))
+
+add-first : tie.Need-add-first
+add-first c = search needs
+
+mul-row-dot : tie.Need-mul-row-dot
+mul-row-dot c = search needs
+
+sub-row-dot : tie.Need-sub-row-dot
+sub-row-dot c = search needs
+
+part-row-dot-start : tie.Need-part-row-dot-start
+part-row-dot-start c = search needs
+
+part-row-dot-end : tie.Need-part-row-dot-end
+part-row-dot-end c = search needs
+
+sub-row-dot-2 : tie.Need-sub-row-dot-2
+sub-row-dot-2 c = search needs
+
+row-dot-requires : tie.Need-row-dot-requires
+row-dot-requires c κs = search needs
+
+same-length : tie.Need-same-length
+same-length c = search needs
+
+returns : tie.Need-returns
+returns c =
+    let s = c .before .before .before .before .before .before .before in
+    let a = s .args in
+    let known = c .before .before .before .if1 .taken in
+    let sum = kept-sum (a .l .now) (a .y .now) (a .kept .now) 0 (a .i) (length (a .y .now)) (s .pre .1 known) in
+    (c .row-dot .ensures ∙ sum, (refl, λ e. absurd (true≢false (sym known ∙ e))))
+
+add-col-dot : tie.Need-add-col-dot
+add-col-dot c = omega (arith, room c)
+
+col-dot-requires : tie.Need-col-dot-requires
+col-dot-requires c κs =
+    let s = c .before .before .before .before .before in
+    (s .pre .0 .0, ap (λ n. n + s .args .i) (s .pre .0 .1), s .pre .0 .2, s .pre .0 .3, s .pre .0 .4)
+
+sub-kept : tie.Need-sub-kept
+sub-kept c = omega (arith, room (c .before .before .before .before .before))
+
+mul-kept : tie.Need-mul-kept
+mul-kept c = omega (arith, room (c .before .before .before .before .before))
+
+shared-slice-read-kept : tie.Need-shared-slice-read-kept
+shared-slice-read-kept c = omega (arith, room (c .before .before .before .before .before .before))
+
+mul-kept-2 : tie.Need-mul-kept-2
+mul-kept-2 c = search needs
+
+slice-write-kept : tie.Need-slice-write-kept
+slice-write-kept c = search needs
+
+same-length-2 : tie.Need-same-length-2
+same-length-2 c = search needs
+
+returns-2 : tie.Need-returns-2
+returns-2 c =
+    let s = c .before .before .before .before .before .before .before .before .before .before in
+    let a = s .args in
+    let d = c .before .before .before .before .col-dot in
+    let k = d .ensures .1 in
+    (d .ensures .0, (simp length-set (k .long), λ e h. kept-column (a .l .now) (a .kept .now) (d .last .1 .1 .1 .1 .0) (a .i) (length (a .y .now)) (a .end) h (omega arith) (s .pre .0 .1) k))
+
+same-length-3 : tie.Need-same-length-3
+same-length-3 c = search needs
+
+returns-3 : tie.Need-returns-3
+returns-3 c =
+    let d = c .before .before .before .col-dot in
+    (d .ensures .0, (d .ensures .1 .long, λ e h. absurd (omega arith)))
+
+pub col-sum-spec : {M : Type 1} → statement M
+col-sum-spec =
+    tie.close
+    (tie.spec
+    add-first
+    mul-row-dot
+    sub-row-dot
+    part-row-dot-start
+    part-row-dot-end
+    sub-row-dot-2
+    row-dot-requires
+    same-length
+    returns
+    add-col-dot
+    col-dot-requires
+    sub-kept
+    mul-kept
+    shared-slice-read-kept
+    mul-kept-2
+    slice-write-kept
+    same-length-2
+    returns-2
+    same-length-3
+    returns-3)
