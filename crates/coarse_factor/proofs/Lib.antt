@@ -5,3 +5,4 @@ pub mod Fitting
 pub mod Products
 pub mod Rows
 pub mod Sides
+pub mod TwoRows
