@@ -6,3 +6,4 @@ pub mod Kept
 pub mod Products
 pub mod Rows
 pub mod Sides
+pub mod TwoRows

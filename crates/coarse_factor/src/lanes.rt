@@ -131,6 +131,7 @@ pub fn backward_four(l: &[f64], w: &mut [f64], c: usize)
     requires { ⌜ (c ≤ 2048) × (length (now w) ≡ c + c + c + c) × (length (now l) ≡ packedLength c) ⌝ }
     ensures { λ _. ⌜ Backward4 (now (l .entry)) c (now (w .entry)) (now (w .exit)) c ⌝ }
 {
+    // `known`: whether `kept` holds the column to come.
     let mut kept = [0.0; 2048];
     let mut known = false;
     let mut end = l.len();

@@ -20,7 +20,12 @@ mod lanes;
 mod solve;
 mod stored;
 
-// Four numbers side by side.
+// Two numbers side by side, and four.
+pub struct Two {
+    pub a: f64,
+    pub b: f64,
+}
+
 pub struct Four {
     pub a: f64,
     pub b: f64,

@@ -1,6 +1,7 @@
 // The solve with what is stored of the coarse factor: the packed factor itself, or its inverse.
 use crate::solve::row_dot;
 use crate::solve::solve;
+use crate::solve::two_rows;
 use definitions::TwoLevelCoarseApplyPolicy;
 use numbers::zero_floats;
 ghost use mathlib.Core.Path.{_≡_};
@@ -33,18 +34,24 @@ fn by_factor(c: usize, part: &[f64], work: &mut [f64])
     zero_floats(&mut work[c..]);
 }
 
-// The rows of the inverse by the first c numbers of work, into the c numbers after them.
+// The rows of the inverse by the first c numbers of work, into the c numbers after them: two at a time, and a last one alone.
 fn inverse_rows(c: usize, part: &[f64], work: &mut [f64])
     requires { ⌜ (length (now part) ≡ c * c) × (2 * c ≤ length (now work)) × (c ≤ 2048) ⌝ }
     ensures { λ _. ⌜ Products c (now (part .entry)) (now (work .entry)) (now (work .exit)) c ⌝ }
 {
     let mut base = 0;
     let mut i = 0;
-    while i < c {
+    while i + 1 < c {
+        let next = base + c;
+        let sums = two_rows(part, work, c, base, next);
+        work[c + i] = sums.a;
+        work[c + i + 1] = sums.b;
+        base = next + c;
+        i += 2;
+    }
+    if i < c {
         let sum = row_dot(part, work, c, base);
         work[c + i] = sum;
-        base += c;
-        i += 1;
     }
 }
 

@@ -1,95 +1,127 @@
-use Prim.Native.Nat.{suc, _+_, _≤_, _-_}
+use Prim.Native.Nat.{_+_, _<_, _≤_, _-_}
 use mathlib.Core.Path.{_≡_, refl, ap, _∙_}
 use mathlib.Core.List.{_++_}
 use native.Mathlib.Omega.{arith}
-use lib.ListN.{length, getD, drop, length-set}
-use lib.Ieee.{nan}
-use Rattle.definitions.specs.Numbers.{_-ᶠ_, _/ᶠ_}
+use lib.ListN.{length, drop, length-set}
 use Rattle.definitions.specs.Coarse.{packedLength, packedForward}
-use Rattle.coarse_factor.specs.Lanes.{rowSum}
-use Rattle.coarse_factor.proofs.Packed.{tri-row, tri-next, forward-none, forward-step, forward-all}
+use Rattle.coarse_factor.proofs.Packed.{tri-row, forward-none, forward-all}
+use Rattle.coarse_factor.proofs.TwoRows.{forward-one, forward-two, rows-fit, two-on}
 use borrow.Author.Needs.{needs}
 use Rattle.coarse_factor.proofs.solve.forward.Statement.{statement}
 use Rattle.coarse_factor.proofs.solve.forward.Tie as tie
-use Rattle.coarse_factor.proofs.solve.forward.Reads as reads
-use Rattle.coarse_factor.proofs.solve.forward.Lts as lts
-use Rattle.coarse_factor.proofs.solve.row_dot.Reads as row-dot-reads
 
 abbrev Inv-loop : tie.InvT-loop
-Inv-loop l y₀ start₀ i₀ i-end y start i = (i ≤ i-end) × (i-end ≡ length y₀) × (length y ≡ length y₀) × (start ≡ packedLength i) × (y ≡ packedForward l y₀ i ++ drop i y₀)
+Inv-loop l y₀ start₀ i₀ y start i = (i ≤ length y₀) × (length y ≡ length y₀) × (start ≡ packedLength i) × (y ≡ packedForward l y₀ i ++ drop i y₀)
 
 abbrev μ-loop : tie.MeasureT-loop
-μ-loop l y₀ start₀ i₀ i-end y start i = i-end - i
+μ-loop l y₀ start₀ i₀ y start i = length y₀ - i
 
-row-fits : (c : tie.In-loop Inv-loop μ-loop) → c .before .loop .start + suc (c .before .loop .i) ≤ length (c .before .before .before .before .args .l .now)
-row-fits c =
+-- both rows lie within the factor
+fits : (c : tie.In-loop Inv-loop μ-loop) → (c .before .loop .start + (c .before .loop .i + 1) + (c .before .loop .i + 2) ≤ length (c .before .before .before .before .args .l .now)) × (c .before .loop .i + 1 < length (c .before .before .before .before .args .y .now))
+fits c =
+    let s = c .before .before .before .before in
     let l = c .before .loop in
-    rw (c .before .before .before .before .pre, l .inv .3) (tri-row (l .i) (length (c .before .before .before .before .args .y .now)) (omega arith))
+    (rw (s .pre) (rows-fit (l .start) (l .i) (length (s .args .y .now)) (omega (arith, l .inv .1, c .loop-test .taken)) (l .inv .2)), omega (arith, l .inv .1, c .loop-test .taken))
+
+-- the last row does
+last : (c : tie.After-loop Inv-loop μ-loop) → c .before .loop .i < length (c .before .before .before .before .args .y .now) → c .before .loop .start + (c .before .loop .i + 1) ≤ length (c .before .before .before .before .args .l .now)
+last c h =
+    let s = c .before .before .before .before in
+    let l = c .before .loop in
+    rw (s .pre, l .inv .2) (omega (arith, tri-row (l .i) (length (s .args .y .now)) h))
 
 loop-holds : tie.Need-loop-holds Inv-loop μ-loop
 loop-holds c =
     let a = c .before .before .args in
-    (omega arith, refl, refl, refl, forward-none (a .l .now) (a .y .now))
+    (omega arith, refl, refl, forward-none (a .l .now) (a .y .now))
 
-row-dot-requires : tie.Need-row-dot-requires Inv-loop μ-loop
-row-dot-requires c κs =
-    let l = c .before .before .loop in
-    (omega arith, omega (arith, row-fits (c .before)))
+add-loop : tie.Need-add-loop Inv-loop μ-loop
+add-loop c = search needs
 
-mul-y : tie.Need-mul-y Inv-loop μ-loop
-mul-y c = search needs
+add-next : tie.Need-add-next Inv-loop μ-loop
+add-next c = omega (arith, fits c)
 
-slice-read-y : tie.Need-slice-read-y Inv-loop μ-loop
-slice-read-y c = search needs
+add-next-2 : tie.Need-add-next-2 Inv-loop μ-loop
+add-next-2 c = omega (arith, fits c)
 
-add-y : tie.Need-add-y Inv-loop μ-loop
-add-y c = omega (arith, row-fits (c .before .before .before))
+two-rows-requires : tie.Need-two-rows-requires Inv-loop μ-loop
+two-rows-requires c κs = (omega (arith, fits (c .before), c .before .before .loop .inv .1), omega (arith, fits (c .before)), omega (arith, fits (c .before)))
 
-mul-y-2 : tie.Need-mul-y-2 Inv-loop μ-loop
-mul-y-2 c = omega (arith, row-fits (c .before .before .before))
+put-row-requires : tie.Need-put-row-requires Inv-loop μ-loop
+put-row-requires c κs = (omega (arith, fits (c .before .before .before), c .before .before .before .before .loop .inv .1), omega (arith, fits (c .before .before .before)))
 
-shared-slice-read-y : tie.Need-shared-slice-read-y Inv-loop μ-loop
-shared-slice-read-y c = omega (arith, row-fits (c .before .before .before .before))
+add-sum : tie.Need-add-sum Inv-loop μ-loop
+add-sum c = omega (arith, fits (c .before .before .before .before .before .before))
 
-mul-y-3 : tie.Need-mul-y-3 Inv-loop μ-loop
-mul-y-3 c = search needs
+mul-sum : tie.Need-mul-sum Inv-loop μ-loop
+mul-sum c = omega (arith, fits (c .before .before .before .before .before .before))
 
-slice-write-y : tie.Need-slice-write-y Inv-loop μ-loop
-slice-write-y c = search needs
+shared-slice-read-sum : tie.Need-shared-slice-read-sum Inv-loop μ-loop
+shared-slice-read-sum c = omega (arith, fits (c .before .before .before .before .before .before .before))
+
+mul-sum-2 : tie.Need-mul-sum-2 Inv-loop μ-loop
+mul-sum-2 c = omega (arith, fits (c .before .before .before .before .before .before .before))
+
+slice-read-sum : tie.Need-slice-read-sum Inv-loop μ-loop
+slice-read-sum c = omega (arith, fits (c .before .before .before .before .before .before .before .before))
+
+add-put-row : tie.Need-add-put-row Inv-loop μ-loop
+add-put-row c = omega (arith, fits (c .before .before .before .before .before .before .before .before .before .before))
+
+put-row-requires-2 : tie.Need-put-row-requires-2 Inv-loop μ-loop
+put-row-requires-2 c κs = omega (arith, fits (c .before .before .before .before .before .before .before .before .before .before))
 
 add-start : tie.Need-add-start Inv-loop μ-loop
-add-start c = omega (arith, row-fits (c .before .before .before .before))
+add-start c = omega (arith, fits (c .before .before .before .before .before .before .before .before .before .before .before .before .before))
 
 add-start-2 : tie.Need-add-start-2 Inv-loop μ-loop
-add-start-2 c = omega (arith, row-fits (c .before .before .before .before))
+add-start-2 c = omega (arith, fits (c .before .before .before .before .before .before .before .before .before .before .before .before .before))
 
 add-i : tie.Need-add-i Inv-loop μ-loop
-add-i c = search needs
+add-i c = omega (arith, fits (c .before .before .before .before .before .before .before .before .before .before .before .before .before))
 
 loop-less : tie.Need-loop-less Inv-loop μ-loop
 loop-less c = omega arith
 
 loop-again : tie.Need-loop-again Inv-loop μ-loop
 loop-again c =
-    let a = c .before .before .before .before .before .before .before .before .args in
-    let l = c .before .before .before .before .before .loop in
-    let d = c .before .before .row-dot in (
-      omega arith,
-      l .inv .1,
-      simp length-set (l .inv .2),
-      tri-next (l .start) (l .i) (l .inv .3),
-      forward-step (a .l .now) (a .y .now) (l .y) (l .i) (omega arith) (l .inv .4) (d .result) ((getD (l .y) (l .i) nan -ᶠ d .result) /ᶠ getD (a .l .now) (l .start + l .i) nan) (d .ensures ∙ ap (λ n. rowSum (a .l .now) (l .y) (l .i) n) (l .inv .3))
-          (ap (λ n. (getD (l .y) (l .i) nan -ᶠ d .result) /ᶠ getD (a .l .now) (n + l .i) nan) (l .inv .3)),
+    let s = c .before .before .before .before .before .before .before .before .before .before .before .before .before .before .before .before .before in
+    let a = s .args in
+    let l = c .before .before .before .before .before .before .before .before .before .before .before .before .before .before .loop in
+    let g = c .before .before .before .before .before .before .before .before .before .put-row in
+    let g₂ = c .before .before .put-row2 in
+    let r = c .before .before .before .before .before .before .before .before .before .before .before .two-rows in
+    let f = fits (c .before .before .before .before .before .before .before .before .before .before .before .before .before) in (
+      omega (arith, f .1),
+      ap length (g₂ .ensures) ∙ simp length-set (ap length (g .ensures) ∙ simp length-set (l .inv .1)),
+      two-on (l .start) _ (l .i) (l .inv .2) refl,
+      g₂ .ensures ∙ forward-two (a .l .now) (a .y .now) (l .y) (g .last .1 .0) (l .i) (l .start) _ (r .result .a) (r .result .b) (f .1) (l .inv .3) (l .inv .2) refl (r .ensures .0) (r .ensures .1) (g .ensures),
     )
+
+row-dot-requires : tie.Need-row-dot-requires Inv-loop μ-loop
+row-dot-requires c κs = (omega arith, omega (arith, last (c .before .before) (omega arith)))
+
+put-row-requires-3 : tie.Need-put-row-requires-3 Inv-loop μ-loop
+put-row-requires-3 c κs = (omega arith, omega (arith, last (c .before .before .before .before) (omega arith)))
 
 same-length : tie.Need-same-length Inv-loop μ-loop
 same-length c = search needs
 
 returns : tie.Need-returns Inv-loop μ-loop
 returns c =
-    let a = c .before .before .before .before .args in
-    let l = c .before .loop in
-    forward-all (a .l .now) (a .y .now) (l .y) (l .i) (omega arith) (l .inv .4)
+    let s = c .before .before .before .before .before .before .before .before .before .before .before in
+    let a = s .args in
+    let l = c .before .before .before .before .before .before .before .before .loop in
+    forward-all (a .l .now) (a .y .now) _ (l .i + 1) (omega arith) (c .before .before .put-row3 .ensures ∙ forward-one (a .l .now) (a .y .now) (l .y) (l .i) (l .start) (l .inv .3) (l .inv .2) (c .before .before .before .before .row-dot .result) (omega arith) (c .before .before .before .before .row-dot .ensures))
+
+same-length-2 : tie.Need-same-length-2 Inv-loop μ-loop
+same-length-2 c = search needs
+
+returns-2 : tie.Need-returns-2 Inv-loop μ-loop
+returns-2 c =
+    let a = c .before .before .before .before .before .args in
+    let l = c .before .before .loop in
+    forward-all (a .l .now) (a .y .now) (l .y) (l .i) (omega arith) (l .inv .3)
 
 pub forward-spec : {M : Type 1} → statement M
 forward-spec =
@@ -98,18 +130,26 @@ forward-spec =
     Inv-loop
     μ-loop
     loop-holds
-    row-dot-requires
-    mul-y
-    slice-read-y
-    add-y
-    mul-y-2
-    shared-slice-read-y
-    mul-y-3
-    slice-write-y
+    add-loop
+    add-next
+    add-next-2
+    two-rows-requires
+    put-row-requires
+    add-sum
+    mul-sum
+    shared-slice-read-sum
+    mul-sum-2
+    slice-read-sum
+    add-put-row
+    put-row-requires-2
     add-start
     add-start-2
     add-i
     loop-less
     loop-again
+    row-dot-requires
+    put-row-requires-3
     same-length
-    returns)
+    returns
+    same-length-2
+    returns-2)

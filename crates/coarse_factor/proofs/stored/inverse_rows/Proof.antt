@@ -1,16 +1,14 @@
-use lib.ListN.{length}
+use lib.ListN.{length, length-set}
 use Rattle.averaging.proofs.Places.{place, next-row}
 use Rattle.coarse_factor.specs.Stored.{Products}
 use Rattle.coarse_factor.proofs.Products.{products-none, products-more}
+use Rattle.coarse_factor.proofs.TwoRows.{products-two}
 use Prim.Native.Nat.{_+_, _*_, _<_, _≤_, _-_}
 use mathlib.Core.Path.{_≡_}
 use native.Mathlib.Omega.{arith}
 use borrow.Author.Needs.{needs}
 use Rattle.coarse_factor.proofs.stored.inverse_rows.Statement.{statement}
 use Rattle.coarse_factor.proofs.stored.inverse_rows.Tie as tie
-use Rattle.coarse_factor.proofs.stored.inverse_rows.Reads as reads
-use Rattle.coarse_factor.proofs.stored.inverse_rows.Lts as lts
-use Rattle.coarse_factor.proofs.solve.row_dot.Reads as row-dot-reads
 
 abbrev Inv-loop : tie.InvT-loop
 Inv-loop c part work₀ base₀ i₀ work base i = (i ≤ c) × (base ≡ i * c) × Products c part work₀ work i
@@ -18,19 +16,32 @@ Inv-loop c part work₀ base₀ i₀ work base i = (i ≤ c) × (base ≡ i * c)
 abbrev μ-loop : tie.MeasureT-loop
 μ-loop c part work₀ base₀ i₀ work base i = c - i
 
-room : (c : tie.In-loop Inv-loop μ-loop) → (c .before .loop .base + c .before .before .before .before .args .c ≤ length (c .before .before .before .before .args .part .now)) × (length (c .before .loop .work) ≡ length (c .before .before .before .before .args .work .now)) × (2 * c .before .before .before .before .args .c ≤ length (c .before .before .before .before .args .work .now))
+-- both rows lie within the inverse, and their products within the list
+room : (c : tie.In-loop Inv-loop μ-loop) → (c .before .loop .base + c .before .before .before .before .args .c + c .before .before .before .before .args .c ≤ length (c .before .before .before .before .args .part .now)) × (length (c .before .loop .work) ≡ length (c .before .before .before .before .args .work .now)) × (2 * c .before .before .before .before .args .c ≤ length (c .before .before .before .before .args .work .now)) × (c .before .loop .i + 1 < c .before .before .before .before .args .c)
 room c =
-    let a = c .before .before .before .before .args in
+    let s = c .before .before .before .before in
     let o = c .before .loop in
-    let h : o .i < a .c = omega arith in
-    let z : 0 < a .c = omega arith in
-    (omega (arith, c .before .before .before .before .pre .0, o .inv .1, place (o .i) (a .c - 1) (a .c) (a .c) h (omega arith)), o .inv .2 .long, c .before .before .before .before .pre .1)
+    let h : o .i + 1 < s .args .c = omega (arith, c .loop-test .taken) in
+    (omega (arith, s .pre .0, o .inv .1, next-row (o .i) (s .args .c), place (o .i + 1) (s .args .c - 1) (s .args .c) (s .args .c) h (omega arith)), o .inv .2 .long, s .pre .1, h)
+
+-- the last row does
+last : (c : tie.After-loop Inv-loop μ-loop) → c .before .loop .i < c .before .before .before .before .args .c → (c .before .loop .base + c .before .before .before .before .args .c ≤ length (c .before .before .before .before .args .part .now)) × (length (c .before .loop .work) ≡ length (c .before .before .before .before .args .work .now)) × (2 * c .before .before .before .before .args .c ≤ length (c .before .before .before .before .args .work .now))
+last c h =
+    let s = c .before .before .before .before in
+    let o = c .before .loop in
+    (omega (arith, s .pre .0, o .inv .1, place (o .i) (s .args .c - 1) (s .args .c) (s .args .c) h (omega arith)), o .inv .2 .long, s .pre .1)
 
 loop-holds : tie.Need-loop-holds Inv-loop μ-loop
 loop-holds c = (omega arith, omega arith, products-none (c .before .before .args .c) (c .before .before .args .part .now) (c .before .before .args .work .now))
 
-row-dot-requires : tie.Need-row-dot-requires Inv-loop μ-loop
-row-dot-requires c κs = (omega (arith, room (c .before)), omega (arith, room (c .before)))
+add-loop : tie.Need-add-loop Inv-loop μ-loop
+add-loop c = omega (arith, c .before .before .before .pre .2)
+
+add-next : tie.Need-add-next Inv-loop μ-loop
+add-next c = omega (arith, room c)
+
+two-rows-requires : tie.Need-two-rows-requires Inv-loop μ-loop
+two-rows-requires c κs = (omega (arith, room (c .before)), omega (arith, room (c .before)), omega (arith, room (c .before)))
 
 add-work : tie.Need-add-work Inv-loop μ-loop
 add-work c = omega (arith, room (c .before .before))
@@ -40,6 +51,18 @@ mul-work c = omega (arith, room (c .before .before))
 
 slice-write-work : tie.Need-slice-write-work Inv-loop μ-loop
 slice-write-work c = omega (arith, room (c .before .before))
+
+add-work-2 : tie.Need-add-work-2 Inv-loop μ-loop
+add-work-2 c = omega (arith, room (c .before .before))
+
+add-work-3 : tie.Need-add-work-3 Inv-loop μ-loop
+add-work-3 c = omega (arith, room (c .before .before))
+
+mul-work-2 : tie.Need-mul-work-2 Inv-loop μ-loop
+mul-work-2 c = omega (arith, room (c .before .before))
+
+slice-write-work-2 : tie.Need-slice-write-work-2 Inv-loop μ-loop
+slice-write-work-2 c = simp length-set (omega (arith, room (c .before .before)))
 
 add-base : tie.Need-add-base Inv-loop μ-loop
 add-base c = omega (arith, room (c .before .before))
@@ -52,16 +75,42 @@ loop-less c = omega arith
 
 loop-again : tie.Need-loop-again Inv-loop μ-loop
 loop-again c =
-    let a = c .before .before .before .before .before .before .args in
-    let p = c .before .before .before .before .before .before .pre in
+    let s = c .before .before .before .before .before .before in
+    let a = s .args in
     let o = c .before .before .before .loop in
-    (omega arith, omega (arith, o .inv .1, next-row (o .i) (a .c)), products-more (a .c) (a .part .now) (a .work .now) (o .work) (o .i) (o .base) (c .row-dot .result) (omega arith) (p .1) (o .inv .1) (o .inv .2) (c .row-dot .ensures))
+    let r = room (c .before .before) in
+    (omega (arith, r), omega (arith, o .inv .1, next-row (o .i) (a .c), next-row (o .i + 1) (a .c)), products-two (a .c) (a .part .now) (a .work .now) (o .work) (o .i) (o .base) (c .two-rows .result .a) (c .two-rows .result .b) (r .3) (r .2) (o .inv .1) (o .inv .2) (c .two-rows .ensures .0) (c .two-rows .ensures .1))
+
+row-dot-requires : tie.Need-row-dot-requires Inv-loop μ-loop
+row-dot-requires c κs = (omega (arith, last (c .before .before) (omega arith)), omega (arith, last (c .before .before) (omega arith)))
+
+add-work-4 : tie.Need-add-work-4 Inv-loop μ-loop
+add-work-4 c = omega (arith, last (c .before .before .before) (omega arith))
+
+mul-work-3 : tie.Need-mul-work-3 Inv-loop μ-loop
+mul-work-3 c = omega (arith, last (c .before .before .before) (omega arith))
+
+slice-write-work-3 : tie.Need-slice-write-work-3 Inv-loop μ-loop
+slice-write-work-3 c = omega (arith, last (c .before .before .before) (omega arith))
 
 same-length : tie.Need-same-length Inv-loop μ-loop
-same-length c = c .before .loop .inv .2 .long
+same-length c = search needs
 
 returns : tie.Need-returns Inv-loop μ-loop
-returns c = let e : c .before .loop .i ≡ c .before .before .before .before .args .c = omega arith in rw e at (c .before .loop .inv .2)
+returns c =
+    let s = c .before .before .before .before .before .before .before in
+    let a = s .args in
+    let o = c .before .before .before .before .loop in
+    let e : o .i + 1 ≡ a .c = omega arith in
+    rw e at (products-more (a .c) (a .part .now) (a .work .now) (o .work) (o .i) (o .base) (c .row-dot .result) (omega arith) (s .pre .1) (o .inv .1) (o .inv .2) (c .row-dot .ensures))
+
+same-length-2 : tie.Need-same-length-2 Inv-loop μ-loop
+same-length-2 c = search needs
+
+returns-2 : tie.Need-returns-2 Inv-loop μ-loop
+returns-2 c =
+    let e : c .before .before .loop .i ≡ c .before .before .before .before .before .args .c = omega arith in
+    rw e at (c .before .before .loop .inv .2)
 
 pub inverse-rows-spec : {M : Type 1} → statement M
 inverse-rows-spec =
@@ -70,13 +119,25 @@ inverse-rows-spec =
     Inv-loop
     μ-loop
     loop-holds
-    row-dot-requires
+    add-loop
+    add-next
+    two-rows-requires
     add-work
     mul-work
     slice-write-work
+    add-work-2
+    add-work-3
+    mul-work-2
+    slice-write-work-2
     add-base
     add-i
     loop-less
     loop-again
+    row-dot-requires
+    add-work-4
+    mul-work-3
+    slice-write-work-3
     same-length
-    returns)
+    returns
+    same-length-2
+    returns-2)
