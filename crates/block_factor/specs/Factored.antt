@@ -24,7 +24,7 @@ factorOf first w d = elim (skewed d w (symmetryTol *ᶠ topOf d)) [
   | false ↦ factorFrom (inBlock w) (pivotRow first) (λ i j. getD d (inBlock w i j) nan) (pivotTol *ᶠ topOf d) w 0 blank
 ]
 
--- l is what they answer, whatever a bad pivot would be told as; and for the rows alone, of the numbers a
+-- l is the factor, wherever the block begins (its first row only names a refusal); and the same of the rows alone, for the numbers of an array a
 abbrev pub FactorOf : ℕ → List Float → List Float → Type 0
 FactorOf w d l = (first : ℕ) → factorOf first w d ≡ done l
 

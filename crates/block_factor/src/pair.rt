@@ -31,7 +31,7 @@ fn pair_rows(
     table: &root::StartTable,
 ) -> bool
     requires { ⌜ (w ≤ 8) × (now l ≡ blank) × (now m ≡ blank) ⌝ }
-    ensures { λ r. ⌜ r ≡ true → FactorRows w (now (a .entry)) s (now (l .exit)) × FactorRows w (now (b .entry)) t (now (m .exit)) ⌝ }
+    ensures { λ r. ⌜ (r ≡ true → FactorRows w (now (a .entry)) s (now (l .exit)) × FactorRows w (now (b .entry)) t (now (m .exit))) ⌝ }
 {
     let mut i: usize = 0;
     while i < w {
@@ -39,17 +39,19 @@ fn pair_rows(
         fill_row(b, m, w, i);
         let p = rest(a, l, w, i, i);
         let q = rest(b, m, w, i, i);
-        if !numbers::above(s, p) {
+        if numbers::above(s, p) {
+            if numbers::above(t, q) {
+                let x = root::root_by(table, p);
+                let y = root::root_by(table, q);
+                put(l, w, i, i, x);
+                put(m, w, i, i, y);
+                i += 1;
+            } else {
+                return false;
+            }
+        } else {
             return false;
         }
-        if !numbers::above(t, q) {
-            return false;
-        }
-        let x = root::root_by(table, p);
-        let y = root::root_by(table, q);
-        put(l, w, i, i, x);
-        put(m, w, i, i, y);
-        i += 1;
     }
     true
 }
@@ -67,9 +69,10 @@ fn apart(w: usize) -> Pair
     }
 }
 
+// The factors of two blocks of one width, if both have one.
 pub fn factor_pair(b: Block, c: Block, table: &root::StartTable) -> Pair
     requires { ⌜ (b .size ≤ 8) × (c .size ≡ b .size) ⌝ }
-    ensures { λ r. ⌜ r .both ≡ true → FactorOf (b .size) (dense (b .size) (b .a)) (r .one .a) × FactorOf (b .size) (dense (b .size) (c .a)) (r .two .a) ⌝ }
+    ensures { λ r. ⌜ (r .both ≡ true → FactorOf (b .size) (dense (b .size) (b .a)) (r .one .a) × FactorOf (b .size) (dense (b .size) (c .a)) (r .two .a)) ⌝ }
 {
     let x = b.a;
     let y = c.a;
