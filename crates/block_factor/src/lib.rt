@@ -1,4 +1,4 @@
-// Block Jacobi's factors: the blocks on the diagonal of a matrix, gathered and factored one by one.
+// Block Jacobi's factors: the blocks on the diagonal of a matrix, gathered and factored, two at a time as far as both have one.
 ghost use mathlib.Core.Path.{_≡_};
 ghost use mathlib.Core.Bool.{true};
 ghost use Prim.Native.Nat.{_+_, _-_, _*_, _<_, _≤_, min};
@@ -78,7 +78,7 @@ fn pair_into(
 ) -> bool
     requires { ⌜ Rows (csr rows rows (now «row_ptr») (now «col_idx») (now values)) ⌝ }
     requires { ⌜ (first + w + w ≤ rows) × (w ≤ 8) × (length (now place) ≡ w * w + w * w) ⌝ }
-    ensures { λ r. ⌜ r ≡ true → PairIn (csr rows rows (now («row_ptr» .entry)) (now («col_idx» .entry)) (now (values .entry))) first w (now (place .exit)) ⌝ }
+    ensures { λ r. ⌜ (r ≡ true → PairIn (csr rows rows (now («row_ptr» .entry)) (now («col_idx» .entry)) (now (values .entry))) first w (now (place .exit))) ⌝ }
 {
     let second = first + w;
     let made = factor_pair(
@@ -115,28 +115,30 @@ fn fill_pairs(
     ensures { λ r. ⌜ factorsFrom (csr rows rows (now («row_ptr» .entry)) (now («col_idx» .entry)) (now (values .entry))) size (blockCount rows size - r) r (take (r * size * size) (now (factors .exit))) ≡ factorsOf (csr rows rows (now («row_ptr» .entry)) (now («col_idx» .entry)) (now (values .entry))) size ⌝ }
 {
     let mut k: usize = 0;
-    let mut used: usize = 0;
     while (k + 2) * size <= rows {
-        let end = used + 2 * size * size;
-        if !pair_into(
+        let first = k * size;
+        let used = first * size;
+        let end = used + 2 * (size * size);
+        if pair_into(
             rows,
             row_ptr,
             col_idx,
             values,
-            k * size,
+            first,
             size,
             &mut factors[used..end],
             table,
         ) {
+            k += 2;
+        } else {
             return k;
         }
-        used = end;
-        k += 2;
     }
     k
 }
 
 // The factors end to end, and zeros after them. Refused, the list holds zeros alone.
+// From the first pair without two factors on, one by one: so the first refused block is the one told.
 fn fill_from(
     rows: usize,
     row_ptr: &[u32],
