@@ -46,10 +46,6 @@ module _ (place : ℕ → ℕ → ℕ) (a : ℕ → ℕ → Float) where
   unfolding factorFrom
   rows-all bad tol w i l h = let e : w - i ≡ 0 = omega arith in rw e
 
--- where one of two is refused nothing is promised
-pub not-both : {A : Type 0} (b : Bool) → b ≡ false → b ≡ true → A
-not-both b e p = absurd (let z : _≡_ {A = ℕ} 0 1 = cc in omega arith)
-
 -- the same for a block of a pair, wherever it begins: the rows left to do give, from the rows there, what all give
 module _ (w : ℕ) (a : List Float) (tol : Float) where
   abbrev pub RowsLeft : ℕ → List Float → Type 0
@@ -64,6 +60,10 @@ module _ (w : ℕ) (a : List Float) (tol : Float) where
 
   pub rows-end : (i : ℕ) (l : List Float) → RowsLeft i l → i ≡ w → FactorRows w a tol l
   rows-end i l inv h first = sym (inv first) ∙ rows-all (inBlock w) (denseEntry w a) (pivotRow first) tol w i l h
+
+-- where one of two is refused nothing is promised
+pub not-both : {A : Type 0} (b : Bool) → b ≡ false → b ≡ true → A
+not-both b e p = absurd (let z : _≡_ {A = ℕ} 0 1 = cc in omega arith)
 
 module _ (first w : ℕ) (d : List Float) where
   pub factor-skewed : skewed d w (symmetryTol *ᶠ topOf d) ≡ true → factorOf first w d ≡ refused (BlockNotSymmetric first)
