@@ -4,6 +4,7 @@ use mathlib.Core.Path.{_≡_, refl, ap, sym, _∙_}
 use mathlib.Core.Bool.{Bool, true, false}
 use mathlib.Core.List.{List}
 use native.Mathlib.Omega.{arith}
+use native.Mathlib.Nat.{sub-zero}
 use native.Mathlib.Numerals.{add-one}
 use lib.ListN.{getD, set}
 use lib.Ieee.{Float, nan}
@@ -13,8 +14,8 @@ use Rattle.definitions.specs.Factor.{rest, leftOf, factorFrom}
 use Rattle.definitions.specs.Block.{inBlock, topOf, skewed}
 use Rattle.definitions.specs.declared.Refusal.{Refusal}
 use Rattle.definitions.specs.declared.Refusal.the-variants.{BlockNotSymmetric}
-use Rattle.block_factor.specs.Dense.{blank}
-use Rattle.block_factor.specs.Factored.{pivotRow, factorOf}
+use Rattle.block_factor.specs.Dense.{blank, denseEntry}
+use Rattle.block_factor.specs.Factored.{pivotRow, factorOf, FactorRows}
 
 module _ (place : ℕ → ℕ → ℕ) (a : ℕ → ℕ → Float) where
   pub left-none : (i : ℕ) (l : List Float) → l ≡ leftOf place a i 0 l
@@ -44,6 +45,25 @@ module _ (place : ℕ → ℕ → ℕ) (a : ℕ → ℕ → Float) where
   pub rows-all : (bad : ℕ → Refusal) (tol : Float) (w i : ℕ) (l : List Float) → i ≡ w → factorFrom place bad a tol (w - i) i l ≡ done l
   unfolding factorFrom
   rows-all bad tol w i l h = let e : w - i ≡ 0 = omega arith in rw e
+
+-- the same for a block of a pair, wherever it begins: the rows left to do give, from the rows there, what all give
+module _ (w : ℕ) (a : List Float) (tol : Float) where
+  abbrev pub RowsLeft : ℕ → List Float → Type 0
+  RowsLeft i l = (first : ℕ) → factorFrom (inBlock w) (pivotRow first) (denseEntry w a) tol (w - i) i l ≡ factorFrom (inBlock w) (pivotRow first) (denseEntry w a) tol w 0 blank
+
+  pub rows-begin : (l : List Float) → l ≡ blank → RowsLeft 0 l
+  rows-begin l e first = rw (sub-zero, e)
+
+  pub rows-step : (i : ℕ) (l m n : List Float) (d : Float) (t : Bool) (r : Float) → RowsLeft i l → i < w → m ≡ leftOf (inBlock w) (denseEntry w a) i i l → d ≡ rest (inBlock w) (denseEntry w a) m i i → t ≡ above tol d
+      → t ≡ true → r ≡ rootᶠ d → n ≡ set m (inBlock w i i) r → RowsLeft (i + 1) n
+  rows-step i l m n d t r inv h em ed et p er en first = sym (row-more (inBlock w) (denseEntry w a) (pivotRow first) tol w i l m d t h em ed et r n p er en) ∙ inv first
+
+  pub rows-end : (i : ℕ) (l : List Float) → RowsLeft i l → i ≡ w → FactorRows w a tol l
+  rows-end i l inv h first = sym (inv first) ∙ rows-all (inBlock w) (denseEntry w a) (pivotRow first) tol w i l h
+
+-- where one of two is refused nothing is promised
+pub not-both : {A : Type 0} (b : Bool) → b ≡ false → b ≡ true → A
+not-both b e p = absurd (let z : _≡_ {A = ℕ} 0 1 = cc in omega arith)
 
 module _ (first w : ℕ) (d : List Float) where
   pub factor-skewed : skewed d w (symmetryTol *ᶠ topOf d) ≡ true → factorOf first w d ≡ refused (BlockNotSymmetric first)

@@ -1,6 +1,7 @@
 -- What factoring a dense block answers: the definitions' own steps over its numbers d.
 use Prim.Native.Nat.{ℕ, _+_}
 use mathlib.Core.Bool.{true, false}
+use mathlib.Core.Path.{_≡_}
 use mathlib.Core.List.{List}
 use lib.ListN.{getD}
 use lib.Ieee.{Float, nan}
@@ -12,7 +13,7 @@ use Rattle.definitions.specs.declared.Refusal.{Refusal}
 use Rattle.definitions.specs.declared.Refusal.the-variants.{BlockNotSymmetric, BlockPivot}
 use Rattle.definitions.specs.declared.Answer.the-variants.{Accepted, Refused}
 use Rattle.block_factor.specs.declared.cholesky.Factored.{Factored}
-use Rattle.block_factor.specs.Dense.{blank}
+use Rattle.block_factor.specs.Dense.{blank, denseEntry}
 
 abbrev pub pivotRow : ℕ → ℕ → Refusal
 pivotRow first i = BlockPivot (first + i)
@@ -22,6 +23,13 @@ factorOf first w d = elim (skewed d w (symmetryTol *ᶠ topOf d)) [
   | true ↦ refused (BlockNotSymmetric first)
   | false ↦ factorFrom (inBlock w) (pivotRow first) (λ i j. getD d (inBlock w i j) nan) (pivotTol *ᶠ topOf d) w 0 blank
 ]
+
+-- l is the factor, wherever the block begins (its first row only names a refusal); and the same of the rows alone, for the numbers of an array a
+abbrev pub FactorOf : ℕ → List Float → List Float → Type 0
+FactorOf w d l = (first : ℕ) → factorOf first w d ≡ done l
+
+abbrev pub FactorRows : ℕ → List Float → Float → List Float → Type 0
+FactorRows w a tol l = (first : ℕ) → factorFrom (inBlock w) (pivotRow first) (denseEntry w a) tol w 0 blank ≡ done l
 
 -- as a block and an answer
 unfoldable pub factored : ℕ → Outcome (List Float) → Factored

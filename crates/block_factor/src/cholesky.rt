@@ -22,7 +22,7 @@ pub struct Factored {
 }
 
 // What is left of the entry (i, j) once the columns of l before j are taken off.
-fn rest(a: &[f64; 64], l: &[f64; 64], w: usize, i: usize, j: usize) -> f64
+pub fn rest(a: &[f64; 64], l: &[f64; 64], w: usize, i: usize, j: usize) -> f64
     requires { ⌜ (i < w) × (j < w) × (w ≤ 8) ⌝ }
     ensures { λ r. ⌜ r ≡ restOf (inBlock w) (denseEntry w (now (a .entry))) (now (l .entry)) i j ⌝ }
 {
@@ -36,7 +36,7 @@ fn rest(a: &[f64; 64], l: &[f64; 64], w: usize, i: usize, j: usize) -> f64
 }
 
 // The entries of row i left of the diagonal.
-fn fill_row(a: &[f64; 64], l: &mut [f64; 64], w: usize, i: usize)
+pub fn fill_row(a: &[f64; 64], l: &mut [f64; 64], w: usize, i: usize)
     requires { ⌜ (i < w) × (w ≤ 8) ⌝ }
     ensures { λ _. ⌜ now (l .exit) ≡ leftOf (inBlock w) (denseEntry w (now (a .entry))) i i (now (l .entry)) ⌝ }
 {

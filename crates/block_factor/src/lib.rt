@@ -1,24 +1,27 @@
-// Block Jacobi's factors: the blocks on the diagonal of a matrix, gathered and factored one by one.
+// Block Jacobi's factors: the blocks on the diagonal of a matrix, gathered and factored, two at a time as far as both have one.
 ghost use mathlib.Core.Path.{_≡_};
+ghost use mathlib.Core.Bool.{true};
 ghost use Prim.Native.Nat.{_+_, _-_, _*_, _<_, _≤_, min};
-ghost use lib.ListN.{length};
+ghost use lib.ListN.{length, take};
 ghost use Rattle.definitions.specs.Numbers.{zeroᶠ};
 ghost use Rattle.definitions.specs.Refusal.{resultLeft};
 ghost use Rattle.definitions.specs.Matrix.{csr};
-ghost use Rattle.definitions.specs.Block.{blockFactor, factorsOf, blocksCall, blocksLeft};
+ghost use Rattle.definitions.specs.Block.{blockCount, blockFactor, factorsFrom, factorsOf, blocksCall, blocksLeft};
 ghost use Rattle.definitions.specs.Answers.{answerOf};
 ghost use Rattle.csr32.specs.Rows.{Rows};
-ghost use Rattle.block_factor.specs.Held.{held};
+ghost use Rattle.block_factor.specs.Held.{held, PairIn};
 use definitions::Answer;
 use definitions::Refusal;
 
 mod cholesky;
 mod dense;
 mod gather;
+mod pair;
 mod symmetry;
 
 use cholesky::factor;
 use gather::gather;
+use pair::factor_pair;
 
 // A block's width: the last one may be smaller.
 fn width(rows: usize, first: usize, size: usize) -> usize
@@ -62,7 +65,80 @@ fn block_into(
     }
 }
 
+// The factors of two whole blocks, one after the other, into their place, if both have one.
+fn pair_into(
+    rows: usize,
+    row_ptr: &[u32],
+    col_idx: &[u32],
+    values: &[f64],
+    first: usize,
+    w: usize,
+    place: &mut [f64],
+    table: &root::StartTable,
+) -> bool
+    requires { ⌜ Rows (csr rows rows (now «row_ptr») (now «col_idx») (now values)) ⌝ }
+    requires { ⌜ (first + w + w ≤ rows) × (w ≤ 8) × (length (now place) ≡ w * w + w * w) ⌝ }
+    ensures { λ r. ⌜ (r ≡ true → PairIn (csr rows rows (now («row_ptr» .entry)) (now («col_idx» .entry)) (now (values .entry))) first w (now (place .exit))) ⌝ }
+{
+    let second = first + w;
+    let made = factor_pair(
+        gather(rows, row_ptr, col_idx, values, first, w),
+        gather(rows, row_ptr, col_idx, values, second, w),
+        table,
+    );
+    let both = made.both;
+    if both {
+        let n = w * w;
+        let one = made.one;
+        let lower = one.a;
+        numbers::copy_floats(&lower[..], &mut place[..n]);
+        let two = made.two;
+        let next = two.a;
+        numbers::copy_floats(&next[..], &mut place[n..]);
+    }
+    both
+}
+
+// The factors of the first blocks, two at a time, as far as both have one: how many they are.
+fn fill_pairs(
+    rows: usize,
+    row_ptr: &[u32],
+    col_idx: &[u32],
+    values: &[f64],
+    size: usize,
+    factors: &mut [f64],
+    table: &root::StartTable,
+) -> usize
+    requires { ⌜ Rows (csr rows rows (now «row_ptr») (now «col_idx») (now values)) ⌝ }
+    requires { ⌜ (0 < size) × (size ≤ 8) × (rows * size ≤ length (now factors)) ⌝ }
+    ensures { λ r. ⌜ (r * size ≤ rows) × (length (now (factors .exit)) ≡ length (now (factors .entry))) ⌝ }
+    ensures { λ r. ⌜ factorsFrom (csr rows rows (now («row_ptr» .entry)) (now («col_idx» .entry)) (now (values .entry))) size (blockCount rows size - r) r (take (r * size * size) (now (factors .exit))) ≡ factorsOf (csr rows rows (now («row_ptr» .entry)) (now («col_idx» .entry)) (now (values .entry))) size ⌝ }
+{
+    let mut k: usize = 0;
+    while (k + 2) * size <= rows {
+        let first = k * size;
+        let used = first * size;
+        let end = used + 2 * (size * size);
+        if pair_into(
+            rows,
+            row_ptr,
+            col_idx,
+            values,
+            first,
+            size,
+            &mut factors[used..end],
+            table,
+        ) {
+            k += 2;
+        } else {
+            return k;
+        }
+    }
+    k
+}
+
 // The factors end to end, and zeros after them. Refused, the list holds zeros alone.
+// From the first pair without two factors on, one by one: so the first refused block is the one told.
 fn fill_from(
     rows: usize,
     row_ptr: &[u32],
@@ -78,8 +154,8 @@ fn fill_from(
     ensures { λ _. ⌜ now (factors .exit) ≡ resultLeft zeroᶠ (factorsOf (csr rows rows (now («row_ptr» .entry)) (now («col_idx» .entry)) (now (values .entry))) size) (now (factors .entry)) ⌝ }
 {
     let count = (rows + (size - 1)) / size;
-    let mut k: usize = 0;
-    let mut used: usize = 0;
+    let mut k = fill_pairs(rows, row_ptr, col_idx, values, size, factors, table);
+    let mut used = k * size * size;
     while k < count {
         let first = k * size;
         let w = width(rows, first, size);
