@@ -3,6 +3,7 @@ use crate::input::{self, BLOCK};
 use crate::table::{Row, counted};
 use cases::{Csr, Options, answers, expected};
 use hybit_core::Preconditioner;
+use hybit_matrix::Csr32Matrix;
 use hybit_precond::{BlockJacobiPreconditioner, probe};
 use std::hint::black_box;
 use std::time::Instant;
@@ -35,8 +36,9 @@ pub fn narrow(list: &[usize]) -> Vec<u32> {
     list.iter().map(|&x| x as u32).collect()
 }
 
-pub fn lent(a: &Csr) -> Matrix<'_> {
-    Matrix { rows: a.rows, cols: a.cols, row_ptr: &a.row_ptr, col_idx: &a.col_idx, values: &a.values }
+/// The Rust's own lists: both sides read the same memory.
+pub fn lent(m: &Csr32Matrix) -> Matrix<'_> {
+    Matrix { rows: m.nrows(), cols: m.ncols(), row_ptr: m.row_ptr(), col_idx: m.col_idx(), values: m.values() }
 }
 
 fn residual(rows: usize) -> Vec<f64> {
@@ -64,31 +66,31 @@ pub fn stages(a: &Csr, block: usize) -> Vec<Row> {
     let m = answers::matrix(a).unwrap();
     let size = format!("{} rows, {} entries", counted(a.rows), counted(a.values.len()));
     let mut out = Vec::new();
-    let (checks, _, ours, _) = both(|| m.validate().unwrap(), || lent(a).validate().unwrap());
+    let (checks, _, ours, _) = both(|| m.validate().unwrap(), || lent(&m).validate().unwrap());
     let mut row = |what: &str, rust: f64, checked: bool, ours: f64| {
         out.push(Row::new(what.into(), size.clone(), a.rows, rust, checked.then_some(rust + checks), ours));
     };
     row("validate", checks, false, ours);
     let mut diagonal = Vec::new();
-    let (rust, d, ours, _) = both(|| m.diagonal().unwrap(), || lent(a).diagonal_in(&mut diagonal).unwrap());
+    let (rust, d, ours, _) = both(|| m.diagonal().unwrap(), || lent(&m).diagonal_in(&mut diagonal).unwrap());
     assert!(same(&d, &diagonal), "diagonals differ");
     row("diagonal", rust, true, ours);
     let mut kept = Vec::new();
     let build = || {
-        let b = BlockJacobi::build_in(&lent(a), block, &mut kept).unwrap();
+        let b = BlockJacobi::build_in(&lent(&m), block, &mut kept).unwrap();
         kept = b.into_factors();
     };
     let (rust, p, ours, _) = both(|| BlockJacobiPreconditioner::from_csr32(&m, block).unwrap(), build);
     assert!(same(&probe::block_factors(&p), &kept), "block factors differ");
     row("block factors", rust, true, ours);
-    let b = BlockJacobi::build_in(&lent(a), block, &mut kept).unwrap();
+    let b = BlockJacobi::build_in(&lent(&m), block, &mut kept).unwrap();
     let r = residual(a.rows);
     let (mut z, mut y) = (vec![0.0; a.rows], vec![0.0; a.rows]);
     let (rust, _, ours, _) = both(|| p.apply(&r, &mut z).unwrap(), || b.apply(&r, &mut y).unwrap());
     assert!(same(&z, &y), "block applies differ");
     row("block apply", rust, false, ours);
     let mut work = Vec::new();
-    let (rust, rho, ours, e) = both(|| probe::estimate(&m, &d).unwrap(), || lent(a).estimate_in(&d, &mut work).unwrap());
+    let (rust, rho, ours, e) = both(|| probe::estimate(&m, &d).unwrap(), || lent(&m).estimate_in(&d, &mut work).unwrap());
     assert!(same(&[rho, 4.0 / (3.0 * rho)], &[e.radius, e.damping_factor]), "estimates differ");
     row("estimate", rust, true, ours);
     out
@@ -117,7 +119,7 @@ pub fn setups(a: &Csr, coarse: usize) -> Vec<Row> {
     let (mut z, mut y) = (vec![0.0; a.rows], vec![0.0; a.rows]);
     let mut w = Workspace::default();
     // The lists are there before the first measured setup, as in every later one.
-    let first = Setup::build_in(&lent(a), &options(group, 1, 1).1, &mut w).unwrap();
+    let first = Setup::build_in(&lent(&m), &options(group, 1, 1).1, &mut w).unwrap();
     w.recycle(first);
     let mut out = Vec::new();
     for (basis, name) in [(0, "constant"), (1, "smoothed")] {
@@ -128,7 +130,7 @@ pub fn setups(a: &Csr, coarse: usize) -> Vec<Row> {
                 if let Some(s) = held.take() {
                     w.recycle(s);
                 }
-                held = Some(Setup::build_in(&lent(a), &mine, &mut w).unwrap());
+                held = Some(Setup::build_in(&lent(&m), &mine, &mut w).unwrap());
             };
             let (rust, p, ours, _) = both(|| answers::setup(&m, &theirs).unwrap(), build);
             let mut s = held.unwrap();

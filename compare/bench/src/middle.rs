@@ -51,6 +51,7 @@ macro_rules! lists {
 /// The neighbour lists, and the time that the Rust takes for Graph's.
 pub fn neighbours(a: &Csr) -> (Vec<Row>, f64) {
     let m = answers::matrix(a).unwrap();
+    let a = lent(&m);
     let (n, e, nodes) = (a.rows, a.values.len(), a.rows / BLOCK);
     let (checks, _, _, _) = both(|| m.validate().unwrap(), || ());
     // Where setup has the lists inside its work list.
@@ -77,6 +78,7 @@ pub fn neighbours(a: &Csr) -> (Vec<Row>, f64) {
 /// The stages after them; `graph` is the time that the Rust takes for Graph's lists.
 pub fn stages(a: &Csr, coarse: usize, graph: f64) -> Vec<Row> {
     let m = answers::matrix(a).unwrap();
+    let a = lent(&m);
     let (n, e) = (a.rows, a.values.len());
     let nodes = n / BLOCK;
     let group = input::group_size(n, coarse);
@@ -98,8 +100,8 @@ pub fn stages(a: &Csr, coarse: usize, graph: f64) -> Vec<Row> {
     let (rust, t, ours, answer) = both(
         || probe::transfer(&m, BLOCK, group, &wide, c).unwrap(),
         || {
-            lent(a).diagonal_in(&mut diagonal).unwrap();
-            let damping = lent(a).estimate_in(&diagonal, &mut work).unwrap().damping_factor;
+            a.diagonal_in(&mut diagonal).unwrap();
+            let damping = a.estimate_in(&diagonal, &mut work).unwrap().damping_factor;
             let (k, l) = (2 * n + e + 1 + 2 * c, n + e + c);
             lists!(
                 stage_transfer, a, BLOCK as u64, ids.as_ptr(), ids.len(), groups as u64, diagonal.as_ptr(), n, damping,
