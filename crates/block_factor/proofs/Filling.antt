@@ -6,11 +6,11 @@ use mathlib.Core.List.{List, _++_, append-assoc}
 use native.Mathlib.Omega.{arith}
 use native.Mathlib.Numerals.{add-one}
 use native.Mathlib.Nat.{suc-mul, zero-mul}
-use lib.ListN.{length, getD, set, take, drop, length-append, take-append-drop}
+use lib.ListN.{length, getD, set, take, drop, replicate, length-append, take-append-drop}
 use lib.Seq.{length-take-le, take-at}
 use lib.Ieee.{Float, nan}
 use borrow.Rule.Slice.PartMut.{putMid}
-use Rattle.definitions.specs.Numbers.{_*ᶠ_, rootᶠ, above, symmetryTol, pivotTol}
+use Rattle.definitions.specs.Numbers.{_*ᶠ_, rootᶠ, zeroᶠ, above, symmetryTol, pivotTol}
 use Rattle.definitions.specs.Refusal.{Outcome, refused, done, _>>=_, keepsAll, numberOf}
 use Rattle.definitions.specs.Matrix.{Matrix}
 use Rattle.definitions.specs.Factor.{rest, leftOf, factorFrom}
@@ -21,12 +21,9 @@ use Rattle.definitions.specs.declared.Refusal.the-variants.{BlockNotSymmetric}
 use Rattle.definitions.specs.declared.Answer.{Answer}
 use Rattle.definitions.specs.declared.Answer.the-variants.{Accepted, Refused}
 use Rattle.csr32.specs.Calls.{refused-is, goes-on, stops}
-use Rattle.block_factor.specs.Dense.{blank}
-use Rattle.block_factor.specs.Factored.{pivotRow, factorOf}
+use Rattle.block_factor.specs.Factored.{pivotRow}
 use Rattle.block_factor.specs.Held.{held, PairIn}
-use Rattle.block_factor.proofs.Placing.{factor-is}
 use Rattle.block_factor.proofs.Turns.{PairTurn, place-long}
-use Rattle.block_factor.proofs.Steps.{factor-skewed, factor-goes}
 
 -- ---- causes 14 and 15 leave zero
 
@@ -47,30 +44,22 @@ module _ (place : ℕ → ℕ → ℕ) (a : ℕ → ℕ → Float) (bad : ℕ �
           let g : bad i ≡ r = cc in
           ap keepsAll (sym g) ∙ clears i
 
-same-cause : {A : Type 0} (o : Outcome A) (x y : Refusal) → o ≡ refused x → o ≡ refused y → x ≡ y
-same-cause o x y p q = cc
-
-factor-clears : (first w : ℕ) (d : List Float) (r : Refusal) → factorOf first w d ≡ refused r → keepsAll r ≡ false
-unfolding keepsAll numberOf
-factor-clears first w d r e = step (skewed d w (symmetryTol *ᶠ topOf d)) refl
+pub block-clears : (m : Matrix) (first w : ℕ) (r : Refusal) → blockFactor m first w ≡ refused r → keepsAll r ≡ false
+unfolding blockFactor keepsAll numberOf
+block-clears m first w r e = step (skewed (blockOf m first w) w (symmetryTol *ᶠ topOf (blockOf m first w))) refl
   where
-    step : (b : Bool) → skewed d w (symmetryTol *ᶠ topOf d) ≡ b → keepsAll r ≡ false
-    step true p = ap keepsAll (same-cause (factorOf first w d) r (BlockNotSymmetric first) e (factor-skewed first w d p))
-    step false p = from-clears (inBlock w) (λ i j. getD d (inBlock w i j) nan) (pivotRow first) (λ i. refl) (pivotTol *ᶠ topOf d) w 0 blank r (sym (factor-goes first w d p) ∙ e)
+    step : (b : Bool) → skewed (blockOf m first w) w (symmetryTol *ᶠ topOf (blockOf m first w)) ≡ b → keepsAll r ≡ false
+    step true p =
+        let q : refused (BlockNotSymmetric first) ≡ refused r = rw (p, blockFactor) at e in
+        let g : BlockNotSymmetric first ≡ r = cc in
+        ap keepsAll (sym g)
+    step false p = from-clears (inBlock w) (λ i j. getD (blockOf m first w) (inBlock w i j) nan) (pivotRow first) (λ i. refl) (pivotTol *ᶠ topOf (blockOf m first w)) w 0 (replicate (w * w) zeroᶠ) r (rw (p, blockFactor) at e)
 
 -- the outcome of a block, from its answer
 is-accepted : (o : Outcome (List Float)) (place : List Float) → answerOf o ≡ Accepted → o ≡ done (held o place)
 unfolding answerOf held
 is-accepted (done l) place e = refl
 is-accepted (refused r) place e = cc
-
-bind-refused : (o : Outcome (List Float)) (f : List Float → List Float) (r : Refusal) → (o >>= (λ l. done (f l))) ≡ refused r → o ≡ refused r
-unfolding _>>=_
-bind-refused (done l) f r e = cc
-bind-refused (refused q) f r e = cc
-
-pub block-clears : (m : Matrix) (first w : ℕ) (r : Refusal) → blockFactor m first w ≡ refused r → keepsAll r ≡ false
-block-clears m first w r e = factor-clears first w (blockOf m first w) r (bind-refused (factorOf first w (blockOf m first w)) (λ l. take (w * w) l) r (sym (factor-is m first w) ∙ e))
 
 -- ---- a part written, from one position up to another: what stands before it is kept, and it follows
 

@@ -3,6 +3,7 @@ pub mod Tabs
 pub mod Folds
 pub mod Steps
 pub mod Gathering
+pub mod Front
 pub mod Placing
 pub mod Turns
 pub mod Filling

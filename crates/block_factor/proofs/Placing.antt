@@ -5,11 +5,12 @@ use mathlib.Core.Bool.{Bool, true, false}
 use mathlib.Core.List.{List, _++_, append-nil}
 use native.Mathlib.Omega.{arith}
 use native.Mathlib.Nat.{le-refl}
-use lib.ListN.{length, getD, set, take, drop, length-set, length-replicate, length-append, length-drop, drop-of-length-le}
+use lib.ListN.{length, getD, set, take, drop, replicate, length-set, length-replicate, length-append, length-drop, drop-of-length-le}
 use lib.Seq.{length-take-le, take-at, drop-at}
 use lib.Ieee.{Float, nan}
 use borrow.Rule.Slice.PartMut.{putMid}
 use Rattle.numbers.specs.Copied.{copied}
+use Rattle.laws.specs.BlockFactors.{block-placing}
 use Rattle.definitions.specs.Numbers.{_*ᶠ_, rootᶠ, above, zeroᶠ, symmetryTol, pivotTol}
 use Rattle.definitions.specs.Refusal.{Outcome, refused, done, _>>=_}
 use Rattle.definitions.specs.Matrix.{Matrix}
@@ -23,6 +24,7 @@ use Rattle.block_factor.specs.declared.cholesky.Factored.{Factored}
 use Rattle.block_factor.specs.Dense.{blank, dense}
 use Rattle.block_factor.specs.Factored.{pivotRow, factorOf, factored, FactorOf}
 use Rattle.block_factor.specs.Held.{held, PairIn}
+use Rattle.block_factor.proofs.Front.{blank-front, factor-front}
 use Rattle.block_factor.proofs.Turns.{place-long}
 
 -- ---- a factor has as many numbers as it was begun with
@@ -57,13 +59,22 @@ length-factor first w d l e = step (skewed d w (symmetryTol *ᶠ topOf d)) refl
 
 -- ---- the block's factor, from the factor of its numbers
 
-pub factor-is : (m : Matrix) (first w : ℕ) → blockFactor m first w ≡ (factorOf first w (blockOf m first w) >>= (λ l. done (take (w * w) l)))
-unfolding blockFactor factorOf _>>=_ blank
-factor-is m first w = step (skewed (blockOf m first w) w (symmetryTol *ᶠ topOf (blockOf m first w))) refl
+factor-is : (m : Matrix) (first w : ℕ) → w * w ≤ 64 → blockFactor m first w ≡ (factorOf first w (blockOf m first w) >>= (λ l. done (take (w * w) l)))
+unfolding blockFactor factorOf _>>=_
+factor-is m first w h = step (skewed (blockOf m first w) w (symmetryTol *ᶠ topOf (blockOf m first w))) refl
   where
+    numbers : ℕ → ℕ → Float
+    numbers i j = getD (blockOf m first w) (inBlock w i j) nan
+
+    front : factorFrom (inBlock w) (pivotRow first) numbers (pivotTol *ᶠ topOf (blockOf m first w)) w 0 (replicate (w * w) zeroᶠ)
+        ≡ (factorFrom (inBlock w) (pivotRow first) numbers (pivotTol *ᶠ topOf (blockOf m first w)) w 0 blank >>= (λ l. done (take (w * w) l)))
+    front =
+        ap (λ l. factorFrom (inBlock w) (pivotRow first) numbers (pivotTol *ᶠ topOf (blockOf m first w)) w 0 l) (sym (blank-front (w * w) h))
+        ∙ factor-front (inBlock w) numbers w (w * w) (block-placing w (w * w) (le-refl (w * w))) (pivotRow first) (pivotTol *ᶠ topOf (blockOf m first w)) w 0 blank (omega arith)
+
     step : (b : Bool) → skewed (blockOf m first w) w (symmetryTol *ᶠ topOf (blockOf m first w)) ≡ b → blockFactor m first w ≡ (factorOf first w (blockOf m first w) >>= (λ l. done (take (w * w) l)))
     step true p = rw (p, blockFactor, factorOf)
-    step false p = rw (p, blockFactor, factorOf)
+    step false p = rw (p, blockFactor, factorOf) front
 
 -- copied into a place of its size
 copied-front : (n : ℕ) (l place p : List Float) → length l ≡ 64 → length place ≡ n → n ≤ 64 → p ≡ copied l place → p ≡ take n l
@@ -72,7 +83,7 @@ copied-front n l place p nl np h ep = ep ∙ rw (np, drop-of-length-le place {i 
 
 placed : (m : Matrix) (first w : ℕ) (l place p : List Float) → factorOf first w (blockOf m first w) ≡ done l → length place ≡ w * w → w * w ≤ 64 → p ≡ copied l place → blockFactor m first w ≡ done p
 unfolding _>>=_
-placed m first w l place p o n h ep = factor-is m first w ∙ rw (o, copied-front (w * w) l place p (length-factor first w (blockOf m first w) l o) n h ep)
+placed m first w l place p o n h ep = factor-is m first w h ∙ rw (o, copied-front (w * w) l place p (length-factor first w (blockOf m first w) l o) n h ep)
 
 placed-length : (first w : ℕ) (d l place p : List Float) → factorOf first w d ≡ done l → length place ≡ w * w → w * w ≤ 64 → p ≡ copied l place → length p ≡ w * w
 placed-length first w d l place p o n h ep =
@@ -90,7 +101,7 @@ is-done w (done l) e = refl
 is-done w (refused q) e = cc
 
 module _ (m : Matrix) (first w : ℕ) (b : Block) (made : Factored) (eb : dense w (b .a) ≡ blockOf m first w) (ew : b .size ≡ w)
-    (em : made ≡ factored (b .size) (factorOf first (b .size) (dense (b .size) (b .a)))) where
+    (em : made ≡ factored (b .size) (factorOf first (b .size) (dense (b .size) (b .a)))) (h : w * w ≤ 64) where
   made-is : made ≡ factored w (factorOf first w (blockOf m first w))
   made-is = em ∙ rw (ew, eb)
 
@@ -98,12 +109,12 @@ module _ (m : Matrix) (first w : ℕ) (b : Block) (made : Factored) (eb : dense 
   unfolding answerOf held _>>=_
   into-refused r place e =
       let o : factorOf first w (blockOf m first w) ≡ refused r = is-refused w _ r (ap (λ f. f .answer) (sym made-is) ∙ e) in
-      (rw (factor-is m first w, o), rw (factor-is m first w, o))
+      (rw (factor-is m first w h, o), rw (factor-is m first w h, o))
 
-  pub into-accepted : (place p : List Float) → made .answer ≡ Accepted → length place ≡ w * w → w * w ≤ 64 → p ≡ copied (made .block .a) place
+  pub into-accepted : (place p : List Float) → made .answer ≡ Accepted → length place ≡ w * w → p ≡ copied (made .block .a) place
       → (Accepted ≡ answerOf (blockFactor m first w)) × (p ≡ held (blockFactor m first w) place)
   unfolding answerOf held
-  into-accepted place p e l h ep =
+  into-accepted place p e l ep =
       let o : factorOf first w (blockOf m first w) ≡ done (made .block .a)
       = is-done w _ (ap (λ f. f .answer) (sym made-is) ∙ e) ∙ ap (λ f. done (f .block .a)) (sym made-is) in
       let q : blockFactor m first w ≡ done p = placed m first w (made .block .a) place p o l h ep in

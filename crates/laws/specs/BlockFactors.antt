@@ -3,23 +3,22 @@ use mathlib.Core.Path.{_≡_, sym, ap, _∙_, subst}
 use mathlib.Core.Bool.{Bool, true, false}
 use mathlib.Core.List.{List, [], _++_, append-nil, append-assoc}
 use Prim.Native.Nat.{ℕ, zero, suc, _+_, _-_, _*_, _≤_, _<_, min}
-use native.Mathlib.Nat.{zero-add, le-trans, le-of-lt, lt-of-lt-of-le, lt-of-le-of-lt, lt-irrefl, eq-or-lt-of-le, zero-lt-suc, mul-le-mul, mul-le-mul-right, le-div-iff-mul-le}
+use native.Mathlib.Nat.{zero-add, le-refl, le-trans, le-of-lt, lt-of-lt-of-le, lt-of-le-of-lt, lt-irrefl, eq-or-lt-of-le, zero-lt-suc, mul-le-mul-right, le-div-iff-mul-le}
 use native.Mathlib.Omega.{arith}
 use mathlib.Core.Logic.{_⊎_, inl, inr}
 use lib.Dec.{leb, eqb, leb→le}
-use lib.ListN.{length, getD, take, replicate, length-append, length-replicate, getD-replicate}
-use lib.Seq.{length-take-le, getD-take}
+use lib.ListN.{length, getD, replicate, length-append, length-replicate, getD-replicate}
 use lib.Ieee.{Float, nan}
 use lib.Ieee.Fits.{and-l, and-r}
 use Rattle.definitions.specs.Numbers.{_*ᶠ_, zeroᶠ, symmetryTol, pivotTol, total}
-use Rattle.definitions.specs.Refusal.{Outcome, refused, done, _>>=_}
+use Rattle.definitions.specs.Refusal.{Outcome, refused, done}
 use Rattle.definitions.specs.Matrix.{Matrix, storedAt, entriesOf, valuesWhere, validOf}
 use Rattle.definitions.specs.Factor.{entry, factorFrom}
 use Rattle.definitions.specs.Block.{maxBlock, blockCount, widthOf, blockEntry, blockOf, inBlock, topOf, skewed, blockFactor, factorsFrom, factorsOf, blocksCall, blockPart}
 use Rattle.definitions.specs.declared.Refusal.the-variants.{NotSquare, BlockSize, ListTooShort, BlockNotSymmetric, BlockPivot}
 use Rattle.laws.specs.Lists.{getD-square, square-cong, part-mid}
 use Rattle.laws.specs.Outcomes.{done-inj, refused-not-done, bind-done, test-passed}
-use Rattle.laws.specs.Factor.{Placing, Rows, starts-apart, factor-rows, factor-length, factor-outside, rows-agree, rows-same}
+use Rattle.laws.specs.Factor.{Placing, Rows, starts-apart, factor-rows, factor-length, factor-outside, rows-same}
 
 -- ---- the places of a block
 
@@ -62,59 +61,37 @@ module _ (a : Matrix) (start w : ℕ) where
   numbers : ℕ → ℕ → Float
   numbers i j = getD (blockOf a start w) (inBlock w i j) nan
 
-  opened : (l : List Float) → blockFactor a start w ≡ done l
-      → (m : List Float) × (factorFrom (inBlock w) (λ i. BlockPivot (start + i)) numbers (blockTol a start w) w 0 (replicate 64 zeroᶠ) ≡ done m) × (done (take (w * w) m) ≡ done l)
+  opened : (l : List Float) → blockFactor a start w ≡ done l → factorFrom (inBlock w) (λ i. BlockPivot (start + i)) numbers (blockTol a start w) w 0 (replicate (w * w) zeroᶠ) ≡ done l
   unfolding blockFactor numbers
   opened l e = go (skewed (blockOf a start w) w (symmetryTol *ᶠ topOf (blockOf a start w))) e
     where
       go : (b : Bool) → _≡_ {A = Outcome (List Float)} (elim b [
         | true ↦ refused (BlockNotSymmetric start)
-        | false ↦ factorFrom (inBlock w) (λ i. BlockPivot (start + i)) (λ i j. getD (blockOf a start w) (inBlock w i j) nan) (pivotTol *ᶠ topOf (blockOf a start w)) w 0 (replicate 64 zeroᶠ) >>= (λ x. done (take (w * w) x))
+        | false ↦ factorFrom (inBlock w) (λ i. BlockPivot (start + i)) (λ i j. getD (blockOf a start w) (inBlock w i j) nan) (pivotTol *ᶠ topOf (blockOf a start w)) w 0 (replicate (w * w) zeroᶠ)
       ]) (done l)
-          → (m : List Float) × (factorFrom (inBlock w) (λ i. BlockPivot (start + i)) numbers (blockTol a start w) w 0 (replicate 64 zeroᶠ) ≡ done m) × (done (take (w * w) m) ≡ done l)
+          → factorFrom (inBlock w) (λ i. BlockPivot (start + i)) (λ i j. getD (blockOf a start w) (inBlock w i j) nan) (pivotTol *ᶠ topOf (blockOf a start w)) w 0 (replicate (w * w) zeroᶠ) ≡ done l
       go true u = absurd (refused-not-done u)
-      go false u = bind-done (factorFrom (inBlock w) (λ i. BlockPivot (start + i)) (λ i j. getD (blockOf a start w) (inBlock w i j) nan) (pivotTol *ᶠ topOf (blockOf a start w)) w 0 (replicate 64 zeroᶠ)) _ l u
+      go false u = u
 
-  module _ (l : List Float) (h : w ≤ 8) (e : blockFactor a start w ≡ done l) where
-    small : w * w ≤ 64
-    small = mul-le-mul h h
-
-    -- as 64 numbers
-    whole : List Float
-    whole = opened l e .0
-
-    whole-is : take (w * w) whole ≡ l
-    unfolding whole
-    whole-is = done-inj (opened l e .2)
-
-    whole-at : (i j : ℕ) → i < w → j < w → entry (inBlock w) whole i j ≡ entry (inBlock w) l i j
-    whole-at i j p q = sym (getD-take (w * w) whole (inBlock w i j) nan (in-block w i j p q)) ∙ ap (λ (x : List Float). entry (inBlock w) x i j) whole-is
-
+  module _ (l : List Float) (e : blockFactor a start w ≡ done l) where
     pub block-factor-length : length l ≡ w * w
-    unfolding whole
-    block-factor-length =
-        ap length (sym whole-is)
-        ∙ length-take-le (w * w) whole
-        (subst (λ (x : ℕ). w * w ≤ x) (sym (factor-length (inBlock w) numbers (λ i. BlockPivot (start + i)) (blockTol a start w) w (replicate 64 zeroᶠ) whole (opened l e .1) ∙ length-replicate 64 zeroᶠ)) small)
+    block-factor-length = factor-length (inBlock w) numbers (λ i. BlockPivot (start + i)) (blockTol a start w) w (replicate (w * w) zeroᶠ) l (opened l e) ∙ length-replicate (w * w) zeroᶠ
 
     -- THE LAW: the root of the pivot on the diagonal, the quotient left of it
     pub block-rows : Rows (inBlock w) (blockEntry a start) (blockTol a start w) w l
-    unfolding whole numbers blockOf
+    unfolding numbers blockOf
     block-rows =
         rows-same (inBlock w) numbers (blockEntry a start) (blockTol a start w) w l (λ i j p q. getD-square w (blockEntry a start) i j nan p (lt-of-le-of-lt q p))
-        (rows-agree (inBlock w) numbers (blockTol a start w) w whole l (λ i j p q. whole-at i j p (lt-of-le-of-lt q p))
-        (factor-rows (inBlock w) w 64 (block-placing w 64 small) numbers (λ i. BlockPivot (start + i)) (blockTol a start w) (replicate 64 zeroᶠ) whole (length-replicate 64 zeroᶠ) (opened l e .1)))
+        (factor-rows (inBlock w) w (w * w) (block-placing w (w * w) (le-refl (w * w))) numbers (λ i. BlockPivot (start + i)) (blockTol a start w) (replicate (w * w) zeroᶠ) l (length-replicate (w * w) zeroᶠ) (opened l e))
 
     -- and zero above it
     pub block-above : (i j : ℕ) → i < j → j < w → entry (inBlock w) l i j ≡ zeroᶠ
-    unfolding whole
     block-above i j p q =
         let at = inBlock w i j in
-        sym (whole-at i j (le-trans p (le-of-lt q)) q)
-        ∙ factor-outside (inBlock w) numbers (λ k. BlockPivot (start + k)) (blockTol a start w) w at nan (replicate 64 zeroᶠ) whole
+        factor-outside (inBlock w) numbers (λ k. BlockPivot (start + k)) (blockTol a start w) w at nan (replicate (w * w) zeroᶠ) l
         (λ k m g t u. let d = digits w i j k m q (lt-of-le-of-lt g t) u in lt-irrefl i (lt-of-lt-of-le p (subst (λ (x : ℕ). x ≤ i) (sym (d .1)) (subst (λ (x : ℕ). m ≤ x) (sym (d .0)) g))))
-        (opened l e .1)
-        ∙ getD-replicate 64 at zeroᶠ nan (lt-of-lt-of-le (in-block w i j (le-trans p (le-of-lt q)) q) small)
+        (opened l e)
+        ∙ getD-replicate (w * w) at zeroᶠ nan (in-block w i j (le-trans p (le-of-lt q)) q)
 
 -- ---- all blocks: block k stands at k · size²
 
@@ -129,14 +106,7 @@ full-width rows size k p h = narrow rows size (k * size) (short k size rows p (l
     narrow : (n x y : ℕ) → y + x ≤ n → min x (n - y) ≡ x
     narrow n x y g = omega arith
 
-pub width-limit : (rows size k : ℕ) → widthOf rows size k ≤ size
-unfolding widthOf
-width-limit rows size k = low size (rows - k * size)
-  where
-    low : (x y : ℕ) → min x y ≤ x
-    low x y = omega arith
-
-module _ (a : Matrix) (size : ℕ) (p : 1 ≤ size) (h : size ≤ 8) where
+module _ (a : Matrix) (size : ℕ) (p : 1 ≤ size) where
   -- the width of block k
   wide : ℕ → ℕ
   wide k = widthOf (a .rows) size k
@@ -153,7 +123,7 @@ module _ (a : Matrix) (size : ℕ) (p : 1 ≤ size) (h : size ≤ 8) where
       none x y g l = omega arith
   from-standing (suc left) k fs out n len e =
       let b = bind-done (blockFactor a (k * size) (wide k)) _ out e in
-      let long : length (b .0) ≡ wide k * wide k = block-factor-length a (k * size) (wide k) (b .0) (le-trans (width-limit (a .rows) size k) h) (b .1) in
+      let long : length (b .0) ≡ wide k * wide k = block-factor-length a (k * size) (wide k) (b .0) (b .1) in
       let ih = from-standing left (suc k) (fs ++ b .0) out (next k left (blockCount (a .rows) size) n)
       (λ t. length-append fs (b .0) ∙ ap (λ (x : ℕ). x + length (b .0)) (len (zero-lt-suc left)) ∙ ap (λ (x : ℕ). k * size * size + x) (long ∙ ap (λ (x : ℕ). x * x) (full-width (a .rows) size k p (more k left (blockCount (a .rows) size) n t))) ∙ square-on k size)
       (b .2) in
@@ -224,7 +194,7 @@ module _ (a b : Matrix) (start w : ℕ) where
     unfolding blockFactor
     block-factors = ap (λ (d : List Float). elim (skewed d w (symmetryTol *ᶠ topOf d)) [
       | true ↦ refused (BlockNotSymmetric start)
-      | false ↦ factorFrom (inBlock w) (λ i. BlockPivot (start + i)) (λ i j. getD d (inBlock w i j) nan) (pivotTol *ᶠ topOf d) w 0 (replicate 64 zeroᶠ) >>= (λ x. done (take (w * w) x))
+      | false ↦ factorFrom (inBlock w) (λ i. BlockPivot (start + i)) (λ i j. getD d (inBlock w i j) nan) (pivotTol *ᶠ topOf d) w 0 (replicate (w * w) zeroᶠ)
     ]) block-gathers
 
   rows-store : ((i : ℕ) → i < w → entriesOf a (start + i) ≡ entriesOf b (start + i)) → (i j : ℕ) → i < w → j < w → storedAt a (start + i) (start + j) ≡ storedAt b (start + i) (start + j)
@@ -247,4 +217,4 @@ module _ (a b : Matrix) (size k : ℕ) (rows : a .rows ≡ b .rows)
   own-part room room′ fs gs e f l =
       let x = call-accepted a size room fs e in
       let y = call-accepted b size room′ gs f in
-      done-inj (sym (block-stands a size (x .some) (x .limit) fs (x .factored) k l) ∙ own-factor ∙ block-stands b size (y .some) (y .limit) gs (y .factored) k (subst (λ (n : ℕ). k < blockCount n size) rows l))
+      done-inj (sym (block-stands a size (x .some) fs (x .factored) k l) ∙ own-factor ∙ block-stands b size (y .some) gs (y .factored) k (subst (λ (n : ℕ). k < blockCount n size) rows l))

@@ -19,7 +19,7 @@ use Rattle.definitions.specs.Block.{blockCount, widthOf, blockEntry, blockOf, i
 use Rattle.laws.specs.Lists.{Each, each-head, each-tail, each-tab, tab-each}
 use Rattle.laws.specs.Same.{Zero, Finite, nil, round-zero, sub-finite}
 use Rattle.laws.specs.Factor.{Rows}
-use Rattle.laws.specs.BlockFactors.{blockTol, block-rows, block-stands, width-limit}
+use Rattle.laws.specs.BlockFactors.{blockTol, block-rows, block-stands}
 use Rattle.laws.specs.FiniteFactor.{unsigned, round-unsigned, tolerance-unsigned, above-positive, reduced-finite}
 
 -- ---- a square has no sign, and a number less one is not above zero unless it was
@@ -96,7 +96,7 @@ diagonal-positive place a tol n l p r i h =
 
 -- ---- the diagonal sum of a row whose block is accepted
 
-module _ (a : Matrix) (size : ℕ) (p : 1 ≤ size) (h : size ≤ 8) where
+module _ (a : Matrix) (size : ℕ) (p : 1 ≤ size) where
   row-block : (r : ℕ) → r < a .rows → r / size < blockCount (a .rows) size
   unfolding blockCount
   row-block r l = le-div-iff-mul-le p .1 (over (r / size * size) (r % size) r size (a .rows) (div-add-mod' r size) l p (next (r / size) size))
@@ -121,4 +121,4 @@ module _ (a : Matrix) (size : ℕ) (p : 1 ≤ size) (h : size ≤ 8) where
       let w = widthOf (a .rows) size k in
       subst (λ (x : ℕ). T (positive (total (storedAt a x x)))) (div-add-mod' r size)
       (diagonal-positive (inBlock w) (blockEntry a (k * size)) (blockTol a (k * size) w) w (blockPart size w k factors) (tolerance-unsigned (blockOf a (k * size) w))
-      (block-rows a (k * size) w (blockPart size w k factors) (le-trans (width-limit (a .rows) size k) h) (block-stands a size p h factors e k (row-block r l))) (r % size) (row-inside r l))
+      (block-rows a (k * size) w (blockPart size w k factors) (block-stands a size p factors e k (row-block r l))) (r % size) (row-inside r l))

@@ -25,7 +25,7 @@ use Rattle.laws.specs.Same.{Finite, nil, sub-finite, mul-finite}
 use Rattle.laws.specs.Near.{zero-fits}
 use Rattle.laws.specs.RootLaws.{root-positive}
 use Rattle.laws.specs.Factor.{Rows, coarse-rows}
-use Rattle.laws.specs.BlockFactors.{blockTol, block-rows, block-stands, width-limit, call-accepted}
+use Rattle.laws.specs.BlockFactors.{blockTol, block-rows, block-stands, call-accepted}
 
 -- every entry on and below the diagonal is finite, and every entry on it is above zero
 pub record FiniteFactor (place : ℕ → ℕ → ℕ) (n : ℕ) (l : List Float) : Type 0 where
@@ -189,20 +189,20 @@ finite-factor place a tol n l p held r = record { real = λ i j h g. at i j h (e
 
 -- ---- a block that gives neither 14 nor 15
 
-pub block-finite : (a : Matrix) (start w : ℕ) (l : List Float) → w ≤ 8 → blockFactor a start w ≡ done l → FiniteFactor (inBlock w) w l
+pub block-finite : (a : Matrix) (start w : ℕ) (l : List Float) → blockFactor a start w ≡ done l → FiniteFactor (inBlock w) w l
 unfolding blockEntry topOf
-block-finite a start w l h e =
-    finite-factor (inBlock w) (blockEntry a start) (blockTol a start w) w l (tolerance-unsigned (blockOf a start w)) (λ i g. total-fits (storedAt a (start + i) (start + i))) (block-rows a start w l h e)
+block-finite a start w l e =
+    finite-factor (inBlock w) (blockEntry a start) (blockTol a start w) w l (tolerance-unsigned (blockOf a start w)) (λ i g. total-fits (storedAt a (start + i) (start + i))) (block-rows a start w l e)
 
 -- every block of an accepted setup's or call's factors
-pub factors-finite : (a : Matrix) (size : ℕ) (factors : List Float) → 1 ≤ size → size ≤ 8 → factorsOf a size ≡ done factors → (k : ℕ) → k < blockCount (a .rows) size
+pub factors-finite : (a : Matrix) (size : ℕ) (factors : List Float) → 1 ≤ size → factorsOf a size ≡ done factors → (k : ℕ) → k < blockCount (a .rows) size
     → FiniteFactor (inBlock (widthOf (a .rows) size k)) (widthOf (a .rows) size k) (blockPart size (widthOf (a .rows) size k) k factors)
-factors-finite a size factors p h e k l =
-    block-finite a (k * size) (widthOf (a .rows) size k) (blockPart size (widthOf (a .rows) size k) k factors) (le-trans (width-limit (a .rows) size k) h) (block-stands a size p h factors e k l)
+factors-finite a size factors p e k l =
+    block-finite a (k * size) (widthOf (a .rows) size k) (blockPart size (widthOf (a .rows) size k) k factors) (block-stands a size p factors e k l)
 
 pub blocks-finite : (a : Matrix) (size room : ℕ) (factors : List Float) → blocksCall a size room ≡ done factors → (k : ℕ) → k < blockCount (a .rows) size
     → FiniteFactor (inBlock (widthOf (a .rows) size k)) (widthOf (a .rows) size k) (blockPart size (widthOf (a .rows) size k) k factors)
-blocks-finite a size room factors e k l = let c = call-accepted a size room factors e in factors-finite a size factors (c .some) (c .limit) (c .factored) k l
+blocks-finite a size room factors e k l = let c = call-accepted a size room factors e in factors-finite a size factors (c .some) (c .factored) k l
 
 -- ---- a coarse factor that gives neither 23 nor 24
 

@@ -103,11 +103,10 @@ block-clear a start w = go (skewed (blockOf a start w) w (symmetryTol *ᶠ topOf
   where
     go : (b : Bool) → Clear {A = List Float} (elim b [
       | true ↦ refused (BlockNotSymmetric start)
-      | false ↦ factorFrom (inBlock w) (λ i. BlockPivot (start + i)) (λ i j. getD (blockOf a start w) (inBlock w i j) nan) (pivotTol *ᶠ topOf (blockOf a start w)) w 0 (replicate 64 zeroᶠ) >>= (λ x. done (take (w * w) x))
+      | false ↦ factorFrom (inBlock w) (λ i. BlockPivot (start + i)) (λ i j. getD (blockOf a start w) (inBlock w i j) nan) (pivotTol *ᶠ topOf (blockOf a start w)) w 0 (replicate (w * w) zeroᶠ)
     ])
     go true = tt
-    go false = clear-bind (factorFrom (inBlock w) (λ i. BlockPivot (start + i)) (λ i j. getD (blockOf a start w) (inBlock w i j) nan) (pivotTol *ᶠ topOf (blockOf a start w)) w 0 (replicate 64 zeroᶠ)) _
-        (factor-clear (inBlock w) (λ i. BlockPivot (start + i)) (λ i j. getD (blockOf a start w) (inBlock w i j) nan) (pivotTol *ᶠ topOf (blockOf a start w)) (λ i. tt) w 0 (replicate 64 zeroᶠ)) (λ x _. tt)
+    go false = factor-clear (inBlock w) (λ i. BlockPivot (start + i)) (λ i j. getD (blockOf a start w) (inBlock w i j) nan) (pivotTol *ᶠ topOf (blockOf a start w)) (λ i. tt) w 0 (replicate (w * w) zeroᶠ)
 
 factors-clear : (a : Matrix) (size left k : ℕ) (fs : List Float) → Clear (factorsFrom a size left k fs)
 unfolding factorsFrom
@@ -265,7 +264,7 @@ setup-clear a o room =
     clear-test _ (CoarseTooLarge c) _ tt (λ _.
     clear-test _ (CoarseListTooShort c) _ tt (λ _.
     clear-bind (transferFor (o .basis) a (o .block) (g .ids) c) _
-    (transfer-clear (o .basis) a (o .block) (g .ids) c (λ r l. let b = block-sizes a o front in sum-positive a (o .block) (b .0) (b .1) factors factored r l)) (λ t _.
+    (transfer-clear (o .basis) a (o .block) (g .ids) c (λ r l. let b = block-sizes a o front in sum-positive a (o .block) (b .0) factors factored r l)) (λ t _.
     clear-bind (done (averagedSquare c (coarseMatrix a o g t))) _ tt (λ m _.
     clear-bind (coarseFactor c m) _ (coarse-clear c m) (λ _ _. tt))))))))))
 

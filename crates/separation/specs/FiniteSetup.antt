@@ -64,7 +64,7 @@ module _ {a : Matrix} {o : Options} (s : Stages a o) where
   block-factors-finite k h =
       let z = sound s in
       subst (λ (w : ℕ). FiniteFactor (inBlock w) w (blockPart (o .block) w k (s .factors))) (width-is-size (a .rows) (o .block) k (z .whole) h)
-      (factors-finite a (o .block) (s .factors) (z .block-some) (z .block-limit) (s .factored) k (subst (λ (n : ℕ). k < n) (sym (blocks-are-nodes (a .rows) (o .block) (z .block-some) (z .whole))) h))
+      (factors-finite a (o .block) (s .factors) (z .block-some) (s .factored) k (subst (λ (n : ℕ). k < n) (sym (blocks-are-nodes (a .rows) (o .block) (z .block-some) (z .whole))) h))
 
   stored-finite : (rest : List Float) → FiniteSetup (built s .setup) (built s .floats ++ rest)
   unfolding builtFrom coarsePart

@@ -34,18 +34,18 @@ use Rattle.separation.specs.ApplyApart.{blocks-are-nodes, width-is-size,
 
 -- ---- lengths: the block factors
 
-factors-from-length : (a : Matrix) (size : ℕ) → size ≤ 8 → (left k : ℕ) → ((j : ℕ) → j < k + left → widthOf (a .rows) size j ≡ size) → (done-so-far out : List Float)
+factors-from-length : (a : Matrix) (size left k : ℕ) → ((j : ℕ) → j < k + left → widthOf (a .rows) size j ≡ size) → (done-so-far out : List Float)
     → factorsFrom a size left k done-so-far ≡ done out → length out ≡ length done-so-far + left * (size * size)
 unfolding factorsFrom
-factors-from-length a size h zero k W fs out e = ap length (sym (done-inj e)) ∙ flat (length fs) (size * size)
+factors-from-length a size zero k W fs out e = ap length (sym (done-inj e)) ∙ flat (length fs) (size * size)
   where
     flat : (x y : ℕ) → x ≡ x + 0 * y
     flat x y = omega arith
-factors-from-length a size h (suc left) k W fs out e =
+factors-from-length a size (suc left) k W fs out e =
     let r = bind-done (blockFactor a (k * size) (widthOf (a .rows) size k)) _ out e in
     let w : widthOf (a .rows) size k ≡ size = W k (here k left) in
-    let one : length (r .0) ≡ size * size = block-factor-length a (k * size) (widthOf (a .rows) size k) (r .0) (subst (λ (x : ℕ). x ≤ 8) (sym w) h) (r .1) ∙ ap (λ (x : ℕ). x * x) w in
-    factors-from-length a size h left (suc k) (λ j l. W j (shift j k left l)) (fs ++ r .0) out (r .2)
+    let one : length (r .0) ≡ size * size = block-factor-length a (k * size) (widthOf (a .rows) size k) (r .0) (r .1) ∙ ap (λ (x : ℕ). x * x) w in
+    factors-from-length a size left (suc k) (λ j l. W j (shift j k left l)) (fs ++ r .0) out (r .2)
     ∙ ap (λ (x : ℕ). x + left * (size * size)) (length-append fs (r .0) ∙ ap (λ (x : ℕ). length fs + x) one) ∙ sum (length fs) (size * size) left
   where
     here : (x y : ℕ) → x < x + suc y
@@ -57,11 +57,11 @@ factors-from-length a size h (suc left) k W fs out e =
     sum : (x y z : ℕ) → x + y + z * y ≡ x + suc z * y
     sum x y z = omega arith
 
-pub factors-length : (a : Matrix) (size : ℕ) (factors : List Float) → 1 ≤ size → size ≤ 8 → a .rows / size * size ≡ a .rows → factorsOf a size ≡ done factors
+pub factors-length : (a : Matrix) (size : ℕ) (factors : List Float) → 1 ≤ size → a .rows / size * size ≡ a .rows → factorsOf a size ≡ done factors
     → length factors ≡ a .rows * size
 unfolding factorsOf
-factors-length a size factors p h w e =
-    factors-from-length a size h (blockCount (a .rows) size) 0
+factors-length a size factors p w e =
+    factors-from-length a size (blockCount (a .rows) size) 0
     (λ j l. width-is-size (a .rows) size j w (subst (λ (x : ℕ). j < x) (plain (blockCount (a .rows) size) ∙ blocks-are-nodes (a .rows) size p w) l)) [] factors e
     ∙ plain (blockCount (a .rows) size * (size * size)) ∙ ap (λ (x : ℕ). x * (size * size)) (blocks-are-nodes (a .rows) size p w)
     ∙ sym (mul-assoc (a .rows / size) size size) ∙ ap (λ (x : ℕ). x * size) w
@@ -130,7 +130,7 @@ module _ {a : Matrix} {o : Options} (s : Stages a o) (zs : List ℕ) (fs : List 
   ids-many = ids-length a o (s .groups) (o .aggregation) (sound s .group-some) (s .grouped)
 
   pub factors-many : length (s .factors) ≡ a .rows * o .block
-  factors-many = factors-length a (o .block) (s .factors) (sound s .block-some) (sound s .block-limit) (sound s .whole) (s .factored)
+  factors-many = factors-length a (o .block) (s .factors) (sound s .block-some) (sound s .whole) (s .factored)
 
   pub coarse-many : length cp ≡ coarseLength (policyBy s) (dimension s)
   coarse-many = coarse-part-length (policyBy s) (dimension s) (coarseAveraged s) (s .factor) (coarse-factor-length (dimension s) (coarseAveraged s) (s .factor) (s .coarse))

@@ -63,10 +63,10 @@ clears-block a start w = go (skewed (blockOf a start w) w (symmetryTol *ᶠ topO
   where
     go : (b : Bool) → Clears {A = List Float} (elim b [
       | true ↦ refused (BlockNotSymmetric start)
-      | false ↦ factorFrom (inBlock w) (λ i. BlockPivot (start + i)) (λ i j. getD (blockOf a start w) (inBlock w i j) nan) (pivotTol *ᶠ topOf (blockOf a start w)) w 0 (replicate 64 zeroᶠ) >>= (λ l. done (take (w * w) l))
+      | false ↦ factorFrom (inBlock w) (λ i. BlockPivot (start + i)) (λ i j. getD (blockOf a start w) (inBlock w i j) nan) (pivotTol *ᶠ topOf (blockOf a start w)) w 0 (replicate (w * w) zeroᶠ)
     ])
     go true = refl
-    go false = clears-then _ _ (clears-factor (inBlock w) (λ i. BlockPivot (start + i)) _ _ (λ i. refl) w 0 (replicate 64 zeroᶠ)) (λ l. clears-done (take (w * w) l))
+    go false = clears-factor (inBlock w) (λ i. BlockPivot (start + i)) _ _ (λ i. refl) w 0 (replicate (w * w) zeroᶠ)
 
 clears-blocks : (a : Matrix) (size left k : ℕ) (factors : List Float) → Clears (factorsFrom a size left k factors)
 unfolding factorsFrom

@@ -109,7 +109,7 @@ module _ (a : Matrix) (o : Options) (ints : List ℕ) (floats : List Float) (wor
         let st : floats1 ≡ padded zeroᶠ (length floats) (h .0) = ef ∙ ap (λ p. resultLeft zeroᶠ p floats) (blocks-pass ∙ h .1) in
         let fl : Floats a o (h .0) [] floats1 = record {
           stand = st ∙ ap (λ l. padded zeroᶠ (length floats) l) (sym (append-nil (h .0))) ∙ ap (λ n. padded zeroᶠ n (h .0 ++ [])) (sym lf);
-          many = factors-length a (o .block) (h .0) (f .front .least) (f .front .most) (rows-whole a o (f .front)) (h .1);
+          many = factors-length a (o .block) (h .0) (f .front .least) (rows-whole a o (f .front)) (h .1);
         } in
         leaves-same (fromBlocks a o room) (fromFactors a o room (h .0)) room r y (goes-on (factorsOf a (o .block)) (h .0) _ (h .1))
         (subst (λ n. Leaves (fromFactors a o (roomOf (length ints) n (length workInts) (length workFloats)) (h .0)) (roomOf (length ints) n (length workInts) (length workFloats)) r y) lf (k (h .0) fl))

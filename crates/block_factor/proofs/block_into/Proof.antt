@@ -29,7 +29,8 @@ returns c =
     let x = c .before .before .before .before .before .before .before .before .before .args in
     let g = c .before .before .before .before .gather in
     let f = c .before .before .before .factor in
-    into-refused (csr (x .rows) (x .rows) (x .row-ptr .now) (x .col-idx .now) (x .values .now)) (x .first) (x .w) (g .result) (f .result) (g .ensures .0) (g .ensures .1) (f .ensures) _ (x .place .now) (c .before .answer .given .1)
+    let p = c .before .before .before .before .before .before .before .before .before .pre .1 in
+    into-refused (csr (x .rows) (x .rows) (x .row-ptr .now) (x .col-idx .now) (x .values .now)) (x .first) (x .w) (g .result) (f .result) (g .ensures .0) (g .ensures .1) (f .ensures) (square-fits (x .w) (p .1)) _ (x .place .now) (c .before .answer .given .1)
 
 same-length : tie.Need-same-length
 same-length c = search needs
@@ -40,8 +41,8 @@ returns-2 c =
     let g = c .before .before .before .before .before .before .before .before .before .before .gather in
     let f = c .before .before .before .before .before .before .before .before .before .factor in
     let p = c .before .before .before .before .before .before .before .before .before .before .before .before .before .before .before .pre .1 in
-    into-accepted (csr (x .rows) (x .rows) (x .row-ptr .now) (x .col-idx .now) (x .values .now)) (x .first) (x .w) (g .result) (f .result) (g .ensures .0) (g .ensures .1) (f .ensures) (x .place .now) _ (c .before .before .before .before .before .before .before .enum-told .given .1)
-    (p .2) (square-fits (x .w) (p .1)) (c .before .before .copy-floats .ensures)
+    into-accepted (csr (x .rows) (x .rows) (x .row-ptr .now) (x .col-idx .now) (x .values .now)) (x .first) (x .w) (g .result) (f .result) (g .ensures .0) (g .ensures .1) (f .ensures) (square-fits (x .w) (p .1)) (x .place .now) _ (c .before .before .before .before .before .before .before .enum-told .given .1)
+    (p .2) (c .before .before .copy-floats .ensures)
 
 pub block-into-spec : {M : Type 1} → statement M
 block-into-spec =
