@@ -5,7 +5,7 @@ use mathlib.Core.Bool.{Bool, true, false}
 use mathlib.Core.List.{List}
 use native.Mathlib.Omega.{arith}
 use native.Mathlib.Nat.{le-refl}
-use lib.ListN.{getD, set, take, replicate, length-replicate, replicate-append-replicate}
+use lib.ListN.{set, take, replicate, length-replicate, replicate-append-replicate}
 use lib.Seq.{getD-take, take-set-lt, take-at}
 use lib.Ieee.{Float, nan}
 use Rattle.definitions.specs.Numbers.{_*ᶠ_, _/ᶠ_, rootᶠ, zeroᶠ, reduced, above}

@@ -7,7 +7,7 @@ use Prim.Native.Nat.{ℕ, zero, suc, _+_, _*_, _≤_, _<_}
 use native.Mathlib.Nat.{not-suc-le-zero, lt-irrefl, le-refl, le-of-lt, mul-pos, zero-lt-suc}
 use native.Mathlib.Omega.{arith}
 use lib.Dec.{T, leb, ltb, eqb, leb→le, ltb→lt, eqb→eq}
-use lib.ListN.{getD, set, take, replicate}
+use lib.ListN.{getD, set, replicate}
 use lib.Ieee.{Float, nan, inf, fin, up, down, lt, eq, ofBits}
 use lib.Ieee.Fits.{and-l, and-r, up-pos}
 use lib.Ieee.Positive.{positive}

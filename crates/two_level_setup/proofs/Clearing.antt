@@ -3,7 +3,7 @@ use Prim.Native.Nat.{ℕ, zero, suc, _+_, _*_}
 use mathlib.Core.Path.{_≡_, refl}
 use mathlib.Core.Bool.{Bool, true, false}
 use mathlib.Core.List.{List, [], _∷_, _++_}
-use lib.ListN.{getD, take, replicate, set}
+use lib.ListN.{getD, replicate, set}
 use lib.Ieee.{Float, nan, lt}
 use Rattle.definitions.specs.Numbers.{_*ᶠ_, zeroᶠ, rootᶠ, usable, above, symmetryTol, pivotTol, total}
 use Rattle.definitions.specs.Refusal.{Outcome, refused, done, require, _>>=_, keepsAll, numberOf}
