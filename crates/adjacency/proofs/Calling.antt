@@ -24,7 +24,7 @@ use Rattle.definitions.specs.declared.TwoLevelAggregation.{TwoLevelAggregation}
 use Rattle.csr32.specs.Calls.{accepted-done, refused-is, Keeps, keeps-require, keeps-then, keeps-refused, goes-on, stops, result-kept, work-kept}
 use Rattle.csr32.specs.Rows.{Rows}
 use Rattle.csr32.specs.Valid.{accepted-rows, square-rows, valid-goes, valid-stops, valid-kept}
-use Rattle.laws.specs.Tests.{both-true}
+use Rattle.laws.proofs.Tests.{both-true}
 use Rattle.adjacency.specs.Fits.{four, enough, fitsOf}
 use Rattle.adjacency.specs.Formed.{Formed}
 use Rattle.adjacency.specs.Within.{neighboursWithin}

@@ -11,7 +11,7 @@ use Rattle.definitions.specs.Lists.{tab, padded, pointersFrom, joinedLists}
 use Rattle.definitions.specs.Matrix.{Matrix}
 use Rattle.definitions.specs.Neighbours.{listFor, neighbourLists, flatNeighbours}
 use Rattle.definitions.specs.declared.TwoLevelAggregation.the-variants.{Contiguous, Graph, StrongGraph}
-use Rattle.laws.specs.Lists.{length-tab, tab-cong}
+use Rattle.laws.proofs.Lists.{length-tab, tab-cong}
 use Rattle.adjacency.specs.Flat.{flatOf}
 use Rattle.adjacency.specs.Lined.{Lined}
 use Rattle.adjacency.specs.Lists.{listOf}

@@ -9,7 +9,7 @@ use lib.Dec.{eqb, ltb}
 use lib.ListN.{length, getD, set, take, length-take, length-drop, length-set, length-map}
 use lib.Seq.{getD-take, getD-drop, slice, length-slice, getD-set-same, getD-set-other}
 use Rattle.definitions.specs.Lists.{upTo, any}
-use Rattle.laws.specs.Kept.{keep-length}
+use Rattle.laws.proofs.Kept.{keep-length}
 use Rattle.adjacency.specs.Order.{insertBy, sortBy, Weak, Below}
 use Rattle.adjacency.specs.Collect.{gather, marked, nodesIn, Inside, others}
 use Rattle.adjacency.proofs.Halves.{All}

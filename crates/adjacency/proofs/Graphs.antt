@@ -12,7 +12,7 @@ use lib.Seq.{length-take-le, getD-take, getD-set-same, getD-set-other, take-set-
 use lib.Ieee.{Float}
 use Rattle.definitions.specs.Lists.{tab, joinedLists}
 use Rattle.definitions.specs.Matrix.{Matrix, csr}
-use Rattle.laws.specs.Growing.{tab-snoc}
+use Rattle.laws.proofs.Growing.{tab-snoc}
 use Rattle.adjacency.specs.Formed.{Formed}
 use Rattle.adjacency.specs.Lined.{joinedUpTo, Lined}
 use Rattle.adjacency.specs.Lists.{listOf, Between, Listed}

@@ -13,7 +13,7 @@ use lib.Ieee.{Float, nan}
 use Rattle.definitions.specs.Lists.{keep}
 use Rattle.definitions.specs.Numbers.{_+ᶠ_, squared, total, zeroᶠ}
 use Rattle.definitions.specs.Matrix.{Entry, valuesWhere, stored}
-use Rattle.laws.specs.Kept.{keep-yes, keep-no}
+use Rattle.laws.proofs.Kept.{keep-yes, keep-no}
 use Rattle.adjacency.specs.Strengths.{cleared, weighed, squaresIn}
 use Rattle.adjacency.proofs.Steps.{slice-none, getD-any}
 

@@ -3,3 +3,5 @@ mod Upto
 mod Stages
 mod Placed
 mod Answered
+pub mod Appearance
+pub mod Stops

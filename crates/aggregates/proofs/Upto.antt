@@ -7,8 +7,8 @@ use Prim.Native.Nat.{ℕ, zero, suc, _≤_, _<_}
 use native.Mathlib.Omega.{arith}
 use lib.ListN.{length, getD, set, length-set}
 use Rattle.definitions.specs.Groups.{Joining, Groups, nodesIn, sizeIn, relabelled, joined, replay, takerOf, roundFrom, joiningsFrom, groupsOf, nodesOf}
-use Rattle.laws.specs.Lists.{length-tab}
-use Rattle.aggregates.specs.Stops.{taker-other, replay-append, round-stays, round-joins, rounds-end, rounds-go}
+use Rattle.laws.proofs.Lists.{length-tab}
+use Rattle.aggregates.proofs.Stops.{taker-other, replay-append, round-stays, round-joins, rounds-end, rounds-go}
 use Rattle.aggregates.proofs.growth.Between.{set-cases}
 
 -- every group number is at most `top`, and there are `top` member lists besides the first

@@ -5,8 +5,6 @@ pub mod Growth
 pub mod Numbered
 pub mod JoinChoice
 pub mod JoinState
-pub mod Stops
 pub mod Checked
 pub mod Settled
 pub mod Within
-pub mod Appearance

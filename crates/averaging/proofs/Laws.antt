@@ -14,7 +14,7 @@ use borrow.Author.Tests.{eq-eqb, ne-eqb, lt-ltb, le-ltb, le-leb, lt-leb}
 use Rattle.definitions.specs.Lists.{square}
 use Rattle.definitions.specs.Numbers.{_+ᶠ_, _*ᶠ_, half}
 use Rattle.definitions.specs.Coarse.{averaged, averagedSquare, entryIn}
-use Rattle.laws.specs.Lists.{length-square}
+use Rattle.laws.proofs.Lists.{length-square}
 use Rattle.averaging.specs.Averaging.{pairHalf, pairAveraged, tile, Averages, averagedIn}
 use Rattle.definitions.specs.Setup.{maxCoarse}
 use Rattle.averaging.proofs.Lists.{square-is, split-is}

@@ -2,3 +2,4 @@ pub mod Sums
 pub mod Triangles
 pub mod Places
 pub mod Calling
+pub mod Solved

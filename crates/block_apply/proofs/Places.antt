@@ -11,8 +11,8 @@ use lib.Seq.{take-at, drop-at, drop-drop, length-take-le}
 use lib.Ieee.{Float}
 use Rattle.definitions.specs.Lists.{upTo, part, tab}
 use Rattle.definitions.specs.Block.{widthOf, blockCount, blockSolve, blockPart, blockApplied}
-use Rattle.laws.specs.Growing.{upTo-snoc, flatMap-snoc}
-use Rattle.block_apply.specs.Solved.{solvedBlock, solvedBlocks}
+use Rattle.laws.proofs.Growing.{upTo-snoc, flatMap-snoc}
+use Rattle.block_apply.proofs.Solved.{solvedBlock, solvedBlocks}
 use Rattle.block_apply.proofs.Triangles.{length-solve}
 
 -- ---- where a block lies

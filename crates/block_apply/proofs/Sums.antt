@@ -5,7 +5,7 @@ use native.Mathlib.Omega.{arith}
 use lib.Ieee.{Float}
 use Rattle.definitions.specs.Lists.{tab}
 use Rattle.definitions.specs.Numbers.{_-ᶠ_, reduced}
-use Rattle.laws.specs.Growing.{reduced-more}
+use Rattle.laws.proofs.Growing.{reduced-more}
 
 -- a sum over j from `first` on
 pub reduced-from : (x : Float) (f : ℕ → Float) (first j : ℕ) (s t : Float) → first ≤ j → s ≡ reduced x (tab f (j - first)) → t ≡ s -ᶠ f (j - first) → t ≡ reduced x (tab f (j + 1 - first))

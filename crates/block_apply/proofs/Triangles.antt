@@ -11,8 +11,8 @@ use lib.Ieee.{Float, nan}
 use Rattle.definitions.specs.Lists.{tab}
 use Rattle.definitions.specs.Numbers.{_-ᶠ_, _*ᶠ_, _/ᶠ_, reduced}
 use Rattle.definitions.specs.Block.{lower, forward, backward, blockSolve}
-use Rattle.laws.specs.Lists.{tab-cong}
-use Rattle.laws.specs.Growing.{reduced-none}
+use Rattle.laws.proofs.Lists.{tab-cong}
+use Rattle.laws.proofs.Growing.{reduced-none}
 use Rattle.block_apply.proofs.Sums.{reduced-from}
 
 -- row i lies within the factor, and the factor is small

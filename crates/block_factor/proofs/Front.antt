@@ -12,8 +12,8 @@ use Rattle.definitions.specs.Numbers.{_*ᶠ_, _/ᶠ_, rootᶠ, zeroᶠ, reduced
 use Rattle.definitions.specs.Refusal.{Outcome, refused, done, _>>=_}
 use Rattle.definitions.specs.Factor.{entry, products, rest, leftOf, factorFrom}
 use Rattle.definitions.specs.declared.Refusal.{Refusal}
-use Rattle.laws.specs.Lists.{tab-cong}
-use Rattle.laws.specs.Factor.{Placing}
+use Rattle.laws.proofs.Lists.{tab-cong}
+use Rattle.laws.proofs.Factor.{Placing}
 use Rattle.block_factor.specs.Dense.{blank}
 
 pub blank-front : (n : ℕ) → n ≤ 64 → take n blank ≡ replicate n zeroᶠ

@@ -16,9 +16,9 @@ use Rattle.definitions.specs.Lists.{tab, upTo, square}
 use Rattle.definitions.specs.Numbers.{_+ᶠ_, zeroᶠ, total}
 use Rattle.definitions.specs.Matrix.{Matrix, rowOf, entriesOf, storedAt}
 use Rattle.definitions.specs.Block.{blockEntry, blockOf}
-use Rattle.csr32.specs.Stored.{numbers-none, numbers-hit, numbers-miss}
-use Rattle.laws.specs.Lists.{tab-is, length-tab, getD-tab}
-use Rattle.laws.specs.Growing.{flatMap-snoc, upTo-snoc}
+use Rattle.csr32.proofs.Stored.{numbers-none, numbers-hit, numbers-miss}
+use Rattle.laws.proofs.Lists.{tab-is, length-tab, getD-tab}
+use Rattle.laws.proofs.Growing.{flatMap-snoc, upTo-snoc}
 use Rattle.block_factor.specs.Dense.{blank, dense}
 use Rattle.block_factor.specs.Gathered.{sumAt}
 

@@ -10,7 +10,7 @@ use lib.Seq.{length-take-le, take-at, drop-at}
 use lib.Ieee.{Float, nan}
 use borrow.Rule.Slice.PartMut.{putMid}
 use Rattle.numbers.specs.Copied.{copied}
-use Rattle.laws.specs.BlockFactors.{block-placing}
+use Rattle.laws.proofs.BlockFactors.{block-placing}
 use Rattle.definitions.specs.Numbers.{_*ᶠ_, rootᶠ, above, zeroᶠ, symmetryTol, pivotTol}
 use Rattle.definitions.specs.Refusal.{Outcome, refused, done, _>>=_}
 use Rattle.definitions.specs.Matrix.{Matrix}

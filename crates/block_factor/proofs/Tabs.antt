@@ -7,7 +7,7 @@ use native.Mathlib.Numerals.{add-one}
 use lib.ListN.{drop}
 use lib.Seq.{drop-cons, drop-length}
 use Rattle.definitions.specs.Lists.{tab, upTo, any}
-use Rattle.laws.specs.Lists.{length-tab, getD-tab}
+use Rattle.laws.proofs.Lists.{length-tab, getD-tab}
 
 -- ---- a test over 0, 1, .., n - 1, by what is left of it
 

@@ -11,9 +11,9 @@ use lib.Dec.{leb, eqb}
 use lib.ListN.{length, getD, set, drop}
 use lib.Seq.{drop-cons, set-at}
 use Rattle.definitions.specs.Lists.{tab}
-use Rattle.laws.specs.Lists.{length-tab}
+use Rattle.laws.proofs.Lists.{length-tab}
 use Rattle.byte_lists.specs.Bytes.{spelled, wordAt, over, readable, writable}
-use Rattle.byte_lists.specs.Laws.{piece}
+use Rattle.byte_lists.proofs.Laws.{piece}
 
 tab-snoc : {A : Type 0} (f : ℕ → A) (n : ℕ) → tab f (suc n) ≡ tab f n ++ (f n ∷ [])
 unfolding tab

@@ -1,1 +1,4 @@
 pub mod Filling
+pub mod Laws
+pub mod RoundTrip
+pub mod Examples

@@ -16,7 +16,7 @@ use Rattle.definitions.specs.Refusal.{refused, done}
 use Rattle.definitions.specs.declared.Refusal.the-variants.{CoarsePivot}
 use Rattle.definitions.specs.Coarse.{packed, packedLength, entryIn}
 use Rattle.averaging.proofs.Places.{place}
-use Rattle.laws.specs.Growing.{tab-snoc}
+use Rattle.laws.proofs.Growing.{tab-snoc}
 use Rattle.coarse_factor.proofs.Packed.{tri-row}
 
 -- ---- the largest magnitude

@@ -12,7 +12,7 @@ use Rattle.definitions.specs.Numbers.{_-ᶠ_, _*ᶠ_, _/ᶠ_, reduced}
 use Rattle.definitions.specs.Factor.{leftOf, rest, products}
 use Rattle.definitions.specs.Coarse.{packed, packedLength, entryIn}
 use Rattle.averaging.proofs.Places.{place}
-use Rattle.laws.specs.Lists.{tab-cong}
+use Rattle.laws.proofs.Lists.{tab-cong}
 use Rattle.coarse_factor.specs.declared.Four.{Four}
 use Rattle.coarse_factor.specs.Lanes.{RestFour, fourAt, setFour, solvedFour}
 use Rattle.coarse_factor.proofs.Packed.{tri-row, tri-step}

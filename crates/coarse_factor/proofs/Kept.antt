@@ -11,7 +11,7 @@ use lib.Seq.{getD-set-same, getD-set-other, getD-drop, take-all}
 use lib.Ieee.{Float, nan}
 use Rattle.definitions.specs.Numbers.{_*ᶠ_, summed}
 use Rattle.definitions.specs.Coarse.{packed, packedEntry, packedLength}
-use Rattle.laws.specs.Lists.{tab-cong}
+use Rattle.laws.proofs.Lists.{tab-cong}
 use Rattle.coarse_factor.specs.declared.Four.{Four}
 use Rattle.coarse_factor.specs.Lanes.{rowSum, colSum, Column, KeptBefore, RowFour, ColFour}
 use Rattle.coarse_factor.proofs.Cholesky.{triangle-small}

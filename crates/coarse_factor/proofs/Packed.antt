@@ -12,8 +12,8 @@ use lib.Ieee.{Float, nan}
 use Rattle.definitions.specs.Lists.{tab}
 use Rattle.definitions.specs.Numbers.{_+ᶠ_, _-ᶠ_, _*ᶠ_, _/ᶠ_, minusZero, summed}
 use Rattle.definitions.specs.Coarse.{packed, packedEntry, packedLength, packedForward, packedBackward, packedSolve}
-use Rattle.laws.specs.Lists.{tab-cong}
-use Rattle.laws.specs.Growing.{summed-none, summed-more}
+use Rattle.laws.proofs.Lists.{tab-cong}
+use Rattle.laws.proofs.Growing.{summed-none, summed-more}
 
 -- ---- triangular numbers
 

@@ -13,7 +13,7 @@ use Rattle.definitions.specs.Coarse.{coarseSolve, entryIn, packedForward, packe
 use Rattle.definitions.specs.declared.TwoLevelCoarseApplyPolicy.{TwoLevelCoarseApplyPolicy}
 use Rattle.definitions.specs.declared.TwoLevelCoarseApplyPolicy.the-variants.{Auto, FactorSolve, ExplicitInverse}
 use Rattle.averaging.proofs.Lists.{tail-zeros}
-use Rattle.laws.specs.Lists.{tab-is, tab-cong, length-tab}
+use Rattle.laws.proofs.Lists.{tab-is, tab-cong, length-tab}
 use Rattle.coarse_factor.specs.Lanes.{rowSum}
 use Rattle.coarse_factor.specs.Stored.{Products, Moved, inverseSolve}
 

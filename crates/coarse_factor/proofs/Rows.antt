@@ -17,8 +17,8 @@ use Rattle.definitions.specs.Coarse.{packedSolve, unit, inverseOf, averagedSqua
 use Rattle.averaging.proofs.Lists.{tail-zeros}
 use Rattle.averaging.specs.Averaging.{averagedIn}
 use Rattle.averaging.proofs.Laws.{average-fits, length-averaged}
-use Rattle.laws.specs.Lists.{tab-is, length-tab}
-use Rattle.laws.specs.Growing.{tab-snoc, flatMap-snoc}
+use Rattle.laws.proofs.Lists.{tab-is, length-tab}
+use Rattle.laws.proofs.Growing.{tab-snoc, flatMap-snoc}
 use Rattle.coarse_factor.specs.Stored.{solvedRows}
 use Rattle.coarse_factor.specs.Lanes.{fourSolved}
 use Rattle.coarse_factor.proofs.Products.{length-solve}

@@ -9,8 +9,8 @@ use lib.Ieee.{Float, nan}
 use Rattle.definitions.specs.Numbers.{_+ᶠ_, _-ᶠ_, _*ᶠ_, _/ᶠ_, summed, zeroᶠ, oneᶠ}
 use Rattle.definitions.specs.Coarse.{packed, packedEntry, packedLength, packedForward, packedBackward, packedSolve, unit}
 use Rattle.averaging.proofs.Lists.{take-zeros, drop-zeros}
-use Rattle.laws.specs.Lists.{tab-cong}
-use Rattle.laws.specs.Growing.{summed-more}
+use Rattle.laws.proofs.Lists.{tab-cong}
+use Rattle.laws.proofs.Growing.{summed-more}
 use Rattle.coarse_factor.specs.declared.Four.{Four}
 use Rattle.coarse_factor.specs.Lanes.{rowSum, colSum, RowFour, ColFour, setLanes, lanesOf, lane, Ahead, Back, Forward4, Backward4, Units4, fourSolved}
 use Rattle.coarse_factor.proofs.Packed.{forward-none, forward-step, backward-none, backward-step, col-step}

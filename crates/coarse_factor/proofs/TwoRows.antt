@@ -8,7 +8,7 @@ use lib.Seq.{getD-set-other}
 use lib.Ieee.{Float, nan}
 use Rattle.definitions.specs.Numbers.{_+ᶠ_, _-ᶠ_, _*ᶠ_, _/ᶠ_}
 use Rattle.definitions.specs.Coarse.{packedLength, packedForward}
-use Rattle.laws.specs.Growing.{summed-more}
+use Rattle.laws.proofs.Growing.{summed-more}
 use Rattle.coarse_factor.specs.Lanes.{rowSum}
 use Rattle.coarse_factor.specs.Stored.{Products}
 use Rattle.coarse_factor.proofs.Packed.{tri-next, tri-row, forward-step}

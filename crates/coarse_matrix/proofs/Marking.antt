@@ -14,9 +14,9 @@ use borrow.Author.Tests.{eq-eqb, ne-eqb}
 use Rattle.definitions.specs.Lists.{keep}
 use Rattle.definitions.specs.Numbers.{_+ᶠ_, _*ᶠ_, zeroᶠ, total}
 use Rattle.definitions.specs.Matrix.{Entry, stored, rowOf}
-use Rattle.csr32.specs.Stored.{stored-none, stored-more, where-hit, where-miss, where-none, where-append}
-use Rattle.laws.specs.Growing.{flatMap-snoc}
-use Rattle.laws.specs.Kept.{keep-append}
+use Rattle.csr32.proofs.Stored.{stored-none, stored-more, where-hit, where-miss, where-none, where-append}
+use Rattle.laws.proofs.Growing.{flatMap-snoc}
+use Rattle.laws.proofs.Kept.{keep-append}
 use Rattle.coarse_matrix.specs.Scatter.{put, bump}
 use Rattle.coarse_matrix.specs.Galerkin.{Marks, marked, others, Room, Told, Seen, Put, mark, putAt, scaled, productPuts}
 

@@ -18,8 +18,8 @@ use Rattle.averaging.specs.Averaging.{averagedIn}
 use Rattle.averaging.proofs.Lists.{square-is, tail-zeros}
 use Rattle.averaging.proofs.Laws.{average-fits, length-averaged}
 use Rattle.averaging.proofs.Places.{place}
-use Rattle.csr32.specs.Stored.{where-append, where-hit, where-miss, where-none}
-use Rattle.laws.specs.Growing.{flatMap-snoc, upTo-snoc, rows-none}
+use Rattle.csr32.proofs.Stored.{where-append, where-hit, where-miss, where-none}
+use Rattle.laws.proofs.Growing.{flatMap-snoc, upTo-snoc, rows-none}
 use Rattle.coarse_matrix.specs.Scatter.{put, scatter}
 use Rattle.coarse_matrix.specs.Galerkin.{scaled, productPuts, putAt, mark, Room, Told, Seen, Put, weightPuts, weighedPuts, rowTerms, RowAdded, RowsAdded}
 use Rattle.coarse_matrix.proofs.Scattered.{plus, scatter-at, length-scatter}

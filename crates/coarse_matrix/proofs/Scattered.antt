@@ -12,8 +12,8 @@ use borrow.Author.Tests.{eqb-true, eqb-false}
 use Rattle.definitions.specs.Lists.{upTo}
 use Rattle.definitions.specs.Numbers.{_+ᶠ_}
 use Rattle.definitions.specs.Matrix.{Entry, valuesWhere}
-use Rattle.laws.specs.Growing.{flatMap-snoc, upTo-snoc, rows-none}
-use Rattle.csr32.specs.Stored.{where-hit, where-miss, where-none}
+use Rattle.laws.proofs.Growing.{flatMap-snoc, upTo-snoc, rows-none}
+use Rattle.csr32.proofs.Stored.{where-hit, where-miss, where-none}
 use Rattle.coarse_matrix.specs.Scatter.{bump, scatter, scattered}
 
 -- ---- THE SCATTER LAW

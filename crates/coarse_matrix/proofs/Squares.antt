@@ -19,8 +19,8 @@ use Rattle.averaging.proofs.Places.{same-row, place}
 use Rattle.definitions.specs.Numbers.{zeroᶠ, total}
 use Rattle.definitions.specs.Matrix.{Entry, valuesWhere, rowOf, entriesOf, csr, stored}
 use Rattle.definitions.specs.Coarse.{constantTerms, constantEntry, averagedSquare}
-use Rattle.csr32.specs.Stored.{where-hit, where-miss, where-none}
-use Rattle.laws.specs.Kept.{flatMap-keep}
+use Rattle.csr32.proofs.Stored.{where-hit, where-miss, where-none}
+use Rattle.laws.proofs.Kept.{flatMap-keep}
 use Rattle.coarse_matrix.specs.Scatter.{put, bump, scatter, scattered, moved, rowPuts, Walk}
 use Rattle.coarse_matrix.proofs.Scattered.{length-scattered, scattered-at, putsAt, rows-step}
 

@@ -12,8 +12,8 @@ use borrow.Author.Tests.{ne-eqb}
 use Rattle.definitions.specs.Numbers.{_*ᶠ_}
 use Rattle.definitions.specs.Matrix.{Entry, stored}
 use Rattle.averaging.proofs.Places.{place}
-use Rattle.csr32.specs.Stored.{stored-none, stored-more, where-miss, where-none}
-use Rattle.laws.specs.Growing.{flatMap-snoc}
+use Rattle.csr32.proofs.Stored.{stored-none, stored-more, where-miss, where-none}
+use Rattle.laws.proofs.Growing.{flatMap-snoc}
 use Rattle.coarse_matrix.specs.Scatter.{put, bump, scatter, Below}
 use Rattle.coarse_matrix.specs.Galerkin.{weightPuts, weighedPuts, putAt}
 use Rattle.coarse_matrix.proofs.Scattered.{scatter-at}

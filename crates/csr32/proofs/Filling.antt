@@ -15,7 +15,7 @@ use Rattle.definitions.specs.Matrix.{Matrix, rowOf, entriesOf, storedAt}
 use Rattle.definitions.specs.Diagonal.{diagonalFrom, diagonalOf}
 use Rattle.definitions.specs.declared.Refusal.the-variants.{MissingDiagonal}
 use Rattle.csr32.specs.Found.{some}
-use Rattle.csr32.specs.Stored.{numbersAt}
+use Rattle.csr32.proofs.Stored.{numbersAt}
 
 -- the entries of row i, by where the row begins and ends
 row-numbers : (a : Matrix) (i from to : ℕ) → from ≡ getD (a .rowPtr) i 0 → to ≡ getD (a .rowPtr) (i + 1) 0

@@ -4,3 +4,5 @@ pub mod Sums
 pub mod Single
 pub mod Filling
 pub mod Calling
+pub mod Results
+pub mod Stored

@@ -8,7 +8,7 @@ use lib.Bits.{bitOr}
 use lib.ListN.{length, getD}
 use lib.Ieee.{Float, nan}
 use Rattle.definitions.specs.Numbers.{_+ᶠ_, zeroᶠ, total}
-use Rattle.csr32.specs.Stored.{numbersAt, numbers-none, numbers-hit, numbers-miss}
+use Rattle.csr32.proofs.Stored.{numbersAt, numbers-none, numbers-hit, numbers-miss}
 use Rattle.csr32.specs.Found.{some}
 
 pub record Single (p : ℕ → Bool) (idx : List ℕ) (vals : List Float) (a k count at : ℕ) : Type 0 where

@@ -6,7 +6,7 @@ use Prim.Native.Nat.{ℕ, _+_, _<_, _≤_}
 use lib.ListN.{length, getD}
 use lib.Ieee.{Float, nan}
 use Rattle.definitions.specs.Numbers.{_+ᶠ_, zeroᶠ, total}
-use Rattle.csr32.specs.Stored.{numbersAt, numbers-none, numbers-hit, numbers-miss}
+use Rattle.csr32.proofs.Stored.{numbersAt, numbers-none, numbers-hit, numbers-miss}
 use Rattle.csr32.specs.Found.{some}
 
 module _ (p : ℕ → Bool) (idx : List ℕ) (vals : List Float) (a : ℕ) where

@@ -2,6 +2,4 @@
 pub mod Calls
 pub mod Rows
 pub mod Valid
-pub mod Stored
 pub mod Found
-pub mod Results

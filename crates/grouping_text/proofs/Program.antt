@@ -14,9 +14,9 @@ use Rattle.numbers.specs.Copied.{copied}
 use Rattle.grouping_text.specs.declared.Asking.{Asking}
 use Rattle.grouping_text.specs.declared.Reader.{Reader}
 use Rattle.grouping_text.specs.Numbers.{Asked, askedIn, answered}
-use Rattle.grouping_text.specs.Agrees.{split}
+use Rattle.grouping_text.proofs.Agrees.{split}
 use Rattle.grouping_text.specs.Feeding.{fresh, Held, held, closed, fed, taken, said}
-use Rattle.grouping_text.specs.Pieces.{said-program}
+use Rattle.grouping_text.proofs.Pieces.{said-program}
 use Rattle.grouping_text.specs.Puts.{Puts}
 use Rattle.grouping_text.specs.Steps.{askedOf}
 

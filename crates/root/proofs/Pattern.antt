@@ -10,8 +10,8 @@ use lib.Dec.{T, lit≤, leb, leb→le, nleb→lt}
 use lib.Bits.{bitAnd, and-mask}
 use lib.Count.{leadingZeros, leading-top}
 use lib.Pow.{pow-add, pow-pos}
-use Rattle.laws.specs.Format.{pow-less}
-use Rattle.laws.specs.RootBits.{sizeOf}
+use Rattle.laws.proofs.Format.{pow-less}
+use Rattle.laws.proofs.RootBits.{sizeOf}
 use Rattle.root.specs.Fields.{raised, Split}
 use Rattle.root.proofs.Exponent.{sub-ge, sub-lt}
 

@@ -9,7 +9,7 @@ use lib.Ieee.{Float, nan, inf, fin, binary64, fits, ne, isNan, nanBits, ofBits, 
 use lib.Ieee.Bits.{ofBits-toBits, toBits-lt, nanBits-is, nanBits-above}
 use Rattle.definitions.specs.Root.{root}
 use Rattle.definitions.specs.Numbers.{rootᶠ}
-use Rattle.laws.specs.RootBits.{negative-bits}
+use Rattle.laws.proofs.RootBits.{negative-bits}
 
 pub root-nan : (x : Float) → x ≡ nan → x ≡ rootᶠ x
 unfolding root

@@ -2,7 +2,7 @@
 
 ghost use Prim.Native.Nat.{_+_, _*_, _≤_, _<_, _^_};
 ghost use mathlib.Core.Path.{_≡_};
-ghost use Rattle.laws.specs.RootSquares.{IsRoot, Rest, closer};
+ghost use Rattle.laws.proofs.RootSquares.{IsRoot, Rest, closer};
 use crate::StartTable;
 use crate::starts::start;
 

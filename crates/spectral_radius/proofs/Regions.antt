@@ -11,8 +11,8 @@ use lib.Ieee.{Float, nan}
 use Rattle.definitions.specs.Lists.{tab, part}
 use Rattle.definitions.specs.Numbers.{_/ᶠ_}
 use Rattle.definitions.specs.Matrix.{Matrix}
-use Rattle.laws.specs.Lists.{tab-cong}
-use Rattle.laws.specs.Growing.{tab-snoc}
+use Rattle.laws.proofs.Lists.{tab-cong}
+use Rattle.laws.proofs.Growing.{tab-snoc}
 use Rattle.spectral_radius.specs.Power.{vectorIn, imageIn, imageAt}
 use Rattle.spectral_radius.proofs.Sums.{map-tab}
 

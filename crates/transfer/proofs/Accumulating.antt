@@ -13,7 +13,7 @@ use borrow.Author.Tests.{eq-eqb, ne-eqb, eqb-true, eqb-false}
 use Rattle.definitions.specs.Lists.{any}
 use Rattle.definitions.specs.Numbers.{_-ᶠ_, _*ᶠ_, zeroᶠ, oneᶠ, reduced}
 use Rattle.definitions.specs.Matrix.{Entry, valuesWhere, stored}
-use Rattle.csr32.specs.Stored.{where-hit, where-miss, where-none}
+use Rattle.csr32.proofs.Stored.{where-hit, where-miss, where-none}
 use Rattle.transfer.specs.Touched.{Rising, insertOnce, insertAll, named}
 use Rattle.transfer.specs.Weights.{lower, smoothing, fresh, accumulated, Settled}
 use Rattle.transfer.proofs.Weighing.{minus, lower-hit, lower-miss, taken}

@@ -24,8 +24,8 @@ use Rattle.definitions.specs.declared.Refusal.{Refusal}
 use Rattle.definitions.specs.declared.Answer.{Answer}
 use Rattle.definitions.specs.declared.Answer.the-variants.{Accepted, Refused}
 use Rattle.csr32.specs.Calls.{accepted-done, refused-is, goes-on, stops}
-use Rattle.laws.specs.Tests.{both-true}
-use Rattle.laws.specs.Outcomes.{last-true}
+use Rattle.laws.proofs.Tests.{both-true}
+use Rattle.laws.proofs.Outcomes.{last-true}
 use Rattle.transfer.specs.Weights.{Built, Left}
 
 module _ (o : Checked) (next : Unit {0} → Checked) (q : Answer) (e : q ≡ answerOf o) where

@@ -18,8 +18,8 @@ use Rattle.definitions.specs.Transfer.{coarseColumn}
 use Rattle.definitions.specs.declared.Refusal.the-variants.{NotSquare, BlockSize, NotMultiple, ListTooShort, CoarseTooLarge, WrongLength, SetupMisfit}
 use Rattle.definitions.specs.declared.Answer.the-variants.{Accepted, Refused}
 use Rattle.csr32.specs.Calls.{accepted-done}
-use Rattle.laws.specs.Tests.{both-true}
-use Rattle.laws.specs.Outcomes.{test-true, last-true}
+use Rattle.laws.proofs.Tests.{both-true}
+use Rattle.laws.proofs.Outcomes.{test-true, last-true}
 use Rattle.transfer.specs.Touched.{Grouped, Below}
 use Rattle.transfer.specs.Call.{shapeChecked, groupsChecked, roomChecked}
 

@@ -11,7 +11,7 @@ use lib.Ieee.{Float, nan}
 use Rattle.definitions.specs.Lists.{keep}
 use Rattle.definitions.specs.Numbers.{zeroᶠ, _-ᶠ_, _*ᶠ_}
 use Rattle.definitions.specs.Matrix.{stored}
-use Rattle.laws.specs.Kept.{keep-append}
+use Rattle.laws.proofs.Kept.{keep-append}
 use Rattle.transfer.specs.Weights.{zeroAt, lowered, smoothing}
 use Rattle.transfer.specs.Touched.{insertOnce, insertAll, named}
 use Rattle.transfer.proofs.Inserting.{drop-more}

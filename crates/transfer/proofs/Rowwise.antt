@@ -15,7 +15,7 @@ use Rattle.definitions.specs.Numbers.{_/ᶠ_, zeroᶠ, oneᶠ, reduced}
 use Rattle.definitions.specs.Matrix.{Matrix, Entry, stored, rowOf, entriesOf, csr}
 use Rattle.csr32.specs.Rows.{Rows}
 use Rattle.definitions.specs.Transfer.{coarseColumn, tentative, smoothingTerms, weightAt, transferRow}
-use Rattle.laws.specs.Kept.{keep-yes, keep-no, keep-nil, keep-length}
+use Rattle.laws.proofs.Kept.{keep-yes, keep-no, keep-nil, keep-length}
 use Rattle.transfer.specs.Touched.{named, Visited, Gathered, Grouped, Below}
 use Rattle.transfer.specs.Weights.{Settled, counts, Parted}
 use Rattle.transfer.proofs.Spreading.{asc, upTo-asc, also}

@@ -9,8 +9,8 @@ use lib.Seq.{length-take-le, take-take, drop-at, take-append-le, drop-append-le,
 use lib.Ieee.{Float, nan}
 use Rattle.definitions.specs.Lists.{tab, part, pointersFrom, joinedLists}
 use Rattle.definitions.specs.Matrix.{Entry}
-use Rattle.laws.specs.Lists.{tab-cong}
-use Rattle.laws.specs.Growing.{tab-snoc, flatMap-snoc}
+use Rattle.laws.proofs.Lists.{tab-cong}
+use Rattle.laws.proofs.Growing.{tab-snoc, flatMap-snoc}
 use Rattle.transfer.specs.Touched.{Below}
 use Rattle.transfer.specs.Weights.{Parted, Put, Built}
 

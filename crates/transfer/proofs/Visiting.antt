@@ -9,8 +9,8 @@ use lib.ListN.{length, getD, set, take, length-set}
 use lib.Seq.{slice, take-length, getD-take, getD-drop, length-slice}
 use borrow.Author.Tests.{eqb-false, ne-eqb}
 use Rattle.definitions.specs.Lists.{upTo, keep, any}
-use Rattle.laws.specs.Kept.{keep-yes, keep-no, keep-nil}
-use Rattle.laws.specs.Tests.{both-false}
+use Rattle.laws.proofs.Kept.{keep-yes, keep-no, keep-nil}
+use Rattle.laws.proofs.Tests.{both-false}
 use Rattle.transfer.specs.Touched.{insertOnce, insertAll, named, Spread, Gathered, Visited, Below}
 use Rattle.transfer.proofs.Spreading.{also, asc, insert-law, upTo-asc, spread-length}
 

@@ -11,7 +11,7 @@ use borrow.Author.Tests.{eqb-true, eqb-false}
 use Rattle.definitions.specs.Lists.{any}
 use Rattle.definitions.specs.Numbers.{_-ᶠ_, _*ᶠ_, zeroᶠ, oneᶠ, reduced}
 use Rattle.definitions.specs.Matrix.{Entry, valuesWhere}
-use Rattle.csr32.specs.Stored.{where-hit, where-miss, where-none}
+use Rattle.csr32.proofs.Stored.{where-hit, where-miss, where-none}
 use Rattle.transfer.specs.Touched.{named}
 use Rattle.transfer.specs.Weights.{zeroAt, lower, lowered, smoothing, weighed, Settled}
 

@@ -9,7 +9,7 @@ use lib.ListN.{length}
 use lib.Ieee.{Float}
 use Rattle.definitions.specs.Lists.{upTo, part}
 use Rattle.definitions.specs.Block.{blockCount, widthOf, backward, forward, blockSolve, blockPart, blockApplied}
-use Rattle.laws.specs.Lists.{length-rows}
+use Rattle.laws.proofs.Lists.{length-rows}
 
 backward-length : (l : List Float) (w : ℕ) (y : List Float) (k : ℕ) → length (backward l w y k) ≡ k
 unfolding backward

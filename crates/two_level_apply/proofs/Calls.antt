@@ -23,7 +23,7 @@ use Rattle.definitions.specs.declared.Refusal.the-variants.{ListTooShort, Wrong
 use Rattle.definitions.specs.declared.TwoLevelCoarseApplyPolicy.{TwoLevelCoarseApplyPolicy}
 use Rattle.definitions.specs.declared.TwoLevelCoarseApplyPolicy.the-variants.{Auto, FactorSolve, ExplicitInverse}
 use Rattle.coarse_factor.specs.Calls.{coarseSolveCall}
-use Rattle.laws.specs.Lists.{length-tab}
+use Rattle.laws.proofs.Lists.{length-tab}
 
 -- ---- the coarse solve
 

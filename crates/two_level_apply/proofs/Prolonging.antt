@@ -11,7 +11,7 @@ use Rattle.definitions.specs.Lists.{tab}
 use Rattle.definitions.specs.Numbers.{_+ᶠ_, _*ᶠ_, summed}
 use Rattle.definitions.specs.Matrix.{rowOf, stored}
 use Rattle.definitions.specs.Apply.{weightedParts}
-use Rattle.laws.specs.Growing.{tab-none, tab-more, tab-all, tab-unread}
+use Rattle.laws.proofs.Growing.{tab-none, tab-more, tab-all, tab-unread}
 use Rattle.two_level_apply.specs.Scatter.{put, bump, scatter, scattered, single, gainPuts}
 use Rattle.two_level_apply.proofs.Scattering.{single-step}
 

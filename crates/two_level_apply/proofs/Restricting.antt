@@ -15,9 +15,9 @@ use Rattle.definitions.specs.Numbers.{_*ᶠ_, zeroᶠ, total}
 use Rattle.definitions.specs.Matrix.{Entry, valuesWhere, rowOf, stored}
 use Rattle.definitions.specs.Transfer.{coarseColumn}
 use Rattle.definitions.specs.Apply.{constantParts, smoothedParts}
-use Rattle.laws.specs.Lists.{each-any, flatMap-cong}
-use Rattle.laws.specs.Kept.{flatMap-keep, flatMap-one}
-use Rattle.csr32.specs.Stored.{where-hit, where-miss, where-none}
+use Rattle.laws.proofs.Lists.{each-any, flatMap-cong}
+use Rattle.laws.proofs.Kept.{flatMap-keep, flatMap-one}
+use Rattle.csr32.proofs.Stored.{where-hit, where-miss, where-none}
 use Rattle.two_level_apply.specs.Scatter.{put, bump, scatter, scattered, restrictPuts, scaled, scaledPuts, Rows}
 use Rattle.two_level_apply.proofs.Scattering.{putsAt, scatter-law, rows-step}
 

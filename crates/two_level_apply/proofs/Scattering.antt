@@ -14,9 +14,9 @@ use borrow.Author.Tests.{eqb-true, eqb-false}
 use Rattle.definitions.specs.Lists.{tab, upTo}
 use Rattle.definitions.specs.Numbers.{_+ᶠ_, zeroᶠ, total}
 use Rattle.definitions.specs.Matrix.{Entry, valuesWhere}
-use Rattle.laws.specs.Lists.{length-tab, getD-tab, tab-is}
-use Rattle.laws.specs.Growing.{upTo-snoc, flatMap-snoc, rows-none}
-use Rattle.csr32.specs.Stored.{where-hit, where-miss, where-none}
+use Rattle.laws.proofs.Lists.{length-tab, getD-tab, tab-is}
+use Rattle.laws.proofs.Growing.{upTo-snoc, flatMap-snoc, rows-none}
+use Rattle.csr32.proofs.Stored.{where-hit, where-miss, where-none}
 use Rattle.two_level_apply.specs.Scatter.{put, bump, scatter, scattered, single}
 
 -- ---- the law of scattering

@@ -15,7 +15,7 @@ use Rattle.definitions.specs.Transfer.{coarseColumn}
 use Rattle.definitions.specs.Apply.{constantParts, smoothedParts, restrictedParts, restricted, coarseSolution, gained, applied}
 use Rattle.definitions.specs.declared.Setup.{Setup}
 use Rattle.definitions.specs.declared.TwoLevelBasis.{TwoLevelBasis}
-use Rattle.laws.specs.Lists.{tab-cong}
+use Rattle.laws.proofs.Lists.{tab-cong}
 use Rattle.definitions.specs.declared.TwoLevelBasis.the-variants.{PiecewiseConstant, JacobiSmoothed}
 
 -- a part that ends at or before n

@@ -11,7 +11,7 @@ use Rattle.definitions.specs.Links.{nodeEntries}
 use Rattle.definitions.specs.Neighbours.{Neighbour, neighboursOf, strength, stronger, inserted, sorted, strongNeighboursOf, listFor, neighbourLists}
 use Rattle.definitions.specs.declared.TwoLevelAggregation.{TwoLevelAggregation}
 use Rattle.definitions.specs.declared.TwoLevelAggregation.the-variants.{Contiguous, Graph, StrongGraph}
-use Rattle.laws.specs.Lists.{Each, none, more, each-keep, each-upTo, each-map, each-tab, each-flatMap}
+use Rattle.laws.proofs.Lists.{Each, none, more, each-keep, each-upTo, each-map, each-tab, each-flatMap}
 
 inserted-each : {P : Neighbour → Type 0} (x : Neighbour) {ys : List Neighbour} → P x → Each P ys → Each P (inserted x ys)
 unfolding inserted

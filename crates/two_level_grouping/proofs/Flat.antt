@@ -12,7 +12,7 @@ use Rattle.definitions.specs.Lists.{pointersFrom, joinedLists, any, falls}
 use Rattle.definitions.specs.Refusal.{done}
 use Rattle.definitions.specs.Matrix.{maxRows, maxEntries}
 use Rattle.definitions.specs.Groups.{graphGrouping, listed, noAnchor, maxGroup}
-use Rattle.laws.specs.Csr.{pointers-length, pointers-first, pointers-last, pointers-rise, slice-mid}
+use Rattle.laws.proofs.Csr.{pointers-length, pointers-first, pointers-last, pointers-rise, slice-mid}
 use Rattle.csr32.specs.Calls.{goes-on, passed}
 use Rattle.aggregates.specs.Stored.{offsetsIn, neighboursIn, offsetsAt, neighboursAt, roomFor}
 use Rattle.aggregates.specs.Within.{listsCall, withinCall}

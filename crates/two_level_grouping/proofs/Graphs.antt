@@ -27,9 +27,9 @@ use Rattle.definitions.specs.declared.GroupingAnswer.the-variants.{Refused as N
 use Rattle.definitions.specs.declared.TwoLevelAggregation.{TwoLevelAggregation}
 use Rattle.definitions.specs.declared.Refusal.{Refusal}
 use Rattle.definitions.specs.declared.Refusal.the-variants.{NotSquare, BlockSize, NotMultiple, ListTooShort}
-use Rattle.laws.specs.Lists.{length-tab}
-use Rattle.laws.specs.Csr.{pointers-length}
-use Rattle.separation.specs.GroupsApart.{grouping-length}
+use Rattle.laws.proofs.Lists.{length-tab}
+use Rattle.laws.proofs.Csr.{pointers-length}
+use Rattle.separation.proofs.GroupsApart.{grouping-length}
 use Rattle.csr32.specs.Calls.{goes-on, stops, passed, keeps-refused, result-kept, work-kept}
 use Rattle.csr32.specs.Valid.{valid-keeps}
 use Rattle.adjacency.specs.Within.{neighboursWithin}

@@ -7,8 +7,8 @@ use lib.ListN.{length, set, take, drop, replicate, length-append, length-drop}
 use lib.Seq.{take-at}
 use borrow.Rule.Slice.PartMut.{putMid}
 use Rattle.definitions.specs.Lists.{tab, padded}
-use Rattle.laws.specs.Lists.{length-tab}
-use Rattle.laws.specs.Growing.{tab-more}
+use Rattle.laws.proofs.Lists.{length-tab}
+use Rattle.laws.proofs.Growing.{tab-more}
 use Rattle.two_level_grouping.proofs.Kept.{put-tail, tail-length}
 
 -- one more element of a list that is filled from the front

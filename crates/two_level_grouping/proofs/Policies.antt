@@ -22,7 +22,7 @@ use Rattle.definitions.specs.declared.TwoLevelAggregation.the-variants.{Contigu
 use Rattle.definitions.specs.declared.Refusal.{Refusal}
 use Rattle.definitions.specs.declared.Refusal.the-variants.{ListTooShort}
 use Rattle.csr32.specs.Calls.{accepted-done, refused-is, goes-on, stops, passed, failed}
-use Rattle.laws.specs.Tests.{three-true}
+use Rattle.laws.proofs.Tests.{three-true}
 use Rattle.two_level_grouping.specs.Front.{Front, shapeOf, shape-least, front-splits, front-parts, front-with, front-of, front-rows, front-kept}
 use Rattle.two_level_grouping.specs.Calls.{hasRoom, small, passes, sizesFit, aggregateCall, idsLeft, Settled, Ready, numbersOf, listsOf, validThen}
 use Rattle.two_level_grouping.proofs.Settling.{kept, valid-settled}

@@ -17,8 +17,8 @@ use Rattle.definitions.specs.declared.Refusal.the-variants.{NotSquare, BlockSiz
 use Rattle.csr32.specs.Rows.{Rows, rows-of}
 use Rattle.csr32.specs.Calls.{Keeps, keeps-require, keeps-then, keeps-refused}
 use Rattle.csr32.specs.Valid.{valid-keeps}
-use Rattle.laws.specs.Tests.{both-true}
-use Rattle.laws.specs.Outcomes.{last-true}
+use Rattle.laws.proofs.Tests.{both-true}
+use Rattle.laws.proofs.Outcomes.{last-true}
 
 -- 9 to 12
 unfoldable pub shapeOf : ℕ → ℕ → ℕ → ℕ → Checked

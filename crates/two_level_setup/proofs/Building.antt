@@ -20,8 +20,8 @@ use Rattle.definitions.specs.declared.SetupAnswer.{SetupAnswer}
 use Rattle.definitions.specs.declared.SetupAnswer.the-variants.{Refused as NoSetup}
 use Rattle.definitions.specs.declared.TwoLevelBasis.{TwoLevelBasis}
 use Rattle.definitions.specs.declared.TwoLevelBasis.the-variants.{PiecewiseConstant, JacobiSmoothed}
-use Rattle.laws.specs.Lists.{length-square}
-use Rattle.laws.specs.Outcomes.{bind-done, done-inj}
+use Rattle.laws.proofs.Lists.{length-square}
+use Rattle.laws.proofs.Outcomes.{bind-done, done-inj}
 use Rattle.two_level_setup.specs.Stages.{recordOf, fromTransfer, fromRoom, constant-splits}
 use native.Mathlib.Nat.{mul-le-mul, div-le-self}
 use Rattle.two_level_grouping.specs.Front.{Front, front-rows}

@@ -29,11 +29,11 @@ use Rattle.definitions.specs.declared.TwoLevelAggregation.the-variants.{Contigu
 use Rattle.definitions.specs.declared.Refusal.{Refusal}
 use Rattle.definitions.specs.declared.Refusal.the-variants.{NotSquare, BlockSize, ListTooShort}
 use Rattle.definitions.specs.Separation.{followsGraph}
-use Rattle.laws.specs.Outcomes.{done-inj}
-use Rattle.separation.specs.GroupsApart.{grouping-length}
-use Rattle.separation.specs.Columns.{ids-length, ids-below}
-use Rattle.separation.specs.Layout.{factors-length}
-use Rattle.separation.specs.Parts.{graph-grouping}
+use Rattle.laws.proofs.Outcomes.{done-inj}
+use Rattle.separation.proofs.GroupsApart.{grouping-length}
+use Rattle.separation.proofs.Columns.{ids-length, ids-below}
+use Rattle.separation.proofs.Layout.{factors-length}
+use Rattle.separation.proofs.Parts.{graph-grouping}
 use Rattle.csr32.specs.Calls.{goes-on, stops, passed, refused-is}
 use Rattle.two_level_grouping.specs.Front.{rows-whole}
 use Rattle.two_level_grouping.specs.Calls.{hasRoom, aggregateCall, idsLeft, Settled}

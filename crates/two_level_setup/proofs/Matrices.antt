@@ -22,9 +22,9 @@ use Rattle.definitions.specs.Setup.{nodeCount, coarseEntry, coarseMatrix, trans
 use Rattle.definitions.specs.declared.Options.{Options}
 use Rattle.definitions.specs.declared.TwoLevelBasis.the-variants.{PiecewiseConstant, JacobiSmoothed}
 use Rattle.definitions.specs.declared.Refusal.the-variants.{NotSquare, BlockSize, NotMultiple, ListTooShort, CoarseTooLarge, SetupMisfit}
-use Rattle.laws.specs.Lists.{Each, none, more, each-map, each-flatMap, each-imp, part-mid}
-use Rattle.laws.specs.Csr.{columnsOf, numbersOf, pointers-length, pointers-first, pointers-last, pointers-rise, columns-length, values-length, row-back}
-use Rattle.separation.specs.Layout.{pointers-read, columns-read}
+use Rattle.laws.proofs.Lists.{Each, none, more, each-map, each-flatMap, each-imp, part-mid}
+use Rattle.laws.proofs.Csr.{columnsOf, numbersOf, pointers-length, pointers-first, pointers-last, pointers-rise, columns-length, values-length, row-back}
+use Rattle.separation.proofs.Layout.{pointers-read, columns-read}
 use Rattle.csr32.specs.Calls.{goes-on, passed}
 use Rattle.csr32.specs.Rows.{outside}
 use Rattle.coarse_matrix.specs.Calls.{resultOrKept, workOrKept, constantChecks, constantCoarseCall, transferFits, galerkinChecks, galerkinCoarseCall}

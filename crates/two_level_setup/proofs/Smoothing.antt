@@ -30,10 +30,10 @@ use Rattle.definitions.specs.declared.SetupAnswer.the-variants.{Refused as NoSe
 use Rattle.definitions.specs.declared.TwoLevelBasis.the-variants.{JacobiSmoothed}
 use Rattle.definitions.specs.declared.Refusal.{Refusal}
 use Rattle.definitions.specs.declared.Refusal.the-variants.{NotSquare, BlockSize, NotMultiple, ListTooShort, CoarseTooLarge, WrongLength, SetupMisfit, MissingDiagonal}
-use Rattle.laws.specs.Lists.{Each, each-tab, each-keep, length-tab, part-mid}
-use Rattle.laws.specs.Csr.{columnsOf, numbersOf, pointers-length, columns-length, values-length}
-use Rattle.laws.specs.Counting.{rows-within}
-use Rattle.separation.specs.Fitting.{row-short, entries-short}
+use Rattle.laws.proofs.Lists.{Each, each-tab, each-keep, length-tab, part-mid}
+use Rattle.laws.proofs.Csr.{columnsOf, numbersOf, pointers-length, columns-length, values-length}
+use Rattle.laws.proofs.Counting.{rows-within}
+use Rattle.separation.proofs.Fitting.{row-short, entries-short}
 use Rattle.csr32.specs.Calls.{goes-on, stops, passed, refused-is}
 use Rattle.numbers.specs.Copied.{copied}
 use Rattle.two_level_grouping.proofs.Kept.{put-tail, copied-zeros, front-cleared}

@@ -18,8 +18,8 @@ use Rattle.definitions.specs.declared.SetupAnswer.the-variants.{Built as BuiltS
 use Rattle.definitions.specs.declared.Setup.{Setup}
 use Rattle.definitions.specs.declared.TwoLevelCoarseApplyPolicy.{TwoLevelCoarseApplyPolicy}
 use Rattle.definitions.specs.declared.TwoLevelCoarseApplyPolicy.the-variants.{Auto, FactorSolve, ExplicitInverse}
-use Rattle.laws.specs.Lists.{length-square}
-use Rattle.laws.specs.Factor.{coarse-factor-length}
+use Rattle.laws.proofs.Lists.{length-square}
+use Rattle.laws.proofs.Factor.{coarse-factor-length}
 use Rattle.csr32.specs.Calls.{goes-on, passed}
 use Rattle.numbers.specs.Copied.{copied}
 use Rattle.coarse_factor.specs.Calls.{coarseFactorCall, factorAnswer, coarseInverseCall}

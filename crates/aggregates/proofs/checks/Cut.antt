@@ -7,7 +7,7 @@ use borrow.Author.Tests.{leb-true, leb-false}
 use lib.Dec.{leb}
 use lib.ListN.{length, getD, take, drop, length-drop, drop-of-length-le, List·getD-eq-default}
 use lib.Seq.{getD-drop, take-all, drop-drop, length-take-le}
-use Rattle.aggregates.specs.Stops.{by-test}
+use Rattle.aggregates.proofs.Stops.{by-test}
 use Rattle.aggregates.specs.Stored.{offsetsIn, neighboursIn, offsetsAt, neighboursAt}
 use Rattle.aggregates.specs.Within.{listsCall}
 

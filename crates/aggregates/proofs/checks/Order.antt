@@ -15,7 +15,7 @@ use Rattle.definitions.specs.Answers.{answerOf}
 use Rattle.definitions.specs.declared.Answer.the-variants.{Accepted, Refused}
 use Rattle.definitions.specs.declared.Refusal.{Refusal}
 use Rattle.definitions.specs.declared.Refusal.the-variants.{TooLarge, GroupSize, ListTooShort, NoNode, NeighbourOffsets, NeighbourOutside}
-use Rattle.laws.specs.Tests.{both-true}
+use Rattle.laws.proofs.Tests.{both-true}
 use Rattle.aggregates.specs.Lists.{Lists}
 use Rattle.aggregates.specs.Checked.{Accepts}
 use Rattle.aggregates.specs.Stored.{offsetsAt, neighboursAt, listsAt, roomFor}

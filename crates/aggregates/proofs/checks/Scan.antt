@@ -10,7 +10,7 @@ use lib.ListN.{length, getD, drop}
 use lib.Seq.{drop-cons, drop-length}
 use borrow.Author.Tests.{lt-ltb, le-ltb, ltb-false, leb-false, eq-eqb, ne-eqb}
 use Rattle.definitions.specs.Lists.{any, falls}
-use Rattle.laws.specs.Tests.{both-false}
+use Rattle.laws.proofs.Tests.{both-false}
 
 module _ (f : ℕ → Bool) (xs : List ℕ) (i : ℕ) (h : i < length xs) where
   pub any-found : f (getD xs i 0) ≡ true → any f (drop i xs) ≡ true

@@ -7,10 +7,10 @@ use native.Mathlib.Decide.{ℕ-discrete}
 use lib.ListN.{length, getD, take, drop, length-drop}
 use lib.Seq.{getD-take, take-take, length-take-le}
 use Rattle.definitions.specs.Groups.{groupsOf, nodesOf}
-use Rattle.laws.specs.Lists.{tab-cong}
+use Rattle.laws.proofs.Lists.{tab-cong}
 use Rattle.aggregates.specs.JoinChoice.{Zeros}
 use Rattle.aggregates.specs.JoinState.{All, Once, Joins, Rep, membersOf, stateOf}
-use Rattle.aggregates.specs.Stops.{all-imp}
+use Rattle.aggregates.proofs.Stops.{all-imp}
 use Rattle.aggregates.proofs.joining.Laws.{all-both}
 use Rattle.aggregates.proofs.joining.Linking.{nodes-takes, nodes-passes, nodes-in}
 

@@ -6,7 +6,7 @@ use native.Mathlib.Omega.{arith}
 use lib.ListN.{length, getD, set}
 use lib.Seq.{getD-set-other}
 use Rattle.aggregates.specs.JoinState.{All, Once, walk, hop, total}
-use Rattle.aggregates.specs.Stops.{all-append, all-imp}
+use Rattle.aggregates.proofs.Stops.{all-append, all-imp}
 use Rattle.aggregates.proofs.joining.Laws.{spare, spare-set}
 
 pub length-walk : (k : ℕ) (w : List ℕ) (cur : ℕ) → length (walk k w cur) ≡ k

@@ -4,7 +4,7 @@ use Prim.Native.Nat.{ℕ, _-_, _≤_, _<_}
 use native.Mathlib.Omega.{arith}
 use lib.ListN.{length}
 use Rattle.definitions.specs.Groups.{grown, joinings, noAnchor}
-use Rattle.aggregates.specs.Stops.{grouping-below}
+use Rattle.aggregates.proofs.Stops.{grouping-below}
 use Rattle.aggregates.proofs.growth.Between.{grown-all}
 
 pub fewer-joinings : (lists : ℕ → List ℕ) (nodes size : ℕ) → 0 < size → length (joinings lists noAnchor nodes size) ≤ grown lists noAnchor nodes size .1 - 1

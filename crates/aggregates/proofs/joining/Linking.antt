@@ -11,7 +11,7 @@ use lib.Seq.{drop-cons, drop-length, getD-set-same, getD-set-other, getD-drop, g
 use Rattle.definitions.specs.Groups.{nodesOf}
 use Rattle.aggregates.specs.JoinChoice.{at, Zeros}
 use Rattle.aggregates.specs.JoinState.{All, walk, membersOf}
-use Rattle.aggregates.specs.Stops.{all-imp}
+use Rattle.aggregates.proofs.Stops.{all-imp}
 use Rattle.aggregates.proofs.joining.Chains.{walk-same, length-walk}
 use Rattle.aggregates.proofs.joining.View.{drop-3, take-3, counts-are}
 

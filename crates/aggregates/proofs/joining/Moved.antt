@@ -8,10 +8,10 @@ use lib.ListN.{length, getD, set, length-set}
 use lib.Seq.{getD-set-same, getD-set-other, ext-getD}
 use Rattle.definitions.specs.Lists.{tab}
 use Rattle.definitions.specs.Groups.{Joining, relabelled, joined}
-use Rattle.laws.specs.Lists.{getD-tab, length-tab}
+use Rattle.laws.proofs.Lists.{getD-tab, length-tab}
 use Rattle.aggregates.specs.JoinChoice.{at}
 use Rattle.aggregates.specs.JoinState.{All, Once, walk, hop, membersOf, stateOf, moved, Rep}
-use Rattle.aggregates.specs.Stops.{all-append, all-imp}
+use Rattle.aggregates.proofs.Stops.{all-append, all-imp}
 use Rattle.aggregates.proofs.joining.Laws.{all-both}
 use Rattle.aggregates.proofs.joining.Counting.{after-set}
 use Rattle.aggregates.proofs.joining.Chains.{walk-same, walk-suc, splice, once-append}

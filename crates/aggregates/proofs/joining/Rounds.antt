@@ -6,9 +6,9 @@ use native.Mathlib.Numerals.{add-one}
 use native.Mathlib.Omega.{arith}
 use lib.ListN.{length, take, drop, length-append}
 use Rattle.definitions.specs.Groups.{Groups, Joining, groupsOf, listed, noAnchor, takerOf, replay, roundFrom, joiningsFrom}
-use Rattle.laws.specs.Lists.{length-tab}
+use Rattle.laws.proofs.Lists.{length-tab}
 use Rattle.aggregates.specs.JoinState.{Rep, joinedIds, membersOf, stateOf, turnOf}
-use Rattle.aggregates.specs.Stops.{alive, alive-most, replay-append, round-lowers, round-stays, round-joins, rounds-end, rounds-go}
+use Rattle.aggregates.proofs.Stops.{alive, alive-most, replay-append, round-lowers, round-stays, round-joins, rounds-end, rounds-go}
 use Rattle.aggregates.proofs.joining.Turns.{turn-stays, turn-joins, turn-small}
 use Rattle.aggregates.proofs.joining.Whole.{Turned, stateIn}
 

@@ -10,7 +10,7 @@ use lib.Seq.{slice, getD-set-same, getD-set-other, take-set-lt, drop-set-lt, ext
 use Rattle.definitions.specs.Groups.{chosen, edgesTo}
 use Rattle.aggregates.specs.JoinChoice.{better, chosen-goes, bump, wipe, at, Named, Zeros}
 use Rattle.aggregates.specs.JoinState.{All}
-use Rattle.aggregates.specs.Stops.{all-imp}
+use Rattle.aggregates.proofs.Stops.{all-imp}
 use Rattle.aggregates.proofs.joining.Laws.{all-getD}
 use Rattle.aggregates.proofs.joining.Counting.{better-keeps}
 

@@ -9,11 +9,11 @@ use lib.Dec.{eqb}
 use lib.ListN.{length, getD, length-append, replicate, length-replicate, getD-replicate}
 use lib.Seq.{slice, length-slice}
 use Rattle.definitions.specs.Groups.{Groups, Joining, nodesIn, sizeIn, edgesTo, chosen, named, listed, noAnchor, takerOf}
-use Rattle.laws.specs.Tests.{both-false}
-use Rattle.laws.specs.Lists.{getD-tab, tab-cong}
+use Rattle.laws.proofs.Tests.{both-false}
+use Rattle.laws.proofs.Lists.{getD-tab, tab-cong}
 use Rattle.aggregates.specs.JoinChoice.{at, othersBy, namedBy, named-is}
 use Rattle.aggregates.specs.JoinState.{All, Once, walk, total, moved, membersOf, stateOf, turnOf, Rep}
-use Rattle.aggregates.specs.Stops.{Other, all-append, all-imp, by-test, chosen-keeps}
+use Rattle.aggregates.proofs.Stops.{Other, all-append, all-imp, by-test, chosen-keeps}
 use Rattle.aggregates.proofs.joining.Laws.{spare, degree, spare-within, all-part, offset-within}
 use Rattle.aggregates.proofs.joining.Together.{chosen-cong}
 use Rattle.aggregates.proofs.joining.Counting.{better-keeps}

@@ -8,7 +8,7 @@ use lib.Seq.{slice, drop-at, getD-drop, getD-take, take-take, take-append-le, le
 use Rattle.definitions.specs.Groups.{Groups, Joining, edgesTo, chosen, listed, noAnchor, takerOf, joined, replay, relabelled}
 use Rattle.aggregates.specs.JoinChoice.{at, namedBy, Named, Zeros}
 use Rattle.aggregates.specs.JoinState.{All, chainOf, moved, membersOf, stateOf, turnOf, Rep, Gathers, Moves}
-use Rattle.aggregates.specs.Stops.{Other, all-imp}
+use Rattle.aggregates.proofs.Stops.{Other, all-imp}
 use Rattle.aggregates.proofs.joining.Laws.{getD-all}
 use Rattle.aggregates.proofs.joining.View.{counts-are, heads-are}
 use Rattle.aggregates.proofs.joining.Edges.{front-kept}

@@ -11,7 +11,7 @@ use lib.ListN.{length, getD, set, take, drop, length-set, length-append}
 use lib.Seq.{drop-cons, take-suc-set, append-snoc, getD-take, getD-set-same, getD-set-other, length-take-le, take-set-le, drop-length}
 use Rattle.definitions.specs.Groups.{firsts, renumbered, place}
 use Rattle.aggregates.specs.Numbered.{Numbered, Blank}
-use Rattle.aggregates.specs.Appearance.{split, has, firsts-old, firsts-new, numbersFrom, numbers-old, numbers-new, renumbered-ids, renumbered-count, mark, mark-empty, unmarked, marked, mark-new, mark-other}
+use Rattle.aggregates.proofs.Appearance.{split, has, firsts-old, firsts-new, numbersFrom, numbers-old, numbers-new, renumbered-ids, renumbered-count, mark, mark-empty, unmarked, marked, mark-new, mark-other}
 
 pub record Numbering (n top : ℕ) (w₀ w : List ℕ) (count v : ℕ) : Type 0 where
   pub seen : List ℕ

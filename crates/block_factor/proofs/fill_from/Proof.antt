@@ -9,7 +9,7 @@ use borrow.Rule.Slice.PartMut.{putMid, same-len-mid}
 use Rattle.definitions.specs.Matrix.{csr}
 use Rattle.definitions.specs.Block.{blockCount, widthOf, factorsFrom, factorsOf}
 use Rattle.definitions.specs.Answers.{answerOf}
-use Rattle.csr32.specs.Results.{left-done, left-length, left-cleared}
+use Rattle.csr32.proofs.Results.{left-done, left-length, left-cleared}
 use Rattle.block_factor.proofs.Turns.{Turn, begins-at, turn, place-long}
 use Rattle.block_factor.proofs.Filling.{blocks-more, blocks-stop, blocks-all}
 use Rattle.block_factor.proofs.fill_from.Statement.{statement}

@@ -1,6 +1,6 @@
 -- The rows left to do give, from the sums so far, what the whole gives.
-use Rattle.csr32.specs.Results.{left-done, left-length}
-use Rattle.csr32.specs.Stored.{row-fits}
+use Rattle.csr32.proofs.Results.{left-done, left-length}
+use Rattle.csr32.proofs.Stored.{row-fits}
 use mathlib.Core.Path.{_≡_, refl}
 use Prim.Native.Nat.{_-_, _≤_}
 use native.Mathlib.Omega.{arith}

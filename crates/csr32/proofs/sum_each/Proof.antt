@@ -9,7 +9,7 @@ use borrow.Author.Tests.{eq-eqb, ne-eqb}
 use mathlib.Core.Logic.{⊎-elim}
 use Rattle.definitions.specs.Numbers.{total}
 use Rattle.csr32.specs.Found.{some}
-use Rattle.csr32.specs.Stored.{numbersAt}
+use Rattle.csr32.proofs.Stored.{numbersAt}
 use Rattle.csr32.proofs.Sums.{sum-none}
 use borrow.Author.Needs.{needs}
 use Rattle.csr32.proofs.sum_each.Statement.{statement}

@@ -13,7 +13,7 @@ use Rattle.definitions.specs.declared.GroupingAnswer.{GroupingAnswer}
 use Rattle.definitions.specs.declared.GroupingAnswer.the-variants.{Groups, Refused}
 use Rattle.definitions.specs.declared.Refusal.{Refusal}
 use Rattle.grouping_text.specs.Puts.{Puts, linesFrom}
-use Rattle.grouping_text.specs.Lengths.{call-length, printed-groups}
+use Rattle.grouping_text.proofs.Lengths.{call-length, printed-groups}
 
 apart : (r : Refusal) (k : ℕ) → Refused r ≡ Groups k → ⊥
 apart r k e = let z : _≡_ {A = ℕ} 0 1 = cc in omega arith

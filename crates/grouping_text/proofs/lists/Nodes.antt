@@ -14,7 +14,7 @@ use Rattle.definitions.specs.declared.Refusal.the-variants.{TooLarge, Neighbour
 use Rattle.numbers.specs.Copied.{copied}
 use Rattle.grouping_text.specs.declared.Got.{Got}
 use Rattle.grouping_text.specs.Numbers.{listing, nodeFrom, listsFrom}
-use Rattle.grouping_text.specs.Agrees.{start, node-none, node-large, node-short, node-done, lists-refused, lists-next, lists-end}
+use Rattle.grouping_text.proofs.Agrees.{start, node-none, node-large, node-short, node-done, lists-refused, lists-next, lists-end}
 use Rattle.grouping_text.specs.Steps.{gotOf}
 use Rattle.grouping_text.proofs.reading.Bytes.{next-byte}
 

@@ -10,7 +10,7 @@ use lib.Dec.{eqb, leb}
 use lib.ListN.{length, getD, set, drop, drop-of-length-le}
 use lib.Seq.{drop-cons, set-out}
 use Rattle.definitions.specs.Text.{isBlank, isDigit}
-use Rattle.laws.specs.Tests.{both-true}
+use Rattle.laws.proofs.Tests.{both-true}
 use Rattle.grouping_text.specs.declared.Reader.{Reader}
 use Rattle.grouping_text.specs.Numbers.{cap}
 use Rattle.grouping_text.specs.Feeding.{held, closed, grown, spoilt, byteIn, Held, fed}

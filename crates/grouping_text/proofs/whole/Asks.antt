@@ -13,7 +13,7 @@ use Rattle.definitions.specs.declared.Refusal.the-variants.{TooLarge, Neighbour
 use Rattle.grouping_text.specs.declared.Got.{Got}
 use Rattle.grouping_text.specs.declared.Asking.{Asking}
 use Rattle.grouping_text.specs.Numbers.{listing, listsFrom, askedIn}
-use Rattle.grouping_text.specs.Agrees.{start, a-1, a-2, a-3, a-4, a-5, a-6}
+use Rattle.grouping_text.proofs.Agrees.{start, a-1, a-2, a-3, a-4, a-5, a-6}
 use Rattle.grouping_text.specs.Steps.{gotOf, askedOf}
 use Rattle.grouping_text.proofs.reading.Bytes.{next-byte}
 use Rattle.grouping_text.proofs.lists.Nodes.{got-ok}

@@ -1,6 +1,6 @@
 -- What is read stands in the front of its room; what the call leaves is written out.
 use mathlib.Core.Path.{refl, sym, ap, _∙_}
-use Rattle.byte_lists.specs.Laws.{ints-front, ints-fit, ints-count, floats-front, floats-fit, floats-count}
+use Rattle.byte_lists.proofs.Laws.{ints-front, ints-fit, ints-count, floats-front, floats-fit, floats-count}
 use Rattle.two_level_setup.specs.Contracts.{lentOf}
 use Rattle.yelomawin_bytes.proofs.Carried.{setup-carried}
 use borrow.Author.Needs.{needs}

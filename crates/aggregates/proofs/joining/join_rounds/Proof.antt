@@ -6,7 +6,7 @@ use lib.ListN.{length, take, drop}
 use Rattle.aggregates.specs.JoinState.{Rep}
 use Rattle.aggregates.specs.Stored.{offsetsAt, neighboursAt, listsAt}
 use Rattle.aggregates.proofs.stored.Elements.{lists-still}
-use Rattle.aggregates.specs.Stops.{alive}
+use Rattle.aggregates.proofs.Stops.{alive}
 use Rattle.aggregates.proofs.joining.Turns.{turn-small}
 use Rattle.aggregates.proofs.joining.Whole.{stateIn, Turned}
 use Rattle.aggregates.proofs.joining.Rounds.{InRound, Between, first-round, first-turn, next-turn, round-less, next-round, last-round}

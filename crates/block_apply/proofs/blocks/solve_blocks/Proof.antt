@@ -4,7 +4,7 @@ use mathlib.Core.List.{_++_}
 use native.Mathlib.Omega.{arith}
 use lib.ListN.{length, drop}
 use borrow.Rule.Slice.PartMut.{same-len-mid}
-use Rattle.block_apply.specs.Solved.{solvedBlocks}
+use Rattle.block_apply.proofs.Solved.{solvedBlocks}
 use Rattle.block_apply.proofs.Triangles.{length-solve}
 use Rattle.block_apply.proofs.Places.{starts-inside, index-small, factor-inside, width-facts, width-is, part-length, blocks-none, blocks-more, blocks-all}
 use Rattle.block_apply.proofs.Calling.{product-small}

@@ -5,7 +5,7 @@ use lib.ListN.{getD}
 use lib.Ieee.{nan}
 use Rattle.definitions.specs.Lists.{tab}
 use Rattle.definitions.specs.Numbers.{_*ᶠ_, _-ᶠ_, reduced}
-use Rattle.laws.specs.Growing.{reduced-none, reduced-more}
+use Rattle.laws.proofs.Growing.{reduced-none, reduced-more}
 use borrow.Author.Needs.{needs}
 use Rattle.block_apply.proofs.solve.row_rest.Statement.{statement}
 use Rattle.block_apply.proofs.solve.row_rest.Tie as tie

@@ -8,7 +8,7 @@ use Rattle.definitions.specs.Lists.{tab}
 use Rattle.definitions.specs.Numbers.{reduced, _*ᶠ_}
 use Rattle.definitions.specs.Factor.{rest, products}
 use Rattle.definitions.specs.Block.{inBlock}
-use Rattle.laws.specs.Growing.{reduced-none, reduced-more}
+use Rattle.laws.proofs.Growing.{reduced-none, reduced-more}
 use Rattle.block_factor.specs.Dense.{denseEntry}
 use borrow.Author.Needs.{needs}
 use Rattle.block_factor.proofs.cholesky.rest.Statement.{statement}

@@ -7,7 +7,7 @@ use lib.ListN.{replicate}
 use Rattle.definitions.specs.Numbers.{zeroᶠ}
 use Rattle.definitions.specs.Matrix.{csr}
 use Rattle.definitions.specs.Block.{blockEntry}
-use Rattle.csr32.specs.Stored.{row-fits as bounds}
+use Rattle.csr32.proofs.Stored.{row-fits as bounds}
 use Rattle.block_factor.proofs.Shape.{row-fits}
 use Rattle.block_factor.proofs.Gathering.{rowsUpTo, block-none, place-zeros, block-more, block-all, row-is, block-is, block-length}
 use borrow.Author.Needs.{needs}

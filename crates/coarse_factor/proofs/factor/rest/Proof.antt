@@ -4,7 +4,7 @@ use lib.ListN.{getD}
 use lib.Ieee.{nan}
 use Rattle.definitions.specs.Lists.{tab}
 use Rattle.definitions.specs.Numbers.{reduced, _*ᶠ_}
-use Rattle.laws.specs.Growing.{reduced-none}
+use Rattle.laws.proofs.Growing.{reduced-none}
 use Rattle.coarse_factor.proofs.Cholesky.{reduced-more}
 use native.Mathlib.Omega.{arith}
 use borrow.Author.Needs.{needs}

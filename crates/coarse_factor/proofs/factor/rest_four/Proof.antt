@@ -1,7 +1,7 @@
 use lib.ListN.{getD}
 use lib.Ieee.{Float, nan}
 use Rattle.definitions.specs.Numbers.{_*ᶠ_}
-use Rattle.laws.specs.Growing.{reduced-none}
+use Rattle.laws.proofs.Growing.{reduced-none}
 use Rattle.coarse_factor.specs.Lanes.{restOf}
 use Rattle.coarse_factor.proofs.Cholesky.{reduced-more}
 use Prim.Native.Nat.{ℕ, _+_, _≤_, _-_}

@@ -1,7 +1,7 @@
 use lib.ListN.{getD, drop}
 use lib.Ieee.{Float, nan}
 use Rattle.definitions.specs.Numbers.{_*ᶠ_}
-use Rattle.laws.specs.Growing.{summed-none}
+use Rattle.laws.proofs.Growing.{summed-none}
 use Rattle.coarse_factor.specs.Lanes.{rowSum}
 use Rattle.coarse_factor.proofs.Sides.{row-more}
 use Prim.Native.Nat.{ℕ, _+_, _≤_, _-_}

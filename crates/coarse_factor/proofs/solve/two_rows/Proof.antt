@@ -1,7 +1,7 @@
 use lib.ListN.{getD}
 use lib.Ieee.{Float, nan}
 use Rattle.definitions.specs.Numbers.{_*ᶠ_, _+ᶠ_}
-use Rattle.laws.specs.Growing.{summed-none, summed-more}
+use Rattle.laws.proofs.Growing.{summed-none, summed-more}
 use Rattle.coarse_factor.specs.Lanes.{rowSum}
 use Prim.Native.Nat.{ℕ, _+_, _≤_, _-_}
 use mathlib.Core.Path.{_≡_, refl}

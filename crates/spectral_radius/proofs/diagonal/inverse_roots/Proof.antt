@@ -8,7 +8,7 @@ use lib.Ieee.{nan}
 use Rattle.definitions.specs.Lists.{tab}
 use Rattle.definitions.specs.Numbers.{oneᶠ, rootᶠ, _/ᶠ_}
 use Rattle.definitions.specs.Estimate.{inverseRoots}
-use Rattle.laws.specs.Growing.{tab-none, tab-more, tab-all}
+use Rattle.laws.proofs.Growing.{tab-none, tab-more, tab-all}
 use Rattle.spectral_radius.proofs.Sums.{map-tab}
 use borrow.Author.Needs.{needs}
 use Rattle.spectral_radius.proofs.diagonal.inverse_roots.Statement.{statement}

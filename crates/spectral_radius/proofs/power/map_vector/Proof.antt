@@ -8,7 +8,7 @@ use Rattle.definitions.specs.Lists.{tab}
 use Rattle.definitions.specs.Numbers.{_+ᶠ_, _*ᶠ_, summed}
 use Rattle.definitions.specs.Matrix.{csr}
 use Rattle.definitions.specs.Estimate.{image}
-use Rattle.laws.specs.Growing.{summed-none, summed-more}
+use Rattle.laws.proofs.Growing.{summed-none, summed-more}
 use Rattle.spectral_radius.specs.Power.{imageAt, vectorIn}
 use Rattle.spectral_radius.proofs.Regions.{filled-none, image-here, image-more}
 use Rattle.spectral_radius.proofs.Sums.{tab-map}

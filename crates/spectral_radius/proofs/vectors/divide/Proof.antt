@@ -7,7 +7,7 @@ use lib.ListN.{length, getD, drop, length-set}
 use lib.Ieee.{nan}
 use Rattle.definitions.specs.Lists.{tab}
 use Rattle.definitions.specs.Numbers.{_/ᶠ_}
-use Rattle.laws.specs.Growing.{tab-none, tab-more, tab-all, tab-unread}
+use Rattle.laws.proofs.Growing.{tab-none, tab-more, tab-all, tab-unread}
 use Rattle.spectral_radius.proofs.Sums.{map-tab}
 use borrow.Author.Needs.{needs}
 use Rattle.spectral_radius.proofs.vectors.divide.Statement.{statement}

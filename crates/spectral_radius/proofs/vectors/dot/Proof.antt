@@ -6,7 +6,7 @@ use lib.ListN.{length, getD}
 use lib.Ieee.{nan}
 use Rattle.definitions.specs.Lists.{tab}
 use Rattle.definitions.specs.Numbers.{summed, _*ᶠ_}
-use Rattle.laws.specs.Growing.{summed-none, summed-more}
+use Rattle.laws.proofs.Growing.{summed-none, summed-more}
 use borrow.Author.Needs.{needs}
 use Rattle.spectral_radius.proofs.vectors.dot.Statement.{statement}
 use Rattle.spectral_radius.proofs.vectors.dot.Tie as tie

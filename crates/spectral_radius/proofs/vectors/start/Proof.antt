@@ -7,7 +7,7 @@ use lib.ListN.{length, drop, length-set}
 use Rattle.definitions.specs.Lists.{tab}
 use Rattle.definitions.specs.Numbers.{_+ᶠ_, oneᶠ, ofℕ}
 use Rattle.definitions.specs.Estimate.{startOf}
-use Rattle.laws.specs.Growing.{tab-none, tab-more, tab-all}
+use Rattle.laws.proofs.Growing.{tab-none, tab-more, tab-all}
 use borrow.Author.Needs.{needs}
 use Rattle.spectral_radius.proofs.vectors.start.Statement.{statement}
 use Rattle.spectral_radius.proofs.vectors.start.Tie as tie
