@@ -14,7 +14,7 @@ use Rattle.definitions.specs.Numbers.{zeroᶠ}
 use Rattle.definitions.specs.Matrix.{Matrix, csr, validOf}
 use Rattle.definitions.specs.Neighbours.{flatNeighbours}
 use Rattle.definitions.specs.Block.{maxBlock}
-use Rattle.definitions.specs.Refusal.{Outcome, refused, done, Checked, require, _>>=_, keepsAll, numberOf, resultLeft, workLeft}
+use Rattle.definitions.specs.Refusal.{Outcome, refused, done, Checked, require, _>>=_, keepsAll, resultLeft, workLeft, causeOf}
 use Rattle.definitions.specs.Answers.{answerOf}
 use Rattle.definitions.specs.declared.Refusal.{Refusal}
 use Rattle.definitions.specs.declared.Refusal.the-variants.{NotSquare, BlockSize, NotMultiple, ListTooShort}
@@ -49,7 +49,7 @@ four-passed true true true false e = ((cc, cc), (cc, cc))
 four-passed true true true true e = ((refl, refl), (refl, refl))
 
 fits-keeps : (p q r s : Bool) → Keeps (four p q r s)
-unfolding four keepsAll numberOf
+unfolding four keepsAll causeOf
 fits-keeps p q r s = keeps-then _ _ (keeps-require p _ refl) (λ _. keeps-then _ _ (keeps-require q _ refl) (λ _. keeps-then _ _ (keeps-require r _ refl) (λ _. keeps-require s _ refl)))
 
 -- the facts that the loops need

@@ -12,7 +12,7 @@ use lib.ListN.{set, drop}
 use lib.Seq.{getD-drop}
 use lib.Ieee.{Float, nan, inf, fin, Format, binary64, prec, emax, low, size, nearest, odd, units, round, sum, add, mul, div, lt, up, down, ofBits}
 use lib.Ieee.Scale.{finite}
-use Rattle.definitions.specs.Root.{root, rounded, radicand, Located, rootAt}
+use Rattle.definitions.specs.Root.{root, rounded, radicand, Located, locateRoot}
 use Rattle.definitions.specs.Numbers.{_+ᶠ_, _*ᶠ_, _/ᶠ_, rootᶠ, zeroᶠ, squared}
 use Rattle.definitions.specs.Neighbours.{divides}
 use Rattle.adjacency.specs.Strengths.{plain, AllPlain, strongOf}
@@ -78,7 +78,7 @@ plain-root (inf true) p = never p refl
 plain-root (inf false) p = refl
 plain-root (fin true m e) p = never p refl
 plain-root (fin false zero e) p = refl
-plain-root (fin false (suc m) e) p = rounded-plain binary64 (rootAt binary64 (radicand binary64 (suc m) e))
+plain-root (fin false (suc m) e) p = rounded-plain binary64 (locateRoot binary64 (radicand binary64 (suc m) e))
 
 -- a divisor that is finite and above zero
 above-zero : (s : Bool) (m : ℕ) (e : ℤ) → lt zeroᶠ (fin s m e) ≡ true → (s ≡ false) × (eqb m 0 ≡ false)

@@ -128,7 +128,7 @@ fn fill(
 }
 
 // Fills the work list, with one table for all roots, and clears the floats, of which the front is used.
-pub fn build(
+pub(crate) fn build(
     aggregation: TwoLevelAggregation,
     row_ptr: &[u32],
     col_idx: &[u32],

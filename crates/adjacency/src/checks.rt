@@ -22,7 +22,7 @@ fn long_enough(nodes: usize, entries: usize, base: usize, ints: usize, floats: u
 }
 
 // 9, 10, 12 and 13.
-pub fn fits(
+pub(crate) fn fits(
     rows: usize,
     cols: usize,
     entries: usize,

@@ -17,7 +17,7 @@ fn put(work: &mut [u32], i: usize, x: usize)
 }
 
 // Puts the offsets at work[base..], the lists behind them, and returns their end, counted from base.
-pub fn all_lists(
+pub(crate) fn all_lists(
     strong: bool,
     row_ptr: &[u32],
     col_idx: &[u32],

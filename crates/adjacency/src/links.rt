@@ -6,7 +6,7 @@ ghost use Prim.Native.Nat.{_+_, _-_, _/_, _<_, _≤_};
 ghost use lib.ListN.{length, getD, take, drop};
 ghost use Rattle.adjacency.specs.Collect.{gather, marked, nodesIn, Inside};
 
-pub fn node_of(col_idx: &[u32], k: usize, size: u32) -> u32
+pub(crate) fn node_of(col_idx: &[u32], k: usize, size: u32) -> u32
     requires { ⌜ (k < length (now «col_idx»)) × (0 < size) ⌝ }
     ensures { λ r. ⌜ r ≡ getD (now («col_idx» .entry)) k 0 / size ⌝ }
 {
@@ -14,7 +14,7 @@ pub fn node_of(col_idx: &[u32], k: usize, size: u32) -> u32
 }
 
 // Puts the nodes that col_idx[from..to] names and that don't bear the stamp at work[base + at..], each once, stamps them, and returns their end.
-pub fn collect(
+pub(crate) fn collect(
     col_idx: &[u32],
     from: usize,
     to: usize,

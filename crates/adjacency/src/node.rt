@@ -7,7 +7,7 @@ ghost use mathlib.Core.Path.{_≡_};
 ghost use mathlib.Core.List.{_++_};
 ghost use Prim.Native.Nat.{_+_, _-_, _*_, _^_, _<_, _≤_};
 ghost use lib.ListN.{length, getD, set, take, drop};
-ghost use Rattle.definitions.specs.Lists.{part};
+ghost use Rattle.definitions.specs.Lists.{between};
 ghost use Rattle.definitions.specs.Matrix.{csr};
 ghost use Rattle.adjacency.specs.Collect.{marked, nodesIn, Inside};
 ghost use Rattle.adjacency.specs.Formed.{Formed};
@@ -16,7 +16,7 @@ ghost use Rattle.adjacency.specs.Order.{before, sortBy, Below};
 ghost use Rattle.adjacency.specs.Strengths.{AllPlain};
 
 // Where the entries of node v start.
-pub fn start(row_ptr: &[u32], v: u32, size: u32) -> usize
+pub(crate) fn start(row_ptr: &[u32], v: u32, size: u32) -> usize
     requires { ⌜ v * size < length (now «row_ptr») ⌝ }
     ensures { λ r. ⌜ r ≡ getD (now («row_ptr» .entry)) (v * size) 0 ⌝ }
 {
@@ -53,8 +53,8 @@ fn find(
 fn arrange(floats: &[f64], nodes: usize, base: usize, work: &mut [u32], at: usize, end: usize)
     requires { ⌜ (at ≤ end) × ((base + end ≤ length (now work)) × ((end - at ≤ nodes) × ((2 * nodes ≤ base) × (3 * nodes ≤ length (now floats))))) ⌝ }
     requires { ⌜ AllPlain (now floats) ⌝ }
-    requires { ⌜ Below nodes (part at end (drop base (now work))) ⌝ }
-    ensures { λ _. ⌜ take end (drop base (now (work .exit))) ≡ take at (drop base (now (work .entry))) ++ sortBy (before (drop (2 * nodes) (now (floats .entry)))) (part at end (drop base (now (work .entry)))) ⌝ }
+    requires { ⌜ Below nodes (between at end (drop base (now work))) ⌝ }
+    ensures { λ _. ⌜ take end (drop base (now (work .exit))) ≡ take at (drop base (now (work .entry))) ++ sortBy (before (drop (2 * nodes) (now (floats .entry)))) (between at end (drop base (now (work .entry)))) ⌝ }
     ensures { λ _. ⌜ take nodes (now (work .exit)) ≡ take nodes (now (work .entry)) ⌝ }
 {
     let strong = 2 * nodes;
@@ -64,7 +64,7 @@ fn arrange(floats: &[f64], nodes: usize, base: usize, work: &mut [u32], at: usiz
 }
 
 // Puts node v's list at work[base + at..], by strength if that is wanted, and returns how many nodes it has.
-pub fn node_list(
+pub(crate) fn node_list(
     strong: bool,
     row_ptr: &[u32],
     col_idx: &[u32],

@@ -31,7 +31,7 @@ fn norm(
     root_by(table, own(col_idx, values, from, to, size, v))
 }
 
-pub fn norms(
+pub(crate) fn norms(
     row_ptr: &[u32],
     col_idx: &[u32],
     values: &[f64],

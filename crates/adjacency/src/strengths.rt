@@ -47,7 +47,7 @@ fn measure(list: &[u32], v: usize, nodes: usize, floats: &mut [f64], table: &roo
 }
 
 // The strengths of node v, whose entries are those from `from` up to `to`, if they are wanted.
-pub fn strengths(
+pub(crate) fn strengths(
     wanted: bool,
     col_idx: &[u32],
     values: &[f64],

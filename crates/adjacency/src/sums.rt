@@ -11,7 +11,7 @@ ghost use Rattle.adjacency.specs.Order.{Below};
 ghost use Rattle.adjacency.specs.Strengths.{cleared, weighed, squaresIn};
 
 // Sets the sums of the listed nodes to zero.
-pub fn clear(list: &[u32], sums: &mut [f64])
+pub(crate) fn clear(list: &[u32], sums: &mut [f64])
     requires { ⌜ Below (length (now sums)) (now list) ⌝ }
     ensures { λ _. ⌜ now (sums .exit) ≡ cleared (now (list .entry)) (now (sums .entry)) ⌝ }
 {
@@ -24,7 +24,7 @@ pub fn clear(list: &[u32], sums: &mut [f64])
 }
 
 // Adds the squares of values[from..to] to the sums of the nodes that they stand towards.
-pub fn weigh(col_idx: &[u32], values: &[f64], from: usize, to: usize, size: u32, sums: &mut [f64])
+pub(crate) fn weigh(col_idx: &[u32], values: &[f64], from: usize, to: usize, size: u32, sums: &mut [f64])
     requires { ⌜ (from ≤ to) × ((to ≤ length (now «col_idx»)) × ((to ≤ length (now values)) × (0 < size))) ⌝ }
     requires { ⌜ Inside (length (now sums)) size (now «col_idx») ⌝ }
     ensures { λ _. ⌜ now (sums .exit) ≡ weighed size (stored (now («col_idx» .entry)) (now (values .entry)) from to) (now (sums .entry)) ⌝ }
@@ -40,7 +40,7 @@ pub fn weigh(col_idx: &[u32], values: &[f64], from: usize, to: usize, size: u32,
 }
 
 // The sum of the squares of those of values[from..to] that stand towards node v.
-pub fn own(col_idx: &[u32], values: &[f64], from: usize, to: usize, size: u32, v: u32) -> f64
+pub(crate) fn own(col_idx: &[u32], values: &[f64], from: usize, to: usize, size: u32, v: u32) -> f64
     requires { ⌜ (from ≤ to) × ((to ≤ length (now «col_idx»)) × ((to ≤ length (now values)) × (0 < size))) ⌝ }
     ensures { λ r. ⌜ r ≡ total (squaresIn size v (stored (now («col_idx» .entry)) (now (values .entry)) from to)) ⌝ }
 {

@@ -1,7 +1,7 @@
 // An index from a 32-bit word.
 ghost use mathlib.Core.Path.{_≡_};
 
-pub fn wide(x: u32) -> usize
+pub(crate) fn wide(x: u32) -> usize
     ensures { λ r. ⌜ r ≡ x ⌝ }
 {
     x as usize

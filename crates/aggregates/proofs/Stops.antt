@@ -10,7 +10,7 @@ use lib.Dec.{eqb, ltb}
 use lib.ListN.{length, getD, set, length-set, length-append}
 use lib.Seq.{getD-set-same, getD-set-other}
 use Rattle.definitions.specs.Lists.{tab}
-use Rattle.definitions.specs.Groups.{Joining, Groups, nodesIn, sizeIn, joined, replay, edgesTo, before, chosen, others, named, takerOf, roundFrom, joiningsFrom, floorOf, nodesOf, groupsOf, grown, joinings}
+use Rattle.definitions.specs.Groups.{Joining, Groups, nodesIn, sizeIn, joined, replay, edgesTo, before, chosen, otherGroups, namedGroups, takerOf, roundFrom, joiningsFrom, floorOf, nodesOf, groupsOf, grown, joinings}
 use Rattle.laws.proofs.Tests.{both-false}
 use Rattle.laws.proofs.Lists.{length-tab}
 use Rattle.aggregates.specs.JoinState.{All}
@@ -102,30 +102,30 @@ chosen-keeps Q e m best (x ∷ l) q a = by-test (eqb best 0 || before e m x best
     (λ t. rw (chosen, t) (chosen-keeps Q e m best l q (a .1)))
 
 module _ (lists : ℕ → List ℕ) (anchor : ℕ → Bool) where
-  others-other : (g : ℕ) (s : Groups) (ws : List ℕ) → All (Other g (sizeIn s)) (others lists anchor g s ws)
-  unfolding others
+  others-other : (g : ℕ) (s : Groups) (ws : List ℕ) → All (Other g (sizeIn s)) (otherGroups lists anchor g s ws)
+  unfolding otherGroups
   others-other g s [] = tt
   others-other g s (w ∷ ws) =
       let o = getD (s .of) w 0 in
       by-test (anchor w || eqb o g || eqb (sizeIn s o) 0)
-      (λ e. rw (others, e) (others-other g s ws))
+      (λ e. rw (otherGroups, e) (others-other g s ws))
       (λ e.
       let z = both-false (anchor w || eqb o g) (eqb (sizeIn s o) 0) e in
       let y = both-false (anchor w) (eqb o g) (z .0) in
-      rw (others, e) ((omega (arith, eqb-false (sizeIn s o) 0 (z .1)), eqb-false o g (y .1)), others-other g s ws))
+      rw (otherGroups, e) ((omega (arith, eqb-false (sizeIn s o) 0 (z .1)), eqb-false o g (y .1)), others-other g s ws))
 
-  named-other : (g : ℕ) (s : Groups) (vs : List ℕ) → All (Other g (sizeIn s)) (named lists anchor g s vs)
-  unfolding named
+  named-other : (g : ℕ) (s : Groups) (vs : List ℕ) → All (Other g (sizeIn s)) (namedGroups lists anchor g s vs)
+  unfolding namedGroups
   named-other g s [] = tt
   named-other g s (v ∷ vs) = by-test (anchor v)
-      (λ e. rw (named, e) (named-other g s vs))
-      (λ e. rw (named, e) (all-append (Other g (sizeIn s)) (others lists anchor g s (lists v)) (named lists anchor g s vs) (others-other g s (lists v)) (named-other g s vs)))
+      (λ e. rw (namedGroups, e) (named-other g s vs))
+      (λ e. rw (namedGroups, e) (all-append (Other g (sizeIn s)) (otherGroups lists anchor g s (lists v)) (namedGroups lists anchor g s vs) (others-other g s (lists v)) (named-other g s vs)))
 
   -- a group that joins another has members, and so has the other
   pub taker-other : (floor g b : ℕ) (s : Groups) → takerOf lists anchor floor s g ≡ suc b → (0 < sizeIn s g) × Other g (sizeIn s) (suc b)
   unfolding takerOf
   taker-other floor g b s e =
-      let names = named lists anchor g s (nodesIn s g) in
+      let names = namedGroups lists anchor g s (nodesIn s g) in
       by-test (ltb 0 (sizeIn s g))
       (λ t. by-test (ltb (sizeIn s g) floor)
       (λ u.

@@ -5,7 +5,7 @@ use mathlib.Core.List.{List, [], _∷_, _++_}
 use Prim.Native.Nat.{ℕ, _+_, _≤_, _<_}
 use lib.Dec.{eqb, ltb}
 use lib.ListN.{getD, set}
-use Rattle.definitions.specs.Groups.{Groups, sizeIn, before, chosen, others, named, noAnchor}
+use Rattle.definitions.specs.Groups.{Groups, sizeIn, before, chosen, otherGroups, namedGroups, noAnchor}
 
 -- does the group a, to which va edges lead and which has ca members, come before the group b with vb and cb?
 unfoldable pub beforeBy : ℕ → ℕ → ℕ → ℕ → ℕ → ℕ → Bool
@@ -34,13 +34,13 @@ module _ (lists : ℕ → List ℕ) (g : ℕ) (s : Groups) where
   branch true x p q e = e
   branch false x p q e = ap (λ l. x ∷ l) e
 
-  pub others-is : (ws : List ℕ) → others lists noAnchor g s ws ≡ othersBy g (s .of) (sizeIn s) ws
-  unfolding others othersBy
+  pub others-is : (ws : List ℕ) → otherGroups lists noAnchor g s ws ≡ othersBy g (s .of) (sizeIn s) ws
+  unfolding otherGroups othersBy
   others-is [] = refl
-  others-is (w ∷ ws) = branch (eqb (getD (s .of) w 0) g || eqb (sizeIn s (getD (s .of) w 0)) 0) (getD (s .of) w 0) (others lists noAnchor g s ws) (othersBy g (s .of) (sizeIn s) ws) (others-is ws)
+  others-is (w ∷ ws) = branch (eqb (getD (s .of) w 0) g || eqb (sizeIn s (getD (s .of) w 0)) 0) (getD (s .of) w 0) (otherGroups lists noAnchor g s ws) (othersBy g (s .of) (sizeIn s) ws) (others-is ws)
 
-  pub named-is : (vs : List ℕ) → named lists noAnchor g s vs ≡ namedBy lists g (s .of) (sizeIn s) vs
-  unfolding named namedBy
+  pub named-is : (vs : List ℕ) → namedGroups lists noAnchor g s vs ≡ namedBy lists g (s .of) (sizeIn s) vs
+  unfolding namedGroups namedBy
   named-is [] = refl
   named-is (v ∷ vs) = rw (others-is (lists v), named-is vs) refl
 

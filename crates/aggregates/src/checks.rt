@@ -92,7 +92,7 @@ fn check_lists(nodes: usize, size: usize, offsets: &[u32], neighbours: &[u32]) -
 }
 
 // Causes 1, 11, 27, 16, 28 and 13, in this order.
-pub fn check(
+pub(crate) fn check(
     nodes: usize,
     size: usize,
     offsets: &[u32],
@@ -118,7 +118,7 @@ pub fn check(
 }
 
 // The room that grouping asks for below the neighbour lists.
-pub fn room_for(nodes: usize, neighbours: usize) -> usize
+pub(crate) fn room_for(nodes: usize, neighbours: usize) -> usize
     requires { ⌜ (nodes ≤ maxRows) × (neighbours ≤ maxEntries) ⌝ }
     ensures { λ r. ⌜ r ≡ roomFor nodes neighbours ⌝ }
 {
@@ -132,7 +132,7 @@ fn lesser(a: usize, b: usize) -> usize
 }
 
 // The same for the neighbour lists that w has from w[base] on, with room below them. Where w ends first, they are cut off.
-pub fn check_within(nodes: usize, size: usize, base: usize, w: &[u32]) -> Answer
+pub(crate) fn check_within(nodes: usize, size: usize, base: usize, w: &[u32]) -> Answer
     ensures { λ r. ⌜ r ≡ answerOf (withinCall nodes size base (now (w .entry))) ⌝ }
 {
     if 1048576 < nodes {

@@ -5,7 +5,7 @@ ghost use mathlib.Core.Path.{_≡_};
 ghost use mathlib.Core.List.{[], _∷_, _++_};
 ghost use Prim.Native.Nat.{_+_, _^_, _<_, _≤_};
 ghost use lib.ListN.{length, take, drop, replicate};
-ghost use Rattle.definitions.specs.Groups.{free, grow, grown, noAnchor};
+ghost use Rattle.definitions.specs.Groups.{free, growGroup, grown, noAnchor};
 ghost use Rattle.aggregates.specs.Lists.{Lists};
 ghost use Rattle.aggregates.specs.Stored.{offsetsAt, neighboursAt, listsAt};
 ghost use Rattle.aggregates.specs.Growth.{Pushes};
@@ -41,7 +41,7 @@ fn push_free(w: &mut [u32], base: usize, nodes: usize, v: usize, tail: usize) ->
 fn grow_group(w: &mut [u32], base: usize, nodes: usize, seed: u32, g: u32, size: usize)
     requires { ⌜ Lists nodes (offsetsAt base nodes (now w)) (neighboursAt base nodes (now w)) ⌝ }
     requires { ⌜ (seed < nodes) × ((0 < g) × (nodes + (length (neighboursAt base nodes (now w)) + 1) ≤ base)) ⌝ }
-    ensures { λ _. ⌜ take nodes (now (w .exit)) ≡ grow (listsAt base nodes (now (w .entry))) noAnchor g size (take nodes (now (w .entry))) (seed ∷ []) ⌝ }
+    ensures { λ _. ⌜ take nodes (now (w .exit)) ≡ growGroup (listsAt base nodes (now (w .entry))) noAnchor g size (take nodes (now (w .entry))) (seed ∷ []) ⌝ }
     ensures { λ _. ⌜ drop base (now (w .exit)) ≡ drop base (now (w .entry)) ⌝ }
 {
     w[nodes] = seed;
@@ -63,7 +63,7 @@ fn grow_group(w: &mut [u32], base: usize, nodes: usize, seed: u32, g: u32, size:
 }
 
 // Grows groups from each ungrouped node in turn. Returns how many there are.
-pub fn grow_all(w: &mut [u32], base: usize, nodes: usize, size: usize) -> u32
+pub(crate) fn grow_all(w: &mut [u32], base: usize, nodes: usize, size: usize) -> u32
     requires { ⌜ Lists nodes (offsetsAt base nodes (now w)) (neighboursAt base nodes (now w)) ⌝ }
     requires { ⌜ (nodes < 2 ^ 31) × (nodes + (length (neighboursAt base nodes (now w)) + 1) ≤ base) ⌝ }
     requires { ⌜ take nodes (now w) ≡ replicate nodes 0 ⌝ }

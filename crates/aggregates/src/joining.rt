@@ -302,7 +302,7 @@ fn link(w: &mut [u32], nodes: usize)
 }
 
 // Joins undersized groups until a round joins nothing: w[0..nodes] has the group of each node, from 1; the rest of w below `base` is room, and may hold anything.
-pub fn join_groups(w: &mut [u32], base: usize, nodes: usize, groups: u32, floor: u32)
+pub(crate) fn join_groups(w: &mut [u32], base: usize, nodes: usize, groups: u32, floor: u32)
     requires { ⌜ Joins nodes groups base (offsetsAt base nodes (now w)) (neighboursAt base nodes (now w)) (now w) ⌝ }
     ensures { λ _. ⌜ take nodes (now (w .exit)) ≡ joinedIds (offsetsAt base nodes (now (w .entry))) (neighboursAt base nodes (now (w .entry))) floor groups (take nodes (now (w .entry))) ⌝ }
 {

@@ -33,7 +33,7 @@ fn number_all(w: &mut [u32], nodes: usize, top: u32) -> u32
     count
 }
 
-pub fn renumber(w: &mut [u32], nodes: usize, top: u32) -> u32
+pub(crate) fn renumber(w: &mut [u32], nodes: usize, top: u32) -> u32
     requires { ⌜ Numbered nodes top (now w) ⌝ }
     ensures { λ r. ⌜ take nodes (now (w .exit)) ≡ (renumbered (take nodes (now (w .entry)))) .ids ⌝ }
     ensures { λ r. ⌜ r ≡ (renumbered (take nodes (now (w .entry)))) .count ⌝ }

@@ -5,14 +5,14 @@ ghost use lib.ListN.{length, getD};
 ghost use Rattle.aggregates.specs.Stored.{offsetsAt, neighboursAt};
 
 // Where the list of the node v starts. That of the last node ends at the offset `nodes`.
-pub fn offset(w: &[u32], base: usize, nodes: usize, v: usize) -> usize
+pub(crate) fn offset(w: &[u32], base: usize, nodes: usize, v: usize) -> usize
     requires { ⌜ (v ≤ nodes) × (base + v < length (now w)) ⌝ }
     ensures { λ r. ⌜ r ≡ getD (offsetsAt base nodes (now (w .entry))) v 0 ⌝ }
 {
     w[base + v] as usize
 }
 
-pub fn neighbour(w: &[u32], base: usize, nodes: usize, i: usize) -> u32
+pub(crate) fn neighbour(w: &[u32], base: usize, nodes: usize, i: usize) -> u32
     requires { ⌜ i < length (neighboursAt base nodes (now w)) ⌝ }
     ensures { λ r. ⌜ r ≡ getD (neighboursAt base nodes (now (w .entry))) i 0 ⌝ }
 {

@@ -11,7 +11,7 @@ use lib.Ieee.{Float}
 use borrow.Author.Tests.{eq-eqb, ne-eqb, le-leb, lt-leb, leb-true}
 use Rattle.definitions.specs.Lists.{padded}
 use Rattle.definitions.specs.Numbers.{zeroᶠ}
-use Rattle.definitions.specs.Refusal.{Outcome, refused, done, require, _>>=_, resultLeft, keepsAll, numberOf}
+use Rattle.definitions.specs.Refusal.{Outcome, refused, done, require, _>>=_, resultLeft, keepsAll, causeOf}
 use Rattle.definitions.specs.Matrix.{maxRows}
 use Rattle.definitions.specs.Block.{maxBlock, blockApplied, blockApplyCall, blockApplyLeft}
 use Rattle.definitions.specs.Answers.{answerOf}
@@ -65,16 +65,16 @@ module _ (rows size : ℕ) (factors r lent : List Float) where
   Answered a z = (a ≡ answerOf (blockApplyCall rows size factors r (length lent))) × (z ≡ blockApplyLeft rows size factors r lent)
 
   pub wrong-residual : (length r ≡ rows → ⊥) → Answered (Refused (WrongLength rows (length r))) lent
-  unfolding blockApplyCall blockApplyLeft require _>>=_ keepsAll numberOf
+  unfolding blockApplyCall blockApplyLeft require _>>=_ keepsAll causeOf
   wrong-residual h = refuse-kept (blockApplyCall rows size factors r (length lent)) lent (WrongLength rows (length r)) (rw (ne-eqb (length r) rows h)) refl
 
   pub wrong-correction : length r ≡ rows → (length lent ≡ rows → ⊥) → Answered (Refused (WrongLength rows (length lent))) lent
-  unfolding blockApplyCall blockApplyLeft require _>>=_ keepsAll numberOf
+  unfolding blockApplyCall blockApplyLeft require _>>=_ keepsAll causeOf
   wrong-correction n h = refuse-kept (blockApplyCall rows size factors r (length lent)) lent (WrongLength rows (length lent)) (rw (eq-eqb (length r) rows n, ne-eqb (length lent) rows h)) refl
 
   module _ (n : length r ≡ rows) (m : length lent ≡ rows) (b : Bool) (eb : b ≡ fitting rows size (length factors)) where
     pub misfit : b ≡ false → Answered (Refused SetupMisfit) lent
-    unfolding blockApplyCall blockApplyLeft require _>>=_ keepsAll numberOf
+    unfolding blockApplyCall blockApplyLeft require _>>=_ keepsAll causeOf
     misfit h =
         refuse-kept (blockApplyCall rows size factors r (length lent)) lent SetupMisfit
         (rw (eq-eqb (length r) rows n, eq-eqb (length lent) rows m, ← eb, h)) refl

@@ -9,7 +9,7 @@ use native.Mathlib.Decide.{decLe}
 use lib.ListN.{length, take, drop, length-append, length-drop, drop-of-length-le}
 use lib.Seq.{take-at, drop-at, drop-drop, length-take-le}
 use lib.Ieee.{Float}
-use Rattle.definitions.specs.Lists.{upTo, part, tab}
+use Rattle.definitions.specs.Lists.{upTo, between, tab}
 use Rattle.definitions.specs.Block.{widthOf, blockCount, blockSolve, blockPart, blockApplied}
 use Rattle.laws.proofs.Growing.{upTo-snoc, flatMap-snoc}
 use Rattle.block_apply.proofs.Solved.{solvedBlock, solvedBlocks}
@@ -95,7 +95,7 @@ module _ (rows size : ℕ) (factors r : List Float) where
 
   -- a block more, put in place of what lay there
   pub blocks-more : (z₀ z y : List Float) (k w : ℕ) → length z₀ ≡ rows → k * size < rows → w ≡ widthOf rows size k → z ≡ solvedBlocks rows size factors r k ++ drop (k * size) z₀
-      → y ≡ blockSolve (blockPart size w k factors) w (part (k * size) (k * size + w) r)
+      → y ≡ blockSolve (blockPart size w k factors) w (between (k * size) (k * size + w) r)
       → take (k * size) z ++ (y ++ drop (k * size + w - k * size) (drop (k * size) z)) ≡ solvedBlocks rows size factors r (k + 1) ++ drop ((k + 1) * size) z₀
   unfolding solvedBlock
   blocks-more z₀ z y k w n h ew e ey =

@@ -12,7 +12,7 @@ fn width(left: usize, size: usize) -> usize
     if left < size { left } else { size }
 }
 
-pub fn solve_blocks(rows: usize, size: usize, factors: &[f64], r: &[f64], z: &mut [f64])
+pub(crate) fn solve_blocks(rows: usize, size: usize, factors: &[f64], r: &[f64], z: &mut [f64])
     requires { ⌜ (length (now r) ≡ rows) × (length (now z) ≡ rows) × (rows ≤ 1048576) × (1 ≤ size) × (size ≤ 8) × (rows * size ≤ length (now factors)) ⌝ }
     ensures { λ _. ⌜ (length (now (z .exit)) ≡ rows) × (now (z .exit) ≡ blockApplied rows size (now (factors .entry)) (now (r .entry))) ⌝ }
 {

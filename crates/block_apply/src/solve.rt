@@ -65,7 +65,7 @@ fn solve(l: &[f64], w: usize, r: &[f64], z: &mut [f64])
 }
 
 // The same. Three and six unknowns a node are the usual cases: these widths are constants here, and the compiler unrolls the loops.
-pub fn solve_block(l: &[f64], w: usize, r: &[f64], z: &mut [f64])
+pub(crate) fn solve_block(l: &[f64], w: usize, r: &[f64], z: &mut [f64])
     requires { ⌜ (length (now l) ≡ w * w) × (length (now r) ≡ w) × (length (now z) ≡ w) × (w ≤ 8) ⌝ }
     ensures { λ _. ⌜ now (z .exit) ≡ blockSolve (now (l .entry)) w (now (r .entry)) ⌝ }
 {

@@ -8,7 +8,7 @@ use lib.Ieee.{Float}
 use borrow.Author.Tests.{le-leb, lt-leb, eq-eqb, ne-eqb}
 use lib.Dec.{leb}
 use Rattle.definitions.specs.Numbers.{zeroᶠ}
-use Rattle.definitions.specs.Refusal.{refused, resultLeft, keepsAll, numberOf}
+use Rattle.definitions.specs.Refusal.{refused, resultLeft, keepsAll, causeOf}
 use Rattle.definitions.specs.Matrix.{Matrix, csr, validOf}
 use Rattle.definitions.specs.Block.{factorsOf, blocksCall, blocksLeft, maxBlock}
 use Rattle.definitions.specs.Answers.{answerOf}
@@ -35,7 +35,7 @@ module _ (rows cols : ℕ) (ptr idx : List ℕ) (vals : List Float) (size : ℕ)
 
     module _ (e : x ≡ Accepted) where
       pub not-square : (cols ≡ rows → ⊥) → (Refused NotSquare ≡ answerOf (blocksCall a size (length lent))) × (lent ≡ blocksLeft a size lent)
-      unfolding blocksCall keepsAll numberOf
+      unfolding blocksCall keepsAll causeOf
       not-square h = kept NotSquare refl (valid-goes a _ (sym ex ∙ e) ∙ stops _ NotSquare _ (failed _ NotSquare (ne-eqb cols rows h)))
 
       pub walks : cols ≡ rows → Rows (csr rows rows ptr idx vals)
@@ -43,7 +43,7 @@ module _ (rows cols : ℕ) (ptr idx : List ℕ) (vals : List Float) (size : ℕ)
 
       module _ (h : cols ≡ rows) where
         size-refused : (leb 1 size && leb size maxBlock) ≡ false → (Refused BlockSize ≡ answerOf (blocksCall a size (length lent))) × (lent ≡ blocksLeft a size lent)
-        unfolding blocksCall keepsAll numberOf
+        unfolding blocksCall keepsAll causeOf
         size-refused f =
             kept BlockSize refl
             (valid-goes a _ (sym ex ∙ e) ∙ goes-on _ tt _ (passed _ NotSquare (eq-eqb cols rows h)) ∙ stops _ BlockSize _ (failed (leb 1 size && leb size maxBlock) BlockSize f))
@@ -59,7 +59,7 @@ module _ (rows cols : ℕ) (ptr idx : List ℕ) (vals : List Float) (size : ℕ)
           sized = rw (le-leb 1 size p, le-leb size 8 s)
 
           pub too-short : length lent < rows * size → (Refused ListTooShort ≡ answerOf (blocksCall a size (length lent))) × (lent ≡ blocksLeft a size lent)
-          unfolding blocksCall keepsAll numberOf
+          unfolding blocksCall keepsAll causeOf
           too-short l =
               kept ListTooShort refl
               (valid-goes a _ (sym ex ∙ e) ∙ goes-on _ tt _ (passed _ NotSquare (eq-eqb cols rows h)) ∙ goes-on _ tt _ (passed (leb 1 size && leb size maxBlock) BlockSize sized)

@@ -11,9 +11,9 @@ use lib.Seq.{length-take-le, take-at}
 use lib.Ieee.{Float, nan}
 use borrow.Rule.Slice.PartMut.{putMid}
 use Rattle.definitions.specs.Numbers.{_*ᶠ_, rootᶠ, zeroᶠ, above, symmetryTol, pivotTol}
-use Rattle.definitions.specs.Refusal.{Outcome, refused, done, _>>=_, keepsAll, numberOf}
+use Rattle.definitions.specs.Refusal.{Outcome, refused, done, _>>=_, keepsAll, causeOf}
 use Rattle.definitions.specs.Matrix.{Matrix}
-use Rattle.definitions.specs.Factor.{rest, leftOf, factorFrom}
+use Rattle.definitions.specs.Factor.{rest, belowDiagonal, factorRows}
 use Rattle.definitions.specs.Block.{inBlock, topOf, skewed, blockOf, blockFactor, blockCount, widthOf, factorsFrom, factorsOf}
 use Rattle.definitions.specs.Answers.{answerOf}
 use Rattle.definitions.specs.declared.Refusal.{Refusal}
@@ -28,24 +28,24 @@ use Rattle.block_factor.proofs.Turns.{PairTurn, place-long}
 -- ---- causes 14 and 15 leave zero
 
 module _ (place : ℕ → ℕ → ℕ) (a : ℕ → ℕ → Float) (bad : ℕ → Refusal) (clears : (i : ℕ) → keepsAll (bad i) ≡ false) where
-  from-clears : (tol : Float) (n i : ℕ) (l : List Float) (r : Refusal) → factorFrom place bad a tol n i l ≡ refused r → keepsAll r ≡ false
-  unfolding factorFrom
+  from-clears : (tol : Float) (n i : ℕ) (l : List Float) (r : Refusal) → factorRows place bad a tol n i l ≡ refused r → keepsAll r ≡ false
+  unfolding factorRows
   from-clears tol zero i l r e = cc
   from-clears tol (suc n) i l r e =
-      step (above tol (rest place a (leftOf place a i i l) i i)) refl
-      (from-clears tol n (suc i) (set (leftOf place a i i l) (place i i) (rootᶠ (rest place a (leftOf place a i i l) i i))) r)
+      step (above tol (rest place a (belowDiagonal place a i i l) i i)) refl
+      (from-clears tol n (suc i) (set (belowDiagonal place a i i l) (place i i) (rootᶠ (rest place a (belowDiagonal place a i i l) i i))) r)
     where
-      step : (b : Bool) → above tol (rest place a (leftOf place a i i l) i i) ≡ b
-          → (factorFrom place bad a tol n (suc i) (set (leftOf place a i i l) (place i i) (rootᶠ (rest place a (leftOf place a i i l) i i))) ≡ refused r → keepsAll r ≡ false)
+      step : (b : Bool) → above tol (rest place a (belowDiagonal place a i i l) i i) ≡ b
+          → (factorRows place bad a tol n (suc i) (set (belowDiagonal place a i i l) (place i i) (rootᶠ (rest place a (belowDiagonal place a i i l) i i))) ≡ refused r → keepsAll r ≡ false)
           → keepsAll r ≡ false
-      step true p ih = ih (rw (p, factorFrom) at e)
+      step true p ih = ih (rw (p, factorRows) at e)
       step false p ih =
-          let q : refused (bad i) ≡ refused r = rw (p, factorFrom) at e in
+          let q : refused (bad i) ≡ refused r = rw (p, factorRows) at e in
           let g : bad i ≡ r = cc in
           ap keepsAll (sym g) ∙ clears i
 
 pub block-clears : (m : Matrix) (first w : ℕ) (r : Refusal) → blockFactor m first w ≡ refused r → keepsAll r ≡ false
-unfolding blockFactor keepsAll numberOf
+unfolding blockFactor keepsAll causeOf
 block-clears m first w r e = step (skewed (blockOf m first w) w (symmetryTol *ᶠ topOf (blockOf m first w))) refl
   where
     step : (b : Bool) → skewed (blockOf m first w) w (symmetryTol *ᶠ topOf (blockOf m first w)) ≡ b → keepsAll r ≡ false

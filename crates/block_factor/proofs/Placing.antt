@@ -14,7 +14,7 @@ use Rattle.laws.proofs.BlockFactors.{block-placing}
 use Rattle.definitions.specs.Numbers.{_*ᶠ_, rootᶠ, above, zeroᶠ, symmetryTol, pivotTol}
 use Rattle.definitions.specs.Refusal.{Outcome, refused, done, _>>=_}
 use Rattle.definitions.specs.Matrix.{Matrix}
-use Rattle.definitions.specs.Factor.{rest, leftOf, factorFrom}
+use Rattle.definitions.specs.Factor.{rest, belowDiagonal, factorRows}
 use Rattle.definitions.specs.Block.{inBlock, topOf, skewed, blockOf, blockFactor}
 use Rattle.definitions.specs.Answers.{answerOf}
 use Rattle.definitions.specs.declared.Refusal.{Refusal}
@@ -30,24 +30,24 @@ use Rattle.block_factor.proofs.Turns.{place-long}
 -- ---- a factor has as many numbers as it was begun with
 
 module _ (place : ℕ → ℕ → ℕ) (a : ℕ → ℕ → Float) where
-  length-left : (i j : ℕ) (l : List Float) → length (leftOf place a i j l) ≡ length l
-  unfolding leftOf
+  length-left : (i j : ℕ) (l : List Float) → length (belowDiagonal place a i j l) ≡ length l
+  unfolding belowDiagonal
   length-left i zero l = refl
   length-left i (suc j) l = simp length-set (length-left i j l)
 
-  length-from : (bad : ℕ → Refusal) (tol : Float) (n i : ℕ) (l r : List Float) → factorFrom place bad a tol n i l ≡ done r → length r ≡ length l
-  unfolding factorFrom
+  length-from : (bad : ℕ → Refusal) (tol : Float) (n i : ℕ) (l r : List Float) → factorRows place bad a tol n i l ≡ done r → length r ≡ length l
+  unfolding factorRows
   length-from bad tol zero i l r e = let q : l ≡ r = cc in ap length (sym q)
   length-from bad tol (suc n) i l r e =
-      step (above tol (rest place a (leftOf place a i i l) i i)) refl
-      (length-from bad tol n (suc i) (set (leftOf place a i i l) (place i i) (rootᶠ (rest place a (leftOf place a i i l) i i))) r)
+      step (above tol (rest place a (belowDiagonal place a i i l) i i)) refl
+      (length-from bad tol n (suc i) (set (belowDiagonal place a i i l) (place i i) (rootᶠ (rest place a (belowDiagonal place a i i l) i i))) r)
     where
-      step : (b : Bool) → above tol (rest place a (leftOf place a i i l) i i) ≡ b
-          → (factorFrom place bad a tol n (suc i) (set (leftOf place a i i l) (place i i) (rootᶠ (rest place a (leftOf place a i i l) i i))) ≡ done r
-          → length r ≡ length (set (leftOf place a i i l) (place i i) (rootᶠ (rest place a (leftOf place a i i l) i i))))
+      step : (b : Bool) → above tol (rest place a (belowDiagonal place a i i l) i i) ≡ b
+          → (factorRows place bad a tol n (suc i) (set (belowDiagonal place a i i l) (place i i) (rootᶠ (rest place a (belowDiagonal place a i i l) i i))) ≡ done r
+          → length r ≡ length (set (belowDiagonal place a i i l) (place i i) (rootᶠ (rest place a (belowDiagonal place a i i l) i i))))
           → length r ≡ length l
-      step true p ih = ih (rw (p, factorFrom) at e) ∙ simp length-set (length-left i i l)
-      step false p ih = let q : refused (bad i) ≡ done r = rw (p, factorFrom) at e in cc
+      step true p ih = ih (rw (p, factorRows) at e) ∙ simp length-set (length-left i i l)
+      step false p ih = let q : refused (bad i) ≡ done r = rw (p, factorRows) at e in cc
 
 pub length-factor : (first w : ℕ) (d l : List Float) → factorOf first w d ≡ done l → length l ≡ 64
 unfolding factorOf blank
@@ -66,10 +66,10 @@ factor-is m first w h = step (skewed (blockOf m first w) w (symmetryTol *ᶠ top
     numbers : ℕ → ℕ → Float
     numbers i j = getD (blockOf m first w) (inBlock w i j) nan
 
-    front : factorFrom (inBlock w) (pivotRow first) numbers (pivotTol *ᶠ topOf (blockOf m first w)) w 0 (replicate (w * w) zeroᶠ)
-        ≡ (factorFrom (inBlock w) (pivotRow first) numbers (pivotTol *ᶠ topOf (blockOf m first w)) w 0 blank >>= (λ l. done (take (w * w) l)))
+    front : factorRows (inBlock w) (pivotRow first) numbers (pivotTol *ᶠ topOf (blockOf m first w)) w 0 (replicate (w * w) zeroᶠ)
+        ≡ (factorRows (inBlock w) (pivotRow first) numbers (pivotTol *ᶠ topOf (blockOf m first w)) w 0 blank >>= (λ l. done (take (w * w) l)))
     front =
-        ap (λ l. factorFrom (inBlock w) (pivotRow first) numbers (pivotTol *ᶠ topOf (blockOf m first w)) w 0 l) (sym (blank-front (w * w) h))
+        ap (λ l. factorRows (inBlock w) (pivotRow first) numbers (pivotTol *ᶠ topOf (blockOf m first w)) w 0 l) (sym (blank-front (w * w) h))
         ∙ factor-front (inBlock w) numbers w (w * w) (block-placing w (w * w) (le-refl (w * w))) (pivotRow first) (pivotTol *ᶠ topOf (blockOf m first w)) w 0 blank (omega arith)
 
     step : (b : Bool) → skewed (blockOf m first w) w (symmetryTol *ᶠ topOf (blockOf m first w)) ≡ b → blockFactor m first w ≡ (factorOf first w (blockOf m first w) >>= (λ l. done (take (w * w) l)))

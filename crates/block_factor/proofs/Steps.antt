@@ -10,7 +10,7 @@ use lib.ListN.{getD, set}
 use lib.Ieee.{Float, nan}
 use Rattle.definitions.specs.Numbers.{_*ᶠ_, _/ᶠ_, rootᶠ, oneᶠ, above, larger, largest, symmetryTol, pivotTol}
 use Rattle.definitions.specs.Refusal.{refused, done}
-use Rattle.definitions.specs.Factor.{rest, leftOf, factorFrom}
+use Rattle.definitions.specs.Factor.{rest, belowDiagonal, factorRows}
 use Rattle.definitions.specs.Block.{inBlock, topOf, skewed}
 use Rattle.definitions.specs.declared.Refusal.{Refusal}
 use Rattle.definitions.specs.declared.Refusal.the-variants.{BlockNotSymmetric}
@@ -18,43 +18,43 @@ use Rattle.block_factor.specs.Dense.{blank, denseEntry}
 use Rattle.block_factor.specs.Factored.{pivotRow, factorOf, FactorRows}
 
 module _ (place : ℕ → ℕ → ℕ) (a : ℕ → ℕ → Float) where
-  pub left-none : (i : ℕ) (l : List Float) → l ≡ leftOf place a i 0 l
-  unfolding leftOf
+  pub left-none : (i : ℕ) (l : List Float) → l ≡ belowDiagonal place a i 0 l
+  unfolding belowDiagonal
   left-none i l = refl
 
-  pub left-more : (i j : ℕ) (l₀ l m : List Float) (x y z : Float) → l ≡ leftOf place a i j l₀ → x ≡ rest place a l i j → y ≡ getD l (place j j) nan → z ≡ x /ᶠ y → m ≡ set l (place i j) z
-      → m ≡ leftOf place a i (j + 1) l₀
-  unfolding leftOf
+  pub left-more : (i j : ℕ) (l₀ l m : List Float) (x y z : Float) → l ≡ belowDiagonal place a i j l₀ → x ≡ rest place a l i j → y ≡ getD l (place j j) nan → z ≡ x /ᶠ y → m ≡ set l (place i j) z
+      → m ≡ belowDiagonal place a i (j + 1) l₀
+  unfolding belowDiagonal
   left-more i j l₀ l m x y z e ex ey ez em = em ∙ rw (add-one, ez, ex, ey, e)
 
   -- one row more, where i rows are there: m is l with the row's entries left of the diagonal, d its pivot
   module _ (bad : ℕ → Refusal) (tol : Float) (w i : ℕ) (l m : List Float) (d : Float) (t : Bool) (h : i < w)
-      (em : m ≡ leftOf place a i i l) (ed : d ≡ rest place a m i i) (et : t ≡ above tol d) where
-    here : above tol (rest place a (leftOf place a i i l) i i) ≡ t
+      (em : m ≡ belowDiagonal place a i i l) (ed : d ≡ rest place a m i i) (et : t ≡ above tol d) where
+    here : above tol (rest place a (belowDiagonal place a i i l) i i) ≡ t
     here = rw (← em, ← ed) (sym et)
 
     pub row-more : (r : Float) (n : List Float) → t ≡ true → r ≡ rootᶠ d → n ≡ set m (place i i) r
-        → factorFrom place bad a tol (w - i) i l ≡ factorFrom place bad a tol (w - (i + 1)) (i + 1) n
-    unfolding factorFrom
-    row-more r n p er en = let e : w - i ≡ suc (w - suc i) = omega arith in rw (add-one, e, en, er, ed, em) (rw (here ∙ p, factorFrom))
+        → factorRows place bad a tol (w - i) i l ≡ factorRows place bad a tol (w - (i + 1)) (i + 1) n
+    unfolding factorRows
+    row-more r n p er en = let e : w - i ≡ suc (w - suc i) = omega arith in rw (add-one, e, en, er, ed, em) (rw (here ∙ p, factorRows))
 
-    pub row-refused : t ≡ false → factorFrom place bad a tol (w - i) i l ≡ refused (bad i)
-    unfolding factorFrom
-    row-refused p = let e : w - i ≡ suc (w - suc i) = omega arith in rw e (rw (here ∙ p, factorFrom))
+    pub row-refused : t ≡ false → factorRows place bad a tol (w - i) i l ≡ refused (bad i)
+    unfolding factorRows
+    row-refused p = let e : w - i ≡ suc (w - suc i) = omega arith in rw e (rw (here ∙ p, factorRows))
 
-  pub rows-all : (bad : ℕ → Refusal) (tol : Float) (w i : ℕ) (l : List Float) → i ≡ w → factorFrom place bad a tol (w - i) i l ≡ done l
-  unfolding factorFrom
+  pub rows-all : (bad : ℕ → Refusal) (tol : Float) (w i : ℕ) (l : List Float) → i ≡ w → factorRows place bad a tol (w - i) i l ≡ done l
+  unfolding factorRows
   rows-all bad tol w i l h = let e : w - i ≡ 0 = omega arith in rw e
 
 -- the same for a block of a pair, wherever it begins: the rows left to do give, from the rows there, what all give
 module _ (w : ℕ) (a : List Float) (tol : Float) where
   abbrev pub RowsLeft : ℕ → List Float → Type 0
-  RowsLeft i l = (first : ℕ) → factorFrom (inBlock w) (pivotRow first) (denseEntry w a) tol (w - i) i l ≡ factorFrom (inBlock w) (pivotRow first) (denseEntry w a) tol w 0 blank
+  RowsLeft i l = (first : ℕ) → factorRows (inBlock w) (pivotRow first) (denseEntry w a) tol (w - i) i l ≡ factorRows (inBlock w) (pivotRow first) (denseEntry w a) tol w 0 blank
 
   pub rows-begin : (l : List Float) → l ≡ blank → RowsLeft 0 l
   rows-begin l e first = rw (sub-zero, e)
 
-  pub rows-step : (i : ℕ) (l m n : List Float) (d : Float) (t : Bool) (r : Float) → RowsLeft i l → i < w → m ≡ leftOf (inBlock w) (denseEntry w a) i i l → d ≡ rest (inBlock w) (denseEntry w a) m i i → t ≡ above tol d
+  pub rows-step : (i : ℕ) (l m n : List Float) (d : Float) (t : Bool) (r : Float) → RowsLeft i l → i < w → m ≡ belowDiagonal (inBlock w) (denseEntry w a) i i l → d ≡ rest (inBlock w) (denseEntry w a) m i i → t ≡ above tol d
       → t ≡ true → r ≡ rootᶠ d → n ≡ set m (inBlock w i i) r → RowsLeft (i + 1) n
   rows-step i l m n d t r inv h em ed et p er en first = sym (row-more (inBlock w) (denseEntry w a) (pivotRow first) tol w i l m d t h em ed et r n p er en) ∙ inv first
 
@@ -71,7 +71,7 @@ module _ (first w : ℕ) (d : List Float) where
   factor-skewed p = rw (p, factorOf)
 
   pub factor-goes : skewed d w (symmetryTol *ᶠ topOf d) ≡ false
-      → factorOf first w d ≡ factorFrom (inBlock w) (pivotRow first) (λ i j. getD d (inBlock w i j) nan) (pivotTol *ᶠ topOf d) w 0 blank
+      → factorOf first w d ≡ factorRows (inBlock w) (pivotRow first) (λ i j. getD d (inBlock w i j) nan) (pivotTol *ᶠ topOf d) w 0 blank
   unfolding factorOf
   factor-goes p = rw (p, factorOf)
 
@@ -84,5 +84,5 @@ module _ (first w : ℕ) (d : List Float) (s top : Float) (es : s ≡ largest d)
   pub stopped : t ≡ true → factorOf first w d ≡ refused (BlockNotSymmetric first)
   stopped p = factor-skewed first w d (rw (← top-is) (sym ef ∙ p))
 
-  pub goes : t ≡ false → factorOf first w d ≡ factorFrom (inBlock w) (pivotRow first) (λ i j. getD d (inBlock w i j) nan) (pivotTol *ᶠ top) w 0 blank
-  goes p = factor-goes first w d (rw (← top-is) (sym ef ∙ p)) ∙ ap (λ u. factorFrom (inBlock w) (pivotRow first) (λ i j. getD d (inBlock w i j) nan) (pivotTol *ᶠ u) w 0 blank) (sym top-is)
+  pub goes : t ≡ false → factorOf first w d ≡ factorRows (inBlock w) (pivotRow first) (λ i j. getD d (inBlock w i j) nan) (pivotTol *ᶠ top) w 0 blank
+  goes p = factor-goes first w d (rw (← top-is) (sym ef ∙ p)) ∙ ap (λ u. factorRows (inBlock w) (pivotRow first) (λ i j. getD d (inBlock w i j) nan) (pivotTol *ᶠ u) w 0 blank) (sym top-is)

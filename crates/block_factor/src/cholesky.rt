@@ -2,7 +2,7 @@
 ghost use mathlib.Core.Path.{_≡_};
 ghost use Prim.Native.Nat.{_+_, _<_, _≤_, _^_};
 ghost use Rattle.definitions.specs.Block.{inBlock};
-ghost use Rattle.definitions.specs.Factor.{rest as restOf, leftOf, factorFrom};
+ghost use Rattle.definitions.specs.Factor.{rest as restOf, belowDiagonal, factorRows};
 ghost use Rattle.block_factor.specs.Dense.{blank, dense, denseEntry};
 ghost use Rattle.block_factor.specs.Factored.{factored, pivotRow, factorOf};
 use super::dense::Block;
@@ -22,7 +22,7 @@ pub struct Factored {
 }
 
 // What is left of the entry (i, j) once the columns of l before j are taken off.
-pub fn rest(a: &[f64; 64], l: &[f64; 64], w: usize, i: usize, j: usize) -> f64
+pub(crate) fn rest(a: &[f64; 64], l: &[f64; 64], w: usize, i: usize, j: usize) -> f64
     requires { ⌜ (i < w) × (j < w) × (w ≤ 8) ⌝ }
     ensures { λ r. ⌜ r ≡ restOf (inBlock w) (denseEntry w (now (a .entry))) (now (l .entry)) i j ⌝ }
 {
@@ -36,9 +36,9 @@ pub fn rest(a: &[f64; 64], l: &[f64; 64], w: usize, i: usize, j: usize) -> f64
 }
 
 // The entries of row i left of the diagonal.
-pub fn fill_row(a: &[f64; 64], l: &mut [f64; 64], w: usize, i: usize)
+pub(crate) fn fill_row(a: &[f64; 64], l: &mut [f64; 64], w: usize, i: usize)
     requires { ⌜ (i < w) × (w ≤ 8) ⌝ }
-    ensures { λ _. ⌜ now (l .exit) ≡ leftOf (inBlock w) (denseEntry w (now (a .entry))) i i (now (l .entry)) ⌝ }
+    ensures { λ _. ⌜ now (l .exit) ≡ belowDiagonal (inBlock w) (denseEntry w (now (a .entry))) i i (now (l .entry)) ⌝ }
 {
     let mut j: usize = 0;
     while j < i {
@@ -67,7 +67,7 @@ fn factor_rows(
     table: &root::StartTable,
 ) -> Factored
     requires { ⌜ (w ≤ 8) × (first < 2 ^ 32) ⌝ }
-    ensures { λ r. ⌜ r ≡ factored w (factorFrom (inBlock w) (pivotRow first) (denseEntry w (now (a .entry))) tol w 0 blank) ⌝ }
+    ensures { λ r. ⌜ r ≡ factored w (factorRows (inBlock w) (pivotRow first) (denseEntry w (now (a .entry))) tol w 0 blank) ⌝ }
 {
     let mut l = blanks();
     let mut i: usize = 0;
@@ -88,7 +88,7 @@ fn factor_rows(
 }
 
 // The factor of a block, or 14 with its first row, or 15 with the row of the pivot.
-pub fn factor(b: Block, first: usize, table: &root::StartTable) -> Factored
+pub(crate) fn factor(b: Block, first: usize, table: &root::StartTable) -> Factored
     requires { ⌜ (b .size ≤ 8) × (first < 2 ^ 32) ⌝ }
     ensures { λ r. ⌜ r ≡ factored (b .size) (factorOf first (b .size) (dense (b .size) (b .a))) ⌝ }
 {

@@ -12,14 +12,14 @@ pub struct Block {
     pub size: usize,
 }
 
-pub fn blanks() -> [f64; 64]
+pub(crate) fn blanks() -> [f64; 64]
     ensures { λ r. ⌜ r ≡ blank ⌝ }
 {
     [0.0; 64]
 }
 
 // The entry (i, j) of a block's own numbers.
-pub fn given(a: &[f64; 64], w: usize, i: usize, j: usize) -> f64
+pub(crate) fn given(a: &[f64; 64], w: usize, i: usize, j: usize) -> f64
     requires { ⌜ (i < w) × (j < w) × (w ≤ 8) ⌝ }
     ensures { λ r. ⌜ r ≡ denseEntry w (now (a .entry)) i j ⌝ }
 {
@@ -27,14 +27,14 @@ pub fn given(a: &[f64; 64], w: usize, i: usize, j: usize) -> f64
 }
 
 // The entry (i, j) of a factor that is being made.
-pub fn at(l: &[f64; 64], w: usize, i: usize, j: usize) -> f64
+pub(crate) fn at(l: &[f64; 64], w: usize, i: usize, j: usize) -> f64
     requires { ⌜ (i < w) × (j < w) × (w ≤ 8) ⌝ }
     ensures { λ r. ⌜ r ≡ getD (now (l .entry)) (inBlock w i j) nan ⌝ }
 {
     l[i * w + j]
 }
 
-pub fn put(l: &mut [f64; 64], w: usize, i: usize, j: usize, x: f64)
+pub(crate) fn put(l: &mut [f64; 64], w: usize, i: usize, j: usize, x: f64)
     requires { ⌜ (i < w) × (j < w) × (w ≤ 8) ⌝ }
     ensures { λ _. ⌜ now (l .exit) ≡ set (now (l .entry)) (inBlock w i j) x ⌝ }
 {

@@ -45,7 +45,7 @@ fn gather_row(
 }
 
 // The block w wide whose first row is `first`.
-pub fn gather(
+pub(crate) fn gather(
     rows: usize,
     row_ptr: &[u32],
     col_idx: &[u32],

@@ -70,7 +70,7 @@ fn apart(w: usize) -> Pair
 }
 
 // The factors of two blocks of one width, if both have one.
-pub fn factor_pair(b: Block, c: Block, table: &root::StartTable) -> Pair
+pub(crate) fn factor_pair(b: Block, c: Block, table: &root::StartTable) -> Pair
     requires { ⌜ (b .size ≤ 8) × (c .size ≡ b .size) ⌝ }
     ensures { λ r. ⌜ (r .both ≡ true → FactorOf (b .size) (dense (b .size) (b .a)) (r .one .a) × FactorOf (b .size) (dense (b .size) (c .a)) (r .two .a)) ⌝ }
 {

@@ -8,7 +8,7 @@ ghost use Rattle.block_factor.specs.Dense.{dense, apartAt, rowApart};
 use super::dense::given;
 
 // The largest magnitude of the first n numbers, at least +0. A NaN is passed over.
-pub fn largest(a: &[f64; 64], n: usize) -> f64
+pub(crate) fn largest(a: &[f64; 64], n: usize) -> f64
     requires { ⌜ n ≤ 64 ⌝ }
     ensures { λ r. ⌜ r ≡ largestOf (take n (now (a .entry))) ⌝ }
 {
@@ -45,7 +45,7 @@ fn row_skewed(a: &[f64; 64], w: usize, i: usize, tol: f64) -> bool
     false
 }
 
-pub fn skewed(a: &[f64; 64], w: usize, tol: f64) -> bool
+pub(crate) fn skewed(a: &[f64; 64], w: usize, tol: f64) -> bool
     requires { ⌜ w ≤ 8 ⌝ }
     ensures { λ r. ⌜ r ≡ skewedOf (dense w (now (a .entry))) w tol ⌝ }
 {

@@ -11,7 +11,7 @@ use lib.Seq.{take-suc, take-length}
 use lib.Ieee.{Float, nan}
 use Rattle.definitions.specs.Lists.{tab}
 use Rattle.definitions.specs.Numbers.{_-ᶠ_, _*ᶠ_, _/ᶠ_, zeroᶠ, magnitude, larger, largest, reduced, above, rootᶠ}
-use Rattle.definitions.specs.Factor.{leftOf, rest, products, factorFrom}
+use Rattle.definitions.specs.Factor.{belowDiagonal, rest, products, factorRows}
 use Rattle.definitions.specs.Refusal.{refused, done}
 use Rattle.definitions.specs.declared.Refusal.the-variants.{CoarsePivot}
 use Rattle.definitions.specs.Coarse.{packed, packedLength, entryIn}
@@ -47,21 +47,21 @@ reduced-more x f n es et = et ∙ rw (es, add-one) (sym (reduced-suc x f n))
 
 -- ---- the entries of a row, left to right
 
-pub length-left : (a : ℕ → ℕ → Float) (i j : ℕ) (l : List Float) → length (leftOf packed a i j l) ≡ length l
-unfolding leftOf
+pub length-left : (a : ℕ → ℕ → Float) (i j : ℕ) (l : List Float) → length (belowDiagonal packed a i j l) ≡ length l
+unfolding belowDiagonal
 length-left a i zero l = refl
 length-left a i (suc j) l = simp length-set (length-left a i j l)
 
-pub left-none : (a : ℕ → ℕ → Float) (i : ℕ) (l : List Float) → l ≡ leftOf packed a i 0 l
-unfolding leftOf
+pub left-none : (a : ℕ → ℕ → Float) (i : ℕ) (l : List Float) → l ≡ belowDiagonal packed a i 0 l
+unfolding belowDiagonal
 left-none a i l = refl
 
 -- the code's x is what is left of the entry (i, j), where the rows i and j begin at start and row
 pub left-more : (m : List Float) (c i j : ℕ) (l₀ : List Float) {l : List Float} {start row : ℕ} {x : Float}
-    → start ≡ packedLength i → row ≡ packedLength j → l ≡ leftOf packed (entryIn m c) i j l₀
+    → start ≡ packedLength i → row ≡ packedLength j → l ≡ belowDiagonal packed (entryIn m c) i j l₀
     → x ≡ reduced (getD m (i * c + j) nan) (tab (λ k. getD l (start + k) nan *ᶠ getD l (row + k) nan) j)
-    → set l (start + j) (x /ᶠ getD l (row + j) nan) ≡ leftOf packed (entryIn m c) i (j + 1) l₀
-unfolding leftOf rest products
+    → set l (start + j) (x /ᶠ getD l (row + j) nan) ≡ belowDiagonal packed (entryIn m c) i (j + 1) l₀
+unfolding belowDiagonal rest products
 left-more m c i j l₀ es er el ex = rw (add-one, ex, es, er, el)
 
 -- where the code reads and writes
@@ -74,20 +74,20 @@ triangle-small n h = let q : n + 1 ≤ 2_049 = omega arith in mul-le-mul h q
 -- ---- the rows, one by one: n - i are left
 
 module _ (m : List Float) (c : ℕ) (tol : Float) (i : ℕ) (l : List Float) (k : List Float) (d : Float) (h : i < c) (start : ℕ) (es : start ≡ packedLength i)
-    (ek : k ≡ leftOf packed (entryIn m c) i i l) (ed : d ≡ reduced (getD m (i * c + i) nan) (tab (λ t. getD k (start + t) nan *ᶠ getD k (start + t) nan) i)) where
-  pivot-is : d ≡ rest packed (entryIn m c) (leftOf packed (entryIn m c) i i l) i i
+    (ek : k ≡ belowDiagonal packed (entryIn m c) i i l) (ed : d ≡ reduced (getD m (i * c + i) nan) (tab (λ t. getD k (start + t) nan *ᶠ getD k (start + t) nan) i)) where
+  pivot-is : d ≡ rest packed (entryIn m c) (belowDiagonal packed (entryIn m c) i i l) i i
   unfolding rest products
   pivot-is = ed ∙ rw (es, ek)
 
   pub rows-on : {w : List Float} {r : Float} → above tol d ≡ true → r ≡ rootᶠ d → w ≡ set k (start + i) r
-      → factorFrom packed (λ i. CoarsePivot i) (entryIn m c) tol (c - i) i l ≡ factorFrom packed (λ i. CoarsePivot i) (entryIn m c) tol (c - (i + 1)) (i + 1) w
-  unfolding factorFrom
-  rows-on p q e = let n : c - i ≡ suc (c - suc i) = omega arith in let t = rw pivot-is at p in rw (add-one, n, t, factorFrom) (rw (e, q, es, ek, pivot-is))
+      → factorRows packed (λ i. CoarsePivot i) (entryIn m c) tol (c - i) i l ≡ factorRows packed (λ i. CoarsePivot i) (entryIn m c) tol (c - (i + 1)) (i + 1) w
+  unfolding factorRows
+  rows-on p q e = let n : c - i ≡ suc (c - suc i) = omega arith in let t = rw pivot-is at p in rw (add-one, n, t, factorRows) (rw (e, q, es, ek, pivot-is))
 
-  pub rows-stop : above tol d ≡ false → factorFrom packed (λ i. CoarsePivot i) (entryIn m c) tol (c - i) i l ≡ refused (CoarsePivot i)
-  unfolding factorFrom
-  rows-stop p = let n : c - i ≡ suc (c - suc i) = omega arith in let t = rw pivot-is at p in rw (n, t, factorFrom)
+  pub rows-stop : above tol d ≡ false → factorRows packed (λ i. CoarsePivot i) (entryIn m c) tol (c - i) i l ≡ refused (CoarsePivot i)
+  unfolding factorRows
+  rows-stop p = let n : c - i ≡ suc (c - suc i) = omega arith in let t = rw pivot-is at p in rw (n, t, factorRows)
 
-pub rows-end : (m : List Float) (c : ℕ) (tol : Float) (i : ℕ) (l : List Float) → c ≤ i → factorFrom packed (λ i. CoarsePivot i) (entryIn m c) tol (c - i) i l ≡ done l
-unfolding factorFrom
+pub rows-end : (m : List Float) (c : ℕ) (tol : Float) (i : ℕ) (l : List Float) → c ≤ i → factorRows packed (λ i. CoarsePivot i) (entryIn m c) tol (c - i) i l ≡ done l
+unfolding factorRows
 rows-end m c tol i l h = let n : c - i ≡ 0 = omega arith in rw n

@@ -9,7 +9,7 @@ use lib.Seq.{getD-set-same, getD-set-other}
 use lib.Ieee.{Float, nan}
 use Rattle.definitions.specs.Lists.{tab}
 use Rattle.definitions.specs.Numbers.{_-ᶠ_, _*ᶠ_, _/ᶠ_, reduced}
-use Rattle.definitions.specs.Factor.{leftOf, rest, products}
+use Rattle.definitions.specs.Factor.{belowDiagonal, rest, products}
 use Rattle.definitions.specs.Coarse.{packed, packedLength, entryIn}
 use Rattle.averaging.proofs.Places.{place}
 use Rattle.laws.proofs.Lists.{tab-cong}
@@ -46,12 +46,12 @@ module _ (a : ℕ → ℕ → Float) (i j : ℕ) (m l : List Float) (same : Alik
       reduced-suc (a i n) (λ t. getD m (packedLength i + t) nan *ᶠ getD m (packedLength n + t) nan) k ∙ rw (es, ev, above n k h q)
 
 -- one entry more
-left-suc : (a : ℕ → ℕ → Float) (i n : ℕ) (l₀ l : List Float) (v x y : Float) → l ≡ leftOf packed a i n l₀ → leftAfter a l i n n ≡ x → getD l (packedLength n + n) nan ≡ y → v ≡ x /ᶠ y
-    → set l (packedLength i + n) v ≡ leftOf packed a i (suc n) l₀
-unfolding leftOf rest products
+left-suc : (a : ℕ → ℕ → Float) (i n : ℕ) (l₀ l : List Float) (v x y : Float) → l ≡ belowDiagonal packed a i n l₀ → leftAfter a l i n n ≡ x → getD l (packedLength n + n) nan ≡ y → v ≡ x /ᶠ y
+    → set l (packedLength i + n) v ≡ belowDiagonal packed a i (suc n) l₀
+unfolding belowDiagonal rest products
 left-suc a i n l₀ l v x y el ex ey ev = rw (ev, ← ex, ← ey, el)
 
-module _ (a : ℕ → ℕ → Float) (i j : ℕ) (l₀ l : List Float) (v0 v1 v2 v3 : Float) (h : j + 4 ≤ i) (big : packedLength i + suc i ≤ length l) (el : l ≡ leftOf packed a i j l₀)
+module _ (a : ℕ → ℕ → Float) (i j : ℕ) (l₀ l : List Float) (v0 v1 v2 v3 : Float) (h : j + 4 ≤ i) (big : packedLength i + suc i ≤ length l) (el : l ≡ belowDiagonal packed a i j l₀)
     (e0 : v0 ≡ leftAfter a l i j j /ᶠ getD l (packedLength j + j) nan)
     (e1 : v1 ≡ (leftAfter a l i j (suc j) -ᶠ v0 *ᶠ getD l (packedLength (suc j) + j) nan) /ᶠ getD l (packedLength (suc j) + suc j) nan)
     (e2 : v2 ≡ (leftAfter a l i j (suc (suc j)) -ᶠ v0 *ᶠ getD l (packedLength (suc (suc j)) + j) nan -ᶠ v1 *ᶠ getD l (packedLength (suc (suc j)) + suc j) nan)
@@ -61,7 +61,7 @@ module _ (a : ℕ → ℕ → Float) (i j : ℕ) (l₀ l : List Float) (v0 v1 v2
   alike0 : Alike l l (packedLength i + j)
   alike0 p b = refl
 
-  one : set l (packedLength i + j) v0 ≡ leftOf packed a i (suc j) l₀
+  one : set l (packedLength i + j) v0 ≡ belowDiagonal packed a i (suc j) l₀
   one = left-suc a i j l₀ l v0 (leftAfter a l i j j) (getD l (packedLength j + j) nan) el refl refl e0
 
   -- ---- the second
@@ -72,7 +72,7 @@ module _ (a : ℕ → ℕ → Float) (i j : ℕ) (l₀ l : List Float) (v0 v1 v2
     at1 : getD m (packedLength i + j) nan ≡ v0
     at1 = rw em (getD-set-same l (packedLength i + j) v0 nan (omega arith))
 
-    two : set m (packedLength i + suc j) v1 ≡ leftOf packed a i (suc (suc j)) l₀
+    two : set m (packedLength i + suc j) v1 ≡ belowDiagonal packed a i (suc (suc j)) l₀
     two = left-suc a i (suc j) l₀ m v1 (leftAfter a l i j (suc j) -ᶠ v0 *ᶠ getD l (packedLength (suc j) + j) nan) (getD l (packedLength (suc j) + suc j) nan) (em ∙ one)
         (more a i j m l alike1 (suc j) (leftAfter a l i j (suc j)) v0 j (omega arith) (omega arith) (alike-left a i j m l alike1 (suc j) (omega arith) (omega arith)) at1)
         (above a i j m l alike1 (suc j) (suc j) (omega arith) (omega arith)) e1
@@ -91,7 +91,7 @@ module _ (a : ℕ → ℕ → Float) (i j : ℕ) (l₀ l : List Float) (v0 v1 v2
     at2′ : getD n (packedLength i + suc j) nan ≡ v1
     at2′ = rw en (getD-set-same m (packedLength i + suc j) v1 nan (omega (arith, long1)))
 
-    three : set n (packedLength i + suc (suc j)) v2 ≡ leftOf packed a i (suc (suc (suc j))) l₀
+    three : set n (packedLength i + suc (suc j)) v2 ≡ belowDiagonal packed a i (suc (suc (suc j))) l₀
     three = left-suc a i (suc (suc j)) l₀ n v2 _ (getD l (packedLength (suc (suc j)) + suc (suc j)) nan) (en ∙ two m em)
         (more a i j n l alike2 (suc (suc j)) (leftAfter a l i j (suc (suc j)) -ᶠ v0 *ᶠ getD l (packedLength (suc (suc j)) + j) nan) v1 (suc j) (omega arith) (omega arith)
         (more a i j n l alike2 (suc (suc j)) (leftAfter a l i j (suc (suc j))) v0 j (omega arith) (omega arith) (alike-left a i j n l alike2 (suc (suc j)) (omega arith) (omega arith)) at2) at2′)
@@ -114,7 +114,7 @@ module _ (a : ℕ → ℕ → Float) (i j : ℕ) (l₀ l : List Float) (v0 v1 v2
     at3″ : getD o (packedLength i + suc (suc j)) nan ≡ v2
     at3″ = rw eo (getD-set-same n (packedLength i + suc (suc j)) v2 nan (omega (arith, long2)))
 
-    pub four : set o (packedLength i + suc (suc (suc j))) v3 ≡ leftOf packed a i (suc (suc (suc (suc j)))) l₀
+    pub four : set o (packedLength i + suc (suc (suc j))) v3 ≡ belowDiagonal packed a i (suc (suc (suc (suc j)))) l₀
     four = left-suc a i (suc (suc (suc j))) l₀ o v3 _ (getD l (packedLength (suc (suc (suc j))) + suc (suc (suc j))) nan) (eo ∙ three m n em en)
         (more a i j o l alike3 (suc (suc (suc j))) _ v2 (suc (suc j)) (omega arith) (omega arith)
         (more a i j o l alike3 (suc (suc (suc j))) (leftAfter a l i j (suc (suc (suc j))) -ᶠ v0 *ᶠ getD l (packedLength (suc (suc (suc j))) + j) nan) v1 (suc j) (omega arith) (omega arith)
@@ -153,7 +153,7 @@ rows4 c i j start row hi hj es er =
 module _ (m : List Float) (c i j : ℕ) (l₀ l : List Float) (start row second third fourth : ℕ) (x y z : Four)
     (h : j + 4 ≤ i) (big : packedLength i + suc i ≤ length l) (es : start ≡ packedLength i) (e0 : row ≡ packedLength j) (e1 : second ≡ packedLength (suc j))
     (e2 : third ≡ packedLength (suc (suc j))) (e3 : fourth ≡ packedLength (suc (suc (suc j))))
-    (el : l ≡ leftOf packed (entryIn m c) i j l₀) (ex : x ≡ fourAt m (i * c + j)) (ey : RestFour l x start row second third fourth j y)
+    (el : l ≡ belowDiagonal packed (entryIn m c) i j l₀) (ex : x ≡ fourAt m (i * c + j)) (ey : RestFour l x start row second third fourth j y)
     (ez : z ≡ solvedFour l y (row + j) (second + j) (third + j) (fourth + j)) where
   left0 : y .a ≡ leftAfter (entryIn m c) l i j j
   left0 = ey .first ∙ rw (ex, es, e0)
@@ -183,7 +183,7 @@ module _ (m : List Float) (c i j : ℕ) (l₀ l : List Float) (start row second 
   unfolding solvedFour
   fourth-is = ap (λ t. t .d) ez ∙ rw (third-is, second-is, first-is)
 
-  pub fours-more : (r : List Float) → r ≡ setFour l (start + j) z → r ≡ leftOf packed (entryIn m c) i (j + 4) l₀
+  pub fours-more : (r : List Float) → r ≡ setFour l (start + j) z → r ≡ belowDiagonal packed (entryIn m c) i (j + 4) l₀
   fours-more r er =
       let p0 : start + j ≡ packedLength i + j = omega arith in
       let p1 : start + j + 1 ≡ packedLength i + suc j = omega arith in

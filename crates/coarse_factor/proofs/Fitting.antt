@@ -11,8 +11,8 @@ use borrow.Author.Tests.{le-leb, lt-leb}
 use Rattle.definitions.specs.Lists.{padded}
 use Rattle.averaging.proofs.Lists.{take-zeros, drop-zeros}
 use Rattle.definitions.specs.Numbers.{_*ᶠ_, zeroᶠ, oneᶠ, pivotTol, larger, largest, usable, above, rootᶠ}
-use Rattle.definitions.specs.Refusal.{Outcome, refused, done, require, _>>=_, resultLeft, keepsAll, numberOf}
-use Rattle.definitions.specs.Factor.{factorFrom, leftOf, rest}
+use Rattle.definitions.specs.Refusal.{Outcome, refused, done, require, _>>=_, resultLeft, keepsAll, causeOf}
+use Rattle.definitions.specs.Factor.{factorRows, belowDiagonal, rest}
 use Rattle.definitions.specs.Coarse.{packed, packedLength, entryIn, coarseFactor, inverseOf, coarseSolve, coarseLength}
 use Rattle.definitions.specs.Answers.{answerOf}
 use Rattle.definitions.specs.declared.TwoLevelCoarseApplyPolicy.{TwoLevelCoarseApplyPolicy}
@@ -28,7 +28,7 @@ use Rattle.definitions.specs.Setup.{maxCoarse}
 -- ---- 23 and 24
 
 pub coarse-on : (c : ℕ) (m : List Float) (s : Float) → s ≡ largest m → usable s ≡ true
-    → coarseFactor c m ≡ factorFrom packed (λ i. CoarsePivot i) (entryIn m c) (pivotTol *ᶠ larger s oneᶠ) c 0 (replicate (packedLength c) zeroᶠ)
+    → coarseFactor c m ≡ factorRows packed (λ i. CoarsePivot i) (entryIn m c) (pivotTol *ᶠ larger s oneᶠ) c 0 (replicate (packedLength c) zeroᶠ)
 unfolding coarseFactor require _>>=_
 coarse-on c m s e u = rw (← e, u)
 
@@ -38,7 +38,7 @@ coarse-off c m s e u = rw (← e, u)
 
 -- a pivot's cause leaves zeros
 pub pivot-keeps : (i : ℕ) → keepsAll (CoarsePivot i) ≡ false
-unfolding keepsAll numberOf
+unfolding keepsAll causeOf
 pivot-keeps i = refl
 
 refused-same : (r q : Refusal) → _≡_ {A = Outcome (List Float)} (refused q) (refused r) → q ≡ r
@@ -47,15 +47,15 @@ refused-same r q e = cc
 done-refused : (l : List Float) (r : Refusal) → _≡_ {A = Outcome (List Float)} (done l) (refused r) → ⊥
 done-refused l r e = let z : _≡_ {A = ℕ} 0 1 = cc in omega arith
 
-pub pivot-clears : (a : ℕ → ℕ → Float) (tol : Float) (n i : ℕ) (l : List Float) (r : Refusal) → factorFrom packed (λ i. CoarsePivot i) a tol n i l ≡ refused r → keepsAll r ≡ false
-unfolding factorFrom
+pub pivot-clears : (a : ℕ → ℕ → Float) (tol : Float) (n i : ℕ) (l : List Float) (r : Refusal) → factorRows packed (λ i. CoarsePivot i) a tol n i l ≡ refused r → keepsAll r ≡ false
+unfolding factorRows
 pivot-clears a tol zero i l r e = absurd (done-refused l r e)
-pivot-clears a tol (suc n) i l r e = step (above tol (rest packed a (leftOf packed a i i l) i i)) refl (λ w. pivot-clears a tol n (suc i) w r)
+pivot-clears a tol (suc n) i l r e = step (above tol (rest packed a (belowDiagonal packed a i i l) i i)) refl (λ w. pivot-clears a tol n (suc i) w r)
   where
-    step : (b : Bool) → above tol (rest packed a (leftOf packed a i i l) i i) ≡ b
-        → ((w : List Float) → factorFrom packed (λ i. CoarsePivot i) a tol n (suc i) w ≡ refused r → keepsAll r ≡ false) → keepsAll r ≡ false
-    step true q ih = ih (set (leftOf packed a i i l) (packed i i) (rootᶠ (rest packed a (leftOf packed a i i l) i i))) (rw (q, factorFrom) at e)
-    step false q ih = rw (← refused-same r (CoarsePivot i) (rw (q, factorFrom) at e)) (pivot-keeps i)
+    step : (b : Bool) → above tol (rest packed a (belowDiagonal packed a i i l) i i) ≡ b
+        → ((w : List Float) → factorRows packed (λ i. CoarsePivot i) a tol n (suc i) w ≡ refused r → keepsAll r ≡ false) → keepsAll r ≡ false
+    step true q ih = ih (set (belowDiagonal packed a i i l) (packed i i) (rootᶠ (rest packed a (belowDiagonal packed a i i l) i i))) (rw (q, factorRows) at e)
+    step false q ih = rw (← refused-same r (CoarsePivot i) (rw (q, factorRows) at e)) (pivot-keeps i)
 
 -- what is left of the list lent
 pub left-done : (o : Outcome (List Float)) (w l : List Float) → o ≡ done l → resultLeft zeroᶠ o w ≡ padded zeroᶠ (length w) l
@@ -85,7 +85,7 @@ over-zeros l z w p h ez el = let q : p - 0 ≡ p = omega arith in rw (q, ez, el,
 
 module _ (c : ℕ) (m w z l : List Float) (s t : Float) (a : Answer) (es : s ≡ largest m) (us : usable s ≡ true) (et : t ≡ larger s oneᶠ) (h : packedLength c ≤ length w)
     (ez : z ≡ replicate (length w) zeroᶠ) (el : length l ≡ length (take (packedLength c - 0) z))
-    (ef : outcomeOf a l ≡ factorFrom packed (λ i. CoarsePivot i) (entryIn m c) (pivotTol *ᶠ t) c 0 (take (packedLength c - 0) z)) where
+    (ef : outcomeOf a l ≡ factorRows packed (λ i. CoarsePivot i) (entryIn m c) (pivotTol *ᶠ t) c 0 (take (packedLength c - 0) z)) where
   front : take (packedLength c - 0) z ≡ replicate (packedLength c) zeroᶠ
   front = let q : packedLength c - 0 ≡ packedLength c = omega arith in rw (q, ez) (take-zeros (packedLength c) (length w) zeroᶠ h)
 
@@ -112,7 +112,7 @@ module _ (c : ℕ) (m w z l : List Float) (s t : Float) (a : Answer) (es : s ≡
 
 pub fitting-scale : (c : ℕ) (m w z : List Float) (s : Float) → s ≡ largest m → usable s ≡ false → z ≡ replicate (length w) zeroᶠ
     → (NoFactor CoarseScale ≡ factorAnswer (largest m) (coarseFactor c m)) × (z ≡ resultLeft zeroᶠ (coarseFactor c m) w)
-unfolding keepsAll numberOf
+unfolding keepsAll causeOf
 fitting-scale c m w z s es us ez =
     let o = coarse-off c m s es us in
     (answer-refused (largest m) (coarseFactor c m) CoarseScale o, ez ∙ sym (left-cleared (coarseFactor c m) w CoarseScale o refl))
@@ -144,11 +144,11 @@ pub answer-cleared : (s : Float) (o : Outcome (List Float)) (w z : List Float) (
 answer-cleared s o w z r e k ez = (answer-refused s o r e, ez ∙ sym (left-cleared o w r e k))
 
 pub short-keeps : keepsAll ListTooShort ≡ true
-unfolding keepsAll numberOf
+unfolding keepsAll causeOf
 short-keeps = refl
 
 pub large-clears : (c : ℕ) → keepsAll (CoarseTooLarge c) ≡ false
-unfolding keepsAll numberOf
+unfolding keepsAll causeOf
 large-clears c = refl
 
 pub answer-fits : (c : ℕ) (m w z : List Float) (a : FactorAnswer) (o : Outcome (List Float)) → o ≡ coarseFactor c (take (c * c - 0) m)

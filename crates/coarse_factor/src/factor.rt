@@ -14,13 +14,13 @@ ghost use lib.Ieee.{Float, nan};
 ghost use Rattle.definitions.specs.Lists.{tab};
 ghost use Rattle.definitions.specs.Numbers.{largest, reduced, _*ᶠ_};
 ghost use Rattle.coarse_factor.specs.Lanes.{RestFour, setFour, solvedFour, fourAt};
-ghost use Rattle.definitions.specs.Factor.{leftOf, factorFrom};
+ghost use Rattle.definitions.specs.Factor.{belowDiagonal, factorRows};
 ghost use Rattle.definitions.specs.declared.Refusal.the-variants.{CoarsePivot};
 ghost use Rattle.coarse_factor.specs.Calls.{outcomeOf};
 ghost use Rattle.definitions.specs.Coarse.{packed, packedLength, entryIn};
 
 // The largest magnitude.
-pub fn scale(m: &[f64]) -> f64
+pub(crate) fn scale(m: &[f64]) -> f64
     ensures { λ r. ⌜ r ≡ largest (now (m .entry)) ⌝ }
 {
     let mut top = 0.0;
@@ -110,7 +110,7 @@ fn four_at(m: &[f64], at: usize) -> Four
 // The entries of row i left of the diagonal, from column `from` on; the row begins at `start`.
 fn fill_rest(m: &[f64], l: &mut [f64], c: usize, i: usize, start: usize, from: usize)
     requires { ⌜ (i < c) × (from ≤ i) × (length (now m) ≡ c * c) × (length (now l) ≡ packedLength c) × (start ≡ packedLength i) × (c ≤ 2048) ⌝ }
-    ensures { λ _. ⌜ (length (now (l .exit)) ≡ length (now (l .entry))) × ((l₀ : List Float) → now (l .entry) ≡ leftOf packed (entryIn (now (m .entry)) c) i from l₀ → now (l .exit) ≡ leftOf packed (entryIn (now (m .entry)) c) i i l₀) ⌝ }
+    ensures { λ _. ⌜ (length (now (l .exit)) ≡ length (now (l .entry))) × ((l₀ : List Float) → now (l .entry) ≡ belowDiagonal packed (entryIn (now (m .entry)) c) i from l₀ → now (l .exit) ≡ belowDiagonal packed (entryIn (now (m .entry)) c) i i l₀) ⌝ }
 {
     let base = i * c;
     let mut row = from * (from + 1) / 2;
@@ -126,7 +126,7 @@ fn fill_rest(m: &[f64], l: &mut [f64], c: usize, i: usize, start: usize, from: u
 // The entries of row i left of the diagonal, four columns at a time, as far as that goes: up to the column returned.
 fn fill_fours(m: &[f64], l: &mut [f64], c: usize, i: usize, start: usize) -> usize
     requires { ⌜ (i < c) × (length (now m) ≡ c * c) × (length (now l) ≡ packedLength c) × (start ≡ packedLength i) × (c ≤ 2048) ⌝ }
-    ensures { λ r. ⌜ (r ≤ i) × (now (l .exit) ≡ leftOf packed (entryIn (now (m .entry)) c) i r (now (l .entry))) ⌝ }
+    ensures { λ r. ⌜ (r ≤ i) × (now (l .exit) ≡ belowDiagonal packed (entryIn (now (m .entry)) c) i r (now (l .entry))) ⌝ }
 {
     let base = i * c;
     let mut row = 0;
@@ -148,16 +148,16 @@ fn fill_fours(m: &[f64], l: &mut [f64], c: usize, i: usize, start: usize) -> usi
 // The entries of row i left of the diagonal.
 fn fill_row(m: &[f64], l: &mut [f64], c: usize, i: usize, start: usize)
     requires { ⌜ (i < c) × (length (now m) ≡ c * c) × (length (now l) ≡ packedLength c) × (start ≡ packedLength i) × (c ≤ 2048) ⌝ }
-    ensures { λ _. ⌜ now (l .exit) ≡ leftOf packed (entryIn (now (m .entry)) c) i i (now (l .entry)) ⌝ }
+    ensures { λ _. ⌜ now (l .exit) ≡ belowDiagonal packed (entryIn (now (m .entry)) c) i i (now (l .entry)) ⌝ }
 {
     let j = fill_fours(m, l, c, i, start);
     fill_rest(m, l, c, i, start, j);
 }
 
 // The rows one after the other; a pivot that is not finite or at most tol is refused.
-pub fn factor_rows(m: &[f64], l: &mut [f64], c: usize, tol: f64) -> Answer
+pub(crate) fn factor_rows(m: &[f64], l: &mut [f64], c: usize, tol: f64) -> Answer
     requires { ⌜ (length (now m) ≡ c * c) × (length (now l) ≡ packedLength c) × (c ≤ 2048) ⌝ }
-    ensures { λ r. ⌜ (length (now (l .exit)) ≡ length (now (l .entry))) × (outcomeOf r (now (l .exit)) ≡ factorFrom packed (λ i. CoarsePivot i) (entryIn (now (m .entry)) c) tol c 0 (now (l .entry))) ⌝ }
+    ensures { λ r. ⌜ (length (now (l .exit)) ≡ length (now (l .entry))) × (outcomeOf r (now (l .exit)) ≡ factorRows packed (λ i. CoarsePivot i) (entryIn (now (m .entry)) c) tol c 0 (now (l .entry))) ⌝ }
 {
     let mut start = 0;
     let mut i = 0;

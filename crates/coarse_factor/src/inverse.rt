@@ -63,7 +63,7 @@ fn solve_fours(c: usize, lower: &[f64], inverse: &mut [f64]) -> usize
 }
 
 // The whole inverse, with zeros after it.
-pub fn invert(c: usize, lower: &[f64], inverse: &mut [f64])
+pub(crate) fn invert(c: usize, lower: &[f64], inverse: &mut [f64])
     requires { ⌜ (length (now lower) ≡ packedLength c) × (c * c ≤ length (now inverse)) × (c ≤ 2048) ⌝ }
     ensures { λ _. ⌜ now (inverse .exit) ≡ padded zeroᶠ (length (now (inverse .entry))) (inverseOf c (now (lower .entry))) ⌝ }
 {

@@ -113,7 +113,7 @@ fn put_lanes(w: &mut [f64], c: usize, i: usize, x: Four, pivot: f64)
     w[fourth] = s;
 }
 
-pub fn forward_four(l: &[f64], w: &mut [f64], c: usize)
+pub(crate) fn forward_four(l: &[f64], w: &mut [f64], c: usize)
     requires { ⌜ (c ≤ 2048) × (length (now w) ≡ c + c + c + c) × (length (now l) ≡ packedLength c) ⌝ }
     ensures { λ _. ⌜ Forward4 (now (l .entry)) c (now (w .entry)) (now (w .exit)) c ⌝ }
 {
@@ -127,7 +127,7 @@ pub fn forward_four(l: &[f64], w: &mut [f64], c: usize)
     }
 }
 
-pub fn backward_four(l: &[f64], w: &mut [f64], c: usize)
+pub(crate) fn backward_four(l: &[f64], w: &mut [f64], c: usize)
     requires { ⌜ (c ≤ 2048) × (length (now w) ≡ c + c + c + c) × (length (now l) ≡ packedLength c) ⌝ }
     ensures { λ _. ⌜ Backward4 (now (l .entry)) c (now (w .entry)) (now (w .exit)) c ⌝ }
 {
@@ -159,7 +159,7 @@ fn set_units(w: &mut [f64], c: usize, i: usize)
 }
 
 // The solves of the four unit vectors from i on.
-pub fn solve_four(l: &[f64], w: &mut [f64], c: usize, i: usize)
+pub(crate) fn solve_four(l: &[f64], w: &mut [f64], c: usize, i: usize)
     requires { ⌜ (i + 3 < c) × (c ≤ 2048) × (length (now w) ≡ c + c + c + c) × (length (now l) ≡ packedLength c) ⌝ }
     ensures { λ _. ⌜ now (w .exit) ≡ fourSolved (now (l .entry)) c i ⌝ }
 {

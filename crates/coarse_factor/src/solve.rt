@@ -10,7 +10,7 @@ ghost use Rattle.coarse_factor.specs.Lanes.{rowSum, colSum, Column, Kept
 ghost use Rattle.definitions.specs.Coarse.{packed, packedLength, packedForward, packedBackward, packedSolve};
 
 // The n numbers of l from start on, by those of y: a sum from -0.
-pub fn row_dot(l: &[f64], y: &[f64], n: usize, start: usize) -> f64
+pub(crate) fn row_dot(l: &[f64], y: &[f64], n: usize, start: usize) -> f64
     requires { ⌜ (n ≤ length (now y)) × (start + n ≤ length (now l)) ⌝ }
     ensures { λ r. ⌜ r ≡ rowSum (now (l .entry)) (now (y .entry)) n start ⌝ }
 {
@@ -22,7 +22,7 @@ pub fn row_dot(l: &[f64], y: &[f64], n: usize, start: usize) -> f64
 }
 
 // The n numbers of l from `first` on and those from `second` on, by those of y: two sums that do not wait for one another.
-pub fn two_rows(l: &[f64], y: &[f64], n: usize, first: usize, second: usize) -> Two
+pub(crate) fn two_rows(l: &[f64], y: &[f64], n: usize, first: usize, second: usize) -> Two
     requires { ⌜ (n ≤ length (now y)) × (first + n ≤ length (now l)) × (second + n ≤ length (now l)) ⌝ }
     ensures { λ r. ⌜ (r .a ≡ rowSum (now (l .entry)) (now (y .entry)) n first) × (r .b ≡ rowSum (now (l .entry)) (now (y .entry)) n second) ⌝ }
 {
@@ -47,7 +47,7 @@ fn put_row(l: &[f64], y: &mut [f64], i: usize, start: usize, sum: f64)
 }
 
 // L y = b, in place: two rows at a time, and a last one alone.
-pub fn forward(l: &[f64], y: &mut [f64])
+pub(crate) fn forward(l: &[f64], y: &mut [f64])
     requires { ⌜ length (now l) ≡ packedLength (length (now y)) ⌝ }
     ensures { λ _. ⌜ now (y .exit) ≡ packedForward (now (l .entry)) (now (y .entry)) (length (now (y .entry))) ⌝ }
 {
@@ -104,7 +104,7 @@ fn col_sum(l: &[f64], y: &[f64], i: usize, end: usize, known: bool, kept: &mut [
 }
 
 // Lᵀ x = y, in place.
-pub fn backward(l: &[f64], y: &mut [f64])
+pub(crate) fn backward(l: &[f64], y: &mut [f64])
     requires { ⌜ (length (now l) ≡ packedLength (length (now y))) × (length (now y) ≤ 2048) ⌝ }
     ensures { λ _. ⌜ now (y .exit) ≡ packedBackward (now (l .entry)) (length (now (y .entry))) (now (y .entry)) (length (now (y .entry))) ⌝ }
 {
@@ -121,7 +121,7 @@ pub fn backward(l: &[f64], y: &mut [f64])
     }
 }
 
-pub fn solve(l: &[f64], y: &mut [f64])
+pub(crate) fn solve(l: &[f64], y: &mut [f64])
     requires { ⌜ (length (now l) ≡ packedLength (length (now y))) × (length (now y) ≤ 2048) ⌝ }
     ensures { λ _. ⌜ now (y .exit) ≡ packedSolve (length (now (y .entry))) (now (l .entry)) (now (y .entry)) ⌝ }
 {

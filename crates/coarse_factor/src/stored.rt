@@ -13,7 +13,7 @@ ghost use Rattle.definitions.specs.Coarse.{packedLength, packedSolve, coarseLen
 ghost use Rattle.coarse_factor.specs.Stored.{Products, Moved, inverseSolve};
 
 // How many numbers are stored.
-pub fn stored_length(policy: TwoLevelCoarseApplyPolicy, c: usize) -> usize
+pub(crate) fn stored_length(policy: TwoLevelCoarseApplyPolicy, c: usize) -> usize
     requires { ⌜ c ≤ 2048 ⌝ }
     ensures { λ r. ⌜ r ≡ coarseLength policy c ⌝ }
 {
@@ -77,7 +77,7 @@ fn by_inverse(c: usize, part: &[f64], work: &mut [f64])
     zero_floats(&mut work[c..]);
 }
 
-pub fn solve_stored(policy: TwoLevelCoarseApplyPolicy, c: usize, part: &[f64], work: &mut [f64])
+pub(crate) fn solve_stored(policy: TwoLevelCoarseApplyPolicy, c: usize, part: &[f64], work: &mut [f64])
     requires { ⌜ (length (now part) ≡ coarseLength policy c) × (2 * c ≤ length (now work)) × (c ≤ 2048) ⌝ }
     ensures { λ _. ⌜ now (work .exit) ≡ padded zeroᶠ (length (now (work .entry))) (coarseSolve policy c (now (part .entry)) (take c (now (work .entry)))) ⌝ }
 {

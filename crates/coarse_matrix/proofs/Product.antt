@@ -13,7 +13,7 @@ use borrow.Author.Tests.{eqb-true, eqb-false, eq-eqb}
 use Rattle.definitions.specs.Lists.{upTo, keep, square, padded}
 use Rattle.definitions.specs.Numbers.{_*ᶠ_, zeroᶠ, total}
 use Rattle.definitions.specs.Matrix.{Matrix, Entry, valuesWhere, entriesOf, rowOf, stored, csr}
-use Rattle.definitions.specs.Coarse.{weighted, weightsAt, productTerms, galerkinTerms, galerkinEntry, averagedSquare}
+use Rattle.definitions.specs.Coarse.{weightedSum, weightsAt, productTerms, galerkinTerms, galerkinEntry, averagedSquare}
 use Rattle.averaging.specs.Averaging.{averagedIn}
 use Rattle.averaging.proofs.Lists.{square-is, tail-zeros}
 use Rattle.averaging.proofs.Laws.{average-fits, length-averaged}
@@ -106,19 +106,19 @@ module _ (c base : ℕ) (floats : List Float) (terms : ℕ → List Float) (js :
       where-miss (λ n. eqb n (i * c + j)) (put (e .col * c + k) (e .value *ᶠ getD floats (base + k) nan)) (weightPuts base floats (e .col * c) (e .value) ks) (off-row (e .col) i k j c (h .0) hj q)
       ∙ weight-miss i j e hj q ks (h .1)
 
-  marked : (w : Float) (j : ℕ) (ts : List Float) → terms j ≡ ts → map (λ k. w *ᶠ total (terms k)) (mark ts j) ≡ weighted w ts
-  unfolding mark weighted
+  marked : (w : Float) (j : ℕ) (ts : List Float) → terms j ≡ ts → map (λ k. w *ᶠ total (terms k)) (mark ts j) ≡ weightedSum w ts
+  unfolding mark weightedSum
   marked w j [] e = refl
   marked w j (t ∷ ts) e = rw e
 
-  pub galerkin-row : (i j : ℕ) → j < c → (ws : List Entry) → putAt (i * c + j) (weighedPuts c base floats js ws) ≡ flatMap (λ w. weighted w (terms j)) (valuesWhere (λ k. eqb k i) ws)
+  pub galerkin-row : (i j : ℕ) → j < c → (ws : List Entry) → putAt (i * c + j) (weighedPuts c base floats js ws) ≡ flatMap (λ w. weightedSum w (terms j)) (valuesWhere (λ k. eqb k i) ws)
   unfolding flatMap weighedPuts
   galerkin-row i j hj [] = where-none (λ n. eqb n (i * c + j)) ∙ rw (where-none (λ k. eqb k i))
   galerkin-row i j hj (e ∷ ws) =
       where-append (λ n. eqb n (i * c + j)) (weightPuts base floats (e .col * c) (e .value) js) (weighedPuts c base floats js ws) ∙ step (eqb (e .col) i) refl (galerkin-row i j hj ws)
     where
-      step : (b : Bool) → eqb (e .col) i ≡ b → putAt (i * c + j) (weighedPuts c base floats js ws) ≡ flatMap (λ w. weighted w (terms j)) (valuesWhere (λ k. eqb k i) ws)
-          → putAt (i * c + j) (weightPuts base floats (e .col * c) (e .value) js) ++ putAt (i * c + j) (weighedPuts c base floats js ws) ≡ flatMap (λ w. weighted w (terms j)) (valuesWhere (λ k. eqb k i) (e ∷ ws))
+      step : (b : Bool) → eqb (e .col) i ≡ b → putAt (i * c + j) (weighedPuts c base floats js ws) ≡ flatMap (λ w. weightedSum w (terms j)) (valuesWhere (λ k. eqb k i) ws)
+          → putAt (i * c + j) (weightPuts base floats (e .col * c) (e .value) js) ++ putAt (i * c + j) (weighedPuts c base floats js ws) ≡ flatMap (λ w. weightedSum w (terms j)) (valuesWhere (λ k. eqb k i) (e ∷ ws))
       step true p ih = rw (where-hit (λ k. eqb k i) e ws p, weight-hit i j e hj (eqb-true (e .col) i p) js within sums, touched j, marked (e .value) j (terms j) refl, ih)
       step false p ih = rw (where-miss (λ k. eqb k i) e ws p, weight-miss i j e hj (eqb-false (e .col) i p) js within, ih)
 
@@ -168,7 +168,7 @@ module _ (a : Matrix) (transfer : ℕ → List Entry) (c r token : ℕ) (i₀ i�
       js : List ℕ
       js = take count (drop c i₁)
 
-      row-terms : (i j : ℕ) → j < c → putAt (i * c + j) (weighedPuts c (c * c) f₁ js (transfer r)) ≡ flatMap (λ w. weighted w (putAt j es)) (valuesWhere (λ k. eqb k i) (transfer r))
+      row-terms : (i j : ℕ) → j < c → putAt (i * c + j) (weighedPuts c (c * c) f₁ js (transfer r)) ≡ flatMap (λ w. weightedSum w (putAt j es)) (valuesWhere (λ k. eqb k i) (transfer r))
       row-terms i j hj =
           galerkin-row c (c * c) f₁ (λ k. putAt k es) js (listed-below i₁ c count count (omega arith) row-count row-below) (listed c (c * c) token i₁ f₁ count es row-seen row-count) (row-seen .once) i j hj (transfer r)
 

@@ -10,7 +10,7 @@ use lib.Ieee.{Float, nan}
 use Rattle.definitions.specs.Lists.{upTo, keep}
 use Rattle.definitions.specs.Numbers.{_+ᶠ_, _*ᶠ_, zeroᶠ, total}
 use Rattle.definitions.specs.Matrix.{Matrix, Entry, valuesWhere}
-use Rattle.definitions.specs.Coarse.{weighted, weightsAt, productTerms}
+use Rattle.definitions.specs.Coarse.{weightedSum, weightsAt, productTerms}
 use Rattle.coarse_matrix.specs.Scatter.{put}
 
 -- a value times the weights of a transfer row
@@ -81,7 +81,7 @@ weighedPuts c base floats js ws = flatMap (λ e. weightPuts base floats (e .col 
 
 -- what row r adds to the coarse entry (i, j)
 abbrev pub rowTerms : Matrix → (ℕ → List Entry) → ℕ → ℕ → ℕ → List Float
-rowTerms a transfer r i j = flatMap (λ w. weighted w (productTerms a transfer r j)) (weightsAt a transfer r i)
+rowTerms a transfer r i j = flatMap (λ w. weightedSum w (productTerms a transfer r j)) (weightsAt a transfer r i)
 
 -- row r is in
 pub record RowAdded (a : Matrix) (transfer : ℕ → List Entry) (c r : ℕ) (ints₀ ints : List ℕ) (floats₀ floats : List Float) : Type 0 where

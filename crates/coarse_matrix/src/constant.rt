@@ -11,7 +11,7 @@ ghost use Rattle.definitions.specs.Matrix.{rowOf, csr, stored};
 ghost use Rattle.definitions.specs.Coarse.{constantEntry, averagedSquare};
 ghost use Rattle.coarse_matrix.specs.Scatter.{put, bump, scattered, Grouped, scatter, moved, rowPuts, Walk, Below};
 
-pub fn wide(x: u32) -> usize
+pub(crate) fn wide(x: u32) -> usize
     ensures { λ r. ⌜ r ≡ x ⌝ }
 {
     x as usize
@@ -26,7 +26,7 @@ fn coarse_of(ids: &[u32], size: usize, row: usize) -> usize
     wide(ids[node]) * size + (row - node * size)
 }
 
-pub fn add_at(l: &mut [f64], at: usize, x: f64)
+pub(crate) fn add_at(l: &mut [f64], at: usize, x: f64)
     requires { ⌜ at < length (now l) ⌝ }
     ensures { λ _. ⌜ now (l .exit) ≡ bump (now (l .entry)) (put at x) ⌝ }
 {
@@ -82,7 +82,7 @@ fn add_matrix(
 }
 
 // The coarse matrix, averaged, with zeros after it.
-pub fn constant_into(
+pub(crate) fn constant_into(
     ptr: &[u32],
     idx: &[u32],
     vals: &[f64],

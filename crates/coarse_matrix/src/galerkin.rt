@@ -255,7 +255,7 @@ fn galerkin_sum(
 }
 
 // The coarse matrix, averaged, with zeros after it; the integers are left zero.
-pub fn galerkin_into(
+pub(crate) fn galerkin_into(
     ptr: &[u32],
     idx: &[u32],
     vals: &[f64],

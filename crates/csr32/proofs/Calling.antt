@@ -7,7 +7,7 @@ use lib.ListN.{length}
 use lib.Ieee.{Float}
 use borrow.Author.Tests.{le-leb, lt-leb, eq-eqb, ne-eqb}
 use Rattle.definitions.specs.Numbers.{zeroᶠ}
-use Rattle.definitions.specs.Refusal.{refused, resultLeft, keepsAll, numberOf}
+use Rattle.definitions.specs.Refusal.{refused, resultLeft, keepsAll, causeOf}
 use Rattle.definitions.specs.Matrix.{Matrix, csr, validOf}
 use Rattle.definitions.specs.Diagonal.{diagonalOf, diagonalCall, diagonalLeft}
 use Rattle.definitions.specs.Answers.{answerOf}
@@ -35,11 +35,11 @@ module _ (rows cols : ℕ) (ptr idx : List ℕ) (vals lent : List Float) where
 
     module _ (e : x ≡ Accepted) where
       pub not-square : (cols ≡ rows → ⊥) → (Refused NotSquare ≡ answerOf (diagonalCall a (length lent))) × (lent ≡ diagonalLeft a lent)
-      unfolding diagonalCall keepsAll numberOf
+      unfolding diagonalCall keepsAll causeOf
       not-square h = kept NotSquare refl (valid-goes a _ (sym ex ∙ e) ∙ stops _ NotSquare _ (failed _ NotSquare (ne-eqb cols rows h)))
 
       pub too-short : cols ≡ rows → length lent < rows → (Refused ListTooShort ≡ answerOf (diagonalCall a (length lent))) × (lent ≡ diagonalLeft a lent)
-      unfolding diagonalCall keepsAll numberOf
+      unfolding diagonalCall keepsAll causeOf
       too-short h l =
           kept ListTooShort refl
           (valid-goes a _ (sym ex ∙ e) ∙ goes-on _ tt _ (passed _ NotSquare (eq-eqb cols rows h)) ∙ stops _ ListTooShort _ (failed _ ListTooShort (lt-leb rows (length lent) l)))

@@ -10,7 +10,7 @@ use lib.ListN.{length, getD, set, take, replicate}
 use lib.Seq.{take-suc-set}
 use lib.Ieee.{Float}
 use Rattle.definitions.specs.Numbers.{zeroᶠ, total}
-use Rattle.definitions.specs.Refusal.{Outcome, refused, done, resultLeft, keepsAll, numberOf}
+use Rattle.definitions.specs.Refusal.{Outcome, refused, done, resultLeft, keepsAll, causeOf}
 use Rattle.definitions.specs.Matrix.{Matrix, rowOf, entriesOf, storedAt}
 use Rattle.definitions.specs.Diagonal.{diagonalFrom, diagonalOf}
 use Rattle.definitions.specs.declared.Refusal.the-variants.{MissingDiagonal}
@@ -64,5 +64,5 @@ fill-all a i d e inv = let z : a .rows - i ≡ 0 = omega arith in sym (rw (z, e)
 
 -- what the list holds then
 pub left-missing : (o : Outcome (List Float)) (i : ℕ) (d d₀ z : List Float) → o ≡ refused (MissingDiagonal i) → length d ≡ length d₀ → z ≡ replicate (length d) zeroᶠ → z ≡ resultLeft zeroᶠ o d₀
-unfolding resultLeft keepsAll numberOf
+unfolding resultLeft keepsAll causeOf
 left-missing o i d d₀ z e l f = rw (f, l, e)

@@ -4,7 +4,7 @@ use mathlib.Core.Path.{_≡_, refl, subst}
 use mathlib.Core.List.{List}
 use lib.Ieee.{Float}
 use mathlib.Core.Bool.{true}
-use Rattle.definitions.specs.Refusal.{Outcome, refused, _>>=_, keepsAll, numberOf}
+use Rattle.definitions.specs.Refusal.{Outcome, refused, _>>=_, keepsAll, causeOf}
 use Rattle.definitions.specs.Matrix.{Matrix, csr, validOf}
 use Rattle.definitions.specs.Answers.{answerOf}
 use Rattle.definitions.specs.declared.Refusal.{Refusal}
@@ -22,7 +22,7 @@ square-rows rows cols ptr idx vals e w = subst (λ (n : ℕ). Rows (csr rows n p
 
 -- causes 1 to 8 leave all lists as they were
 pub valid-keeps : (a : Matrix) → Keeps (validOf a)
-unfolding validOf keepsAll numberOf
+unfolding validOf keepsAll causeOf
 valid-keeps a =
     keeps-then _ _ (keeps-require _ _ refl) (λ _.
     keeps-then _ _ (keeps-require _ _ refl) (λ _.

@@ -19,8 +19,8 @@ unfoldable pub square : {A : Type 0} → ℕ → (ℕ → ℕ → A) → List A
 square n f = flatMap (λ i. tab (f i) n) (upTo n)
 
 -- the elements from a up to e: the same as `lib.Seq.slice a e xs`, in the form that a part of a lent list has
-abbrev pub part : {A : Type 0} → ℕ → ℕ → List A → List A
-part a e xs = take (e - a) (drop a xs)
+abbrev pub between : {A : Type 0} → ℕ → ℕ → List A → List A
+between a e xs = take (e - a) (drop a xs)
 
 -- those that pass a test, in order
 unfoldable pub keep : {A : Type 0} → (A → Bool) → List A → List A

@@ -37,9 +37,9 @@ rounded f s l = units f s (nearest (l .kept) (l .side)) (l .dropped)
 
 -- √v, whose whole part has `size` digits: the format keeps `prec` of them and drops k. The middle is q and a half, and √v compares with it as
 -- 4 * v with the square of (2 * q + 1) * 2 ^ k.
-unfoldable pub rootAt : Format → ℕ → Located
+unfoldable pub locateRoot : Format → ℕ → Located
 unfolding isqrt size
-rootAt f v =
+locateRoot f v =
     let w = isqrt v in
     let k = size w - prec f in
     let q = w / 2 ^ k in
@@ -53,20 +53,20 @@ abbrev pub radicand : Format → ℕ → ℤ → ℕ
 radicand f m e = m * up e * 2 ^ (low f + low f) / down e
 
 unfoldable pub root : Format → Float → Float
-unfolding rootAt rounded
+unfolding locateRoot rounded
 root f nan = nan
 root f (inf false) = inf false
 root f (inf true) = nan
 root f (fin s zero e) = fin s zero e
 root f (fin true (suc m) e) = nan
-root f (fin false (suc m) e) = rounded f false (rootAt f (radicand f (suc m) e))
+root f (fin false (suc m) e) = rounded f false (locateRoot f (radicand f (suc m) e))
 
 -- whether the root is exact, its square x itself, for a later request. NaN and negative numbers have none.
 unfoldable pub rootExact : Format → Float → Bool
-unfolding rootAt
+unfolding locateRoot
 rootExact f nan = false
 rootExact f (inf false) = true
 rootExact f (inf true) = false
 rootExact f (fin s zero e) = true
 rootExact f (fin true (suc m) e) = false
-rootExact f (fin false (suc m) e) = rootAt f (radicand f (suc m) e) .exact
+rootExact f (fin false (suc m) e) = locateRoot f (radicand f (suc m) e) .exact

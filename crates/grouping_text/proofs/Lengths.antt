@@ -9,7 +9,7 @@ use lib.ListN.{length, getD, set, replicate, length-set, length-replicate}
 use Rattle.definitions.specs.Lists.{tab, upTo}
 use Rattle.definitions.specs.Refusal.{refused, done, require, _>>=_}
 use Rattle.definitions.specs.declared.Refusal.{Refusal}
-use Rattle.definitions.specs.Groups.{Joining, Groups, Grouping, free, waiting, grow, growFrom, grown, relabelled, joined, replay, joinings, groupsOf, renumbered, place, firsts, graphGrouping, groupingCall, listed, noAnchor}
+use Rattle.definitions.specs.Groups.{Joining, Groups, Grouping, free, waiting, growGroup, growGroups, grown, relabelled, joined, replay, joinings, groupsOf, renumbered, place, firsts, graphGrouping, groupingCall, listed, noAnchor}
 use Rattle.definitions.specs.Text.{line, decimal, printed, groupsWord}
 use Rattle.grouping_text.specs.Puts.{linesFrom}
 use Rattle.grouping_text.proofs.Agrees.{split, ordered, call-is}
@@ -25,18 +25,18 @@ replay-length [] s = refl
 replay-length (j ∷ js) s = replay-length js (joined j s) ∙ relabelled-length (j .taker) (getD (s .members) (j .moved) []) (s .of)
 
 module _ (lists : ℕ → List ℕ) where
-  grow-length : (g room : ℕ) (ids q : List ℕ) → length (grow lists noAnchor g room ids q) ≡ length ids
-  unfolding grow
+  grow-length : (g room : ℕ) (ids q : List ℕ) → length (growGroup lists noAnchor g room ids q) ≡ length ids
+  unfolding growGroup
   grow-length g zero ids q = refl
-  grow-length g (suc room) ids q = elim (waiting ids q) as (λ l. length {A = ℕ} (elim l as (λ _. List ℕ) [ [] ↦ ids | v ∷ rest ↦ grow lists noAnchor g room (set ids v g) (rest ++ free lists noAnchor (set ids v g) (lists v)) ]) ≡ length ids)
+  grow-length g (suc room) ids q = elim (waiting ids q) as (λ l. length {A = ℕ} (elim l as (λ _. List ℕ) [ [] ↦ ids | v ∷ rest ↦ growGroup lists noAnchor g room (set ids v g) (rest ++ free lists noAnchor (set ids v g) (lists v)) ]) ≡ length ids)
       [ [] ↦ refl | v ∷ rest ↦ grow-length g room (set ids v g) (rest ++ free lists noAnchor (set ids v g) (lists v)) ∙ length-set ids v g ]
 
-  from-length : (size left v g : ℕ) (ids : List ℕ) → length (growFrom lists noAnchor size left v g ids .0) ≡ length ids
-  unfolding growFrom
+  from-length : (size left v g : ℕ) (ids : List ℕ) → length (growGroups lists noAnchor size left v g ids .0) ≡ length ids
+  unfolding growGroups
   from-length size zero v g ids = refl
   from-length size (suc left) v g ids = split (eqb (getD ids v 0) 0)
-      (λ e. rw (growFrom, e) (from-length size left (suc v) (suc g) (grow lists noAnchor (suc g) size ids (v ∷ [])) ∙ grow-length (suc g) size ids (v ∷ [])))
-      (λ e. rw (growFrom, e) (from-length size left (suc v) g ids))
+      (λ e. rw (growGroups, e) (from-length size left (suc v) (suc g) (growGroup lists noAnchor (suc g) size ids (v ∷ [])) ∙ grow-length (suc g) size ids (v ∷ [])))
+      (λ e. rw (growGroups, e) (from-length size left (suc v) g ids))
 
   grown-length : (n size : ℕ) → length (grown lists noAnchor n size .0) ≡ n
   unfolding grown

@@ -7,7 +7,7 @@ use borrow.Author.Tests.{ltb-true, ltb-false}
 use lib.Dec.{ltb}
 use lib.ListN.{length, take, drop, length-append}
 use lib.Seq.{sets, set-append-seam, append-snoc, take-nil, take-all, take-length, set-out}
-use Rattle.definitions.specs.Refusal.{Outcome, numberOf}
+use Rattle.definitions.specs.Refusal.{Outcome, numberOf, causeOf}
 use Rattle.definitions.specs.Groups.{groupingCall}
 use Rattle.definitions.specs.Text.{program, printed, line, decimal, refusedWord}
 use Rattle.numbers.specs.Copied.{copied}
@@ -47,11 +47,11 @@ module _ (asked : Outcome Asked) (s : Asking) (o n : List ℕ) (e : askedOf o n 
   prints-answer z = sym (ap (λ a. printed (answered a)) (sym e) ∙ rw (askedOf, z))
 
   pub prints-large : s .cause ≡ 1 → line refusedWord (decimal 1) ≡ printed (answered asked)
-  unfolding askedOf answered printed numberOf
+  unfolding askedOf answered printed numberOf causeOf
   prints-large z = sym (ap (λ a. printed (answered a)) (sym e) ∙ rw (askedOf, z))
 
   pub prints-bad : (s .cause ≡ 0 → ⊥) → (s .cause ≡ 1 → ⊥) → line refusedWord (decimal 27) ≡ printed (answered asked)
-  unfolding askedOf answered printed numberOf
+  unfolding askedOf answered printed numberOf causeOf
   prints-bad a b = let z : s .cause ≡ suc (suc (s .cause - 2)) = omega (arith, a, b) in sym (ap (λ q. printed (answered q)) (sym e) ∙ rw (askedOf, z))
 
 pub parts : (n : ℕ) (xs : List ℕ) → take (n - 0) (drop 0 xs) ≡ take n xs

@@ -2,7 +2,6 @@
 ghost use mathlib.Core.Path.{_≡_};
 ghost use Prim.Native.Nat.{_+_, _*_, _≤_};
 ghost use lib.ListN.{length};
-ghost use Rattle.definitions.specs.Refusal.{numberOf};
 ghost use Rattle.definitions.specs.Groups.{groupingCall};
 ghost use Rattle.definitions.specs.Text.{printed, line, decimal, groupsWord};
 ghost use mathlib.Core.List.{_++_};
@@ -10,45 +9,6 @@ ghost use Rattle.grouping_text.specs.Puts.{Puts, linesFrom};
 use crate::printing::put_head;
 use crate::printing::put_ids;
 use definitions::GroupingAnswer;
-use definitions::Refusal;
-
-fn number_of(cause: Refusal) -> u64
-    ensures { λ r. ⌜ r ≡ numberOf cause ⌝ }
-{
-    match cause {
-        Refusal::TooLarge => 1,
-        Refusal::RowListLength => 2,
-        Refusal::ColumnListLength => 3,
-        Refusal::FirstPointer => 4,
-        Refusal::LastPointer => 5,
-        Refusal::PointerFalls => 6,
-        Refusal::ColumnOutside => 7,
-        Refusal::ValueNotFinite => 8,
-        Refusal::NotSquare => 9,
-        Refusal::BlockSize => 10,
-        Refusal::GroupSize => 11,
-        Refusal::NotMultiple => 12,
-        Refusal::ListTooShort => 13,
-        Refusal::BlockNotSymmetric(_) => 14,
-        Refusal::BlockPivot(_) => 15,
-        Refusal::NoNode => 16,
-        Refusal::CoarseTooLarge(_) => 17,
-        Refusal::CoarseListTooShort(_) => 18,
-        Refusal::MissingDiagonal(_) => 19,
-        Refusal::ZeroDiagonal(_) => 20,
-        Refusal::NegativeDiagonal(_) => 21,
-        Refusal::EstimateFailed(_) => 22,
-        Refusal::CoarseScale => 23,
-        Refusal::CoarsePivot(_) => 24,
-        Refusal::WrongLength {
-            expected: _,
-            actual: _,
-        } => 25,
-        Refusal::SetupMisfit => 26,
-        Refusal::NeighbourOffsets => 27,
-        Refusal::NeighbourOutside => 28,
-    }
-}
 
 // Prints the group count, then node and id.
 fn put_groups(out: &mut [u8], count: u64, ids: &[u32]) -> usize
@@ -73,13 +33,16 @@ fn run(
 {
     let found = aggregates::group(nodes, size, offsets, neighbours, ids, work);
     match found {
-        GroupingAnswer::Refused(cause) => put_head(out, b"refused", number_of(cause)),
+        GroupingAnswer::Refused(cause) => {
+            let told = causes::told(cause);
+            put_head(out, b"refused", told.number)
+        }
         GroupingAnswer::Groups(count) => put_groups(out, count, &ids[..]),
     }
 }
 
 // Groups and prints, with lists of its own.
-pub fn answer(
+pub(crate) fn answer(
     nodes: usize,
     size: usize,
     offsets: &[u32],

@@ -44,7 +44,7 @@ fn node_of(numbers: &[u32], at: usize, neighbours: &mut [u32], have: usize) -> G
 }
 
 // Reads the lists of all nodes from numbers[at] on: offsets[0..nodes + 1], and as many neighbours as the answer says.
-pub fn nodes_of(
+pub(crate) fn nodes_of(
     numbers: &[u32],
     at: usize,
     nodes: usize,

@@ -46,7 +46,7 @@ fn put_all(out: &mut [u8], at: usize, bytes: &[u8]) -> usize
 }
 
 // A word and a number.
-pub fn put_head(out: &mut [u8], word: &[u8], n: u64) -> usize
+pub(crate) fn put_head(out: &mut [u8], word: &[u8], n: u64) -> usize
     ensures { λ r. ⌜ Puts (now (out .entry)) 0 (line (now (word .entry)) (decimal n)) (now (out .exit)) r ⌝ }
 {
     let first = put_all(out, 0, word);
@@ -67,7 +67,7 @@ fn put_line(out: &mut [u8], at: usize, v: u64, id: u64) -> usize
 }
 
 // Node and id, one a line.
-pub fn put_ids(out: &mut [u8], at: usize, ids: &[u32]) -> usize
+pub(crate) fn put_ids(out: &mut [u8], at: usize, ids: &[u32]) -> usize
     requires { ⌜ at ≤ length (now out) ⌝ }
     ensures { λ r. ⌜ Puts (now (out .entry)) at (linesFrom 0 (now (ids .entry))) (now (out .exit)) r ⌝ }
 {

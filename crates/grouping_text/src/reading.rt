@@ -47,7 +47,7 @@ fn more(n: u32, b: u8) -> u32
 }
 
 // Puts the number that is being read, if there is one, into the list, as far as there is room.
-pub fn close(reader: Reader, numbers: &mut [u32]) -> Reader
+pub(crate) fn close(reader: Reader, numbers: &mut [u32]) -> Reader
     ensures { λ r. ⌜ held r (now (numbers .exit)) ≡ closed (held reader (now (numbers .entry))) ⌝ }
 {
     let inside = reader.inside;
@@ -80,7 +80,7 @@ pub fn close(reader: Reader, numbers: &mut [u32]) -> Reader
 }
 
 // One byte of the text.
-pub fn byte_in(reader: Reader, b: u8, numbers: &mut [u32]) -> Reader
+pub(crate) fn byte_in(reader: Reader, b: u8, numbers: &mut [u32]) -> Reader
     ensures { λ r. ⌜ held r (now (numbers .exit)) ≡ byteIn b (held reader (now (numbers .entry))) ⌝ }
 {
     let good = reader.good;

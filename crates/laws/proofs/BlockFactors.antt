@@ -13,7 +13,7 @@ use lib.Ieee.Fits.{and-l, and-r}
 use Rattle.definitions.specs.Numbers.{_*ᶠ_, zeroᶠ, symmetryTol, pivotTol, total}
 use Rattle.definitions.specs.Refusal.{Outcome, refused, done}
 use Rattle.definitions.specs.Matrix.{Matrix, storedAt, entriesOf, valuesWhere, validOf}
-use Rattle.definitions.specs.Factor.{entry, factorFrom}
+use Rattle.definitions.specs.Factor.{entry, factorRows}
 use Rattle.definitions.specs.Block.{maxBlock, blockCount, widthOf, blockEntry, blockOf, inBlock, topOf, skewed, blockFactor, factorsFrom, factorsOf, blocksCall, blockPart}
 use Rattle.definitions.specs.declared.Refusal.the-variants.{NotSquare, BlockSize, ListTooShort, BlockNotSymmetric, BlockPivot}
 use Rattle.laws.proofs.Lists.{getD-square, square-cong, part-mid}
@@ -61,15 +61,15 @@ module _ (a : Matrix) (start w : ℕ) where
   numbers : ℕ → ℕ → Float
   numbers i j = getD (blockOf a start w) (inBlock w i j) nan
 
-  opened : (l : List Float) → blockFactor a start w ≡ done l → factorFrom (inBlock w) (λ i. BlockPivot (start + i)) numbers (blockTol a start w) w 0 (replicate (w * w) zeroᶠ) ≡ done l
+  opened : (l : List Float) → blockFactor a start w ≡ done l → factorRows (inBlock w) (λ i. BlockPivot (start + i)) numbers (blockTol a start w) w 0 (replicate (w * w) zeroᶠ) ≡ done l
   unfolding blockFactor numbers
   opened l e = go (skewed (blockOf a start w) w (symmetryTol *ᶠ topOf (blockOf a start w))) e
     where
       go : (b : Bool) → _≡_ {A = Outcome (List Float)} (elim b [
         | true ↦ refused (BlockNotSymmetric start)
-        | false ↦ factorFrom (inBlock w) (λ i. BlockPivot (start + i)) (λ i j. getD (blockOf a start w) (inBlock w i j) nan) (pivotTol *ᶠ topOf (blockOf a start w)) w 0 (replicate (w * w) zeroᶠ)
+        | false ↦ factorRows (inBlock w) (λ i. BlockPivot (start + i)) (λ i j. getD (blockOf a start w) (inBlock w i j) nan) (pivotTol *ᶠ topOf (blockOf a start w)) w 0 (replicate (w * w) zeroᶠ)
       ]) (done l)
-          → factorFrom (inBlock w) (λ i. BlockPivot (start + i)) (λ i j. getD (blockOf a start w) (inBlock w i j) nan) (pivotTol *ᶠ topOf (blockOf a start w)) w 0 (replicate (w * w) zeroᶠ) ≡ done l
+          → factorRows (inBlock w) (λ i. BlockPivot (start + i)) (λ i j. getD (blockOf a start w) (inBlock w i j) nan) (pivotTol *ᶠ topOf (blockOf a start w)) w 0 (replicate (w * w) zeroᶠ) ≡ done l
       go true u = absurd (refused-not-done u)
       go false u = u
 
@@ -194,7 +194,7 @@ module _ (a b : Matrix) (start w : ℕ) where
     unfolding blockFactor
     block-factors = ap (λ (d : List Float). elim (skewed d w (symmetryTol *ᶠ topOf d)) [
       | true ↦ refused (BlockNotSymmetric start)
-      | false ↦ factorFrom (inBlock w) (λ i. BlockPivot (start + i)) (λ i j. getD d (inBlock w i j) nan) (pivotTol *ᶠ topOf d) w 0 (replicate (w * w) zeroᶠ)
+      | false ↦ factorRows (inBlock w) (λ i. BlockPivot (start + i)) (λ i j. getD d (inBlock w i j) nan) (pivotTol *ᶠ topOf d) w 0 (replicate (w * w) zeroᶠ)
     ]) block-gathers
 
   rows-store : ((i : ℕ) → i < w → entriesOf a (start + i) ≡ entriesOf b (start + i)) → (i j : ℕ) → i < w → j < w → storedAt a (start + i) (start + j) ≡ storedAt b (start + i) (start + j)

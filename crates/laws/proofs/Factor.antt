@@ -14,7 +14,7 @@ use lib.Seq.{getD-set-same, getD-set-other}
 use lib.Ieee.{Float, nan}
 use Rattle.definitions.specs.Numbers.{_*ᶠ_, _/ᶠ_, rootᶠ, zeroᶠ, oneᶠ, pivotTol, larger, largest, reduced, above, usable}
 use Rattle.definitions.specs.Refusal.{Outcome, refused, done}
-use Rattle.definitions.specs.Factor.{entry, products, rest, leftOf, factorFrom}
+use Rattle.definitions.specs.Factor.{entry, products, rest, belowDiagonal, factorRows}
 use Rattle.definitions.specs.Coarse.{packed, packedLength, coarseFactor, entryIn}
 use Rattle.definitions.specs.declared.Refusal.{Refusal}
 use Rattle.definitions.specs.declared.Refusal.the-variants.{CoarseScale, CoarsePivot}
@@ -37,15 +37,15 @@ pub record Rows (place : ℕ → ℕ → ℕ) (a : ℕ → ℕ → Float) (tol :
 module _ (place : ℕ → ℕ → ℕ) (a : ℕ → ℕ → Float) where
   -- the pivot of row i, and the list with row i, both from one that has the rows before
   abbrev pub pivotOf : ℕ → List Float → Float
-  pivotOf i l = rest place a (leftOf place a i i l) i i
+  pivotOf i l = rest place a (belowDiagonal place a i i l) i i
 
   abbrev pub withRow : ℕ → List Float → List Float
-  withRow i l = set (leftOf place a i i l) (place i i) (rootᶠ (pivotOf i l))
+  withRow i l = set (belowDiagonal place a i i l) (place i i) (rootᶠ (pivotOf i l))
 
   pub factor-induct : (bad : ℕ → Refusal) (tol : Float) (n : ℕ) (P : ℕ → List Float → Type 0)
       → ((i : ℕ) (l : List Float) → i < n → T (above tol (pivotOf i l)) → P i l → P (suc i) (withRow i l))
-      → (left i : ℕ) (l m : List Float) → i + left ≡ n → P i l → factorFrom place bad a tol left i l ≡ done m → P n m
-  unfolding factorFrom
+      → (left i : ℕ) (l m : List Float) → i + left ≡ n → P i l → factorRows place bad a tol left i l ≡ done m → P n m
+  unfolding factorRows
   factor-induct bad tol n P step zero i l m e p d = subst (λ (x : List Float). P n x) (done-inj d) (subst (λ (x : ℕ). P x l) (flat i n e) p)
     where
       flat : (x y : ℕ) → x + 0 ≡ y → x ≡ y
@@ -58,36 +58,36 @@ module _ (place : ℕ → ℕ → ℕ) (a : ℕ → ℕ → Float) where
       room : (x y z : ℕ) → x + suc y ≡ z → x < z
       room x y z u = omega arith
 
-      go : (b : Bool) → (T b → T (above tol (pivotOf i l))) → (P (suc i) (withRow i l) → factorFrom place bad a tol left (suc i) (withRow i l) ≡ done m → P n m)
-          → _≡_ {A = Outcome (List Float)} (elim b [ true ↦ factorFrom place bad a tol left (suc i) (withRow i l) | false ↦ refused (bad i) ]) (done m)
+      go : (b : Bool) → (T b → T (above tol (pivotOf i l))) → (P (suc i) (withRow i l) → factorRows place bad a tol left (suc i) (withRow i l) ≡ done m → P n m)
+          → _≡_ {A = Outcome (List Float)} (elim b [ true ↦ factorRows place bad a tol left (suc i) (withRow i l) | false ↦ refused (bad i) ]) (done m)
           → P n m
       go true f ih u = ih (step i l (room i left n e) (f tt) p) u
       go false f ih u = absurd (refused-not-done u)
 
-  left-length : (i j : ℕ) (l : List Float) → length (leftOf place a i j l) ≡ length l
-  unfolding leftOf
+  left-length : (i j : ℕ) (l : List Float) → length (belowDiagonal place a i j l) ≡ length l
+  unfolding belowDiagonal
   left-length i zero l = refl
-  left-length i (suc j) l = let m = leftOf place a i j l in length-set m (place i j) (rest place a m i j /ᶠ entry place m j j) ∙ left-length i j l
+  left-length i (suc j) l = let m = belowDiagonal place a i j l in length-set m (place i j) (rest place a m i j /ᶠ entry place m j j) ∙ left-length i j l
 
   with-length : (i : ℕ) (l : List Float) → length (withRow i l) ≡ length l
-  with-length i l = length-set (leftOf place a i i l) (place i i) (rootᶠ (pivotOf i l)) ∙ left-length i i l
+  with-length i l = length-set (belowDiagonal place a i i l) (place i i) (rootᶠ (pivotOf i l)) ∙ left-length i i l
 
   -- its length does not change
-  pub factor-length : (bad : ℕ → Refusal) (tol : Float) (n : ℕ) (l m : List Float) → factorFrom place bad a tol n 0 l ≡ done m → length m ≡ length l
+  pub factor-length : (bad : ℕ → Refusal) (tol : Float) (n : ℕ) (l m : List Float) → factorRows place bad a tol n 0 l ≡ done m → length m ≡ length l
   factor-length bad tol n l m d = factor-induct bad tol n (λ i x. length x ≡ length l) (λ i x h t e. with-length i x ∙ e) n 0 l m (zero-add n) refl d
 
   -- nor does what stands outside the lower triangle
   pub factor-outside : (bad : ℕ → Refusal) (tol : Float) (n p : ℕ) (d : Float) (l m : List Float) → ((i j : ℕ) → j ≤ i → i < n → p ≡ place i j → ⊥)
-      → factorFrom place bad a tol n 0 l ≡ done m → getD m p d ≡ getD l p d
-  unfolding leftOf
+      → factorRows place bad a tol n 0 l ≡ done m → getD m p d ≡ getD l p d
+  unfolding belowDiagonal
   factor-outside bad tol n p d l m out u =
       factor-induct bad tol n (λ i x. getD x p d ≡ getD l p d)
-      (λ i x h t e. getD-set-other (leftOf place a i i x) (place i i) p (rootᶠ (pivotOf i x)) d (out i i (le-refl i) h) ∙ beside i i x h (le-refl i) ∙ e) n 0 l m (zero-add n) refl u
+      (λ i x h t e. getD-set-other (belowDiagonal place a i i x) (place i i) p (rootᶠ (pivotOf i x)) d (out i i (le-refl i) h) ∙ beside i i x h (le-refl i) ∙ e) n 0 l m (zero-add n) refl u
     where
-      beside : (i j : ℕ) (x : List Float) → i < n → j ≤ i → getD (leftOf place a i j x) p d ≡ getD x p d
+      beside : (i j : ℕ) (x : List Float) → i < n → j ≤ i → getD (belowDiagonal place a i j x) p d ≡ getD x p d
       beside i zero x h g = refl
       beside i (suc j) x h g =
-          let y = leftOf place a i j x in
+          let y = belowDiagonal place a i j x in
           getD-set-other y (place i j) p (rest place a y i j /ᶠ entry place y j j) d (out i j (le-of-lt g) h) ∙ beside i j x h (le-of-lt g)
 
   -- ---- what is left turns on the entries of two rows left of the column
@@ -137,23 +137,23 @@ module _ (place : ℕ → ℕ → ℕ) (n size : ℕ) (D : Placing place n size)
   set-other m v i j k p h hn g gn ne = getD-set-other m (place i j) (place k p) v nan (λ e. ne (D .apart k p i j g gn h hn e))
 
   -- earlier rows stay
-  left-earlier : (i j : ℕ) (l : List Float) → i < n → j ≤ i → (k p : ℕ) → p ≤ k → k < i → entry place (leftOf place a i j l) k p ≡ entry place l k p
-  unfolding leftOf
+  left-earlier : (i j : ℕ) (l : List Float) → i < n → j ≤ i → (k p : ℕ) → p ≤ k → k < i → entry place (belowDiagonal place a i j l) k p ≡ entry place l k p
+  unfolding belowDiagonal
   left-earlier i zero l hn h k p g t = refl
   left-earlier i (suc j) l hn h k p g t =
-      let m = leftOf place a i j l in
+      let m = belowDiagonal place a i j l in
       set-other m (rest place a m i j /ᶠ entry place m j j) i j k p (le-of-lt h) hn g (le-trans t (le-of-lt hn)) (λ e. lt-irrefl i (subst (λ (x : ℕ). x < i) (e .0) t))
       ∙ left-earlier i j l hn (le-of-lt h) k p g t
 
   -- an entry of the row, once made, stays
-  left-stays : (i j d : ℕ) (l : List Float) → i < n → j + suc d ≤ i → entry place (leftOf place a i (j + suc d) l) i j ≡ entry place (leftOf place a i (suc j) l) i j
-  unfolding leftOf
-  left-stays i j zero l hn h = ap (λ (x : ℕ). entry place (leftOf place a i x l) i j) (one j)
+  left-stays : (i j d : ℕ) (l : List Float) → i < n → j + suc d ≤ i → entry place (belowDiagonal place a i (j + suc d) l) i j ≡ entry place (belowDiagonal place a i (suc j) l) i j
+  unfolding belowDiagonal
+  left-stays i j zero l hn h = ap (λ (x : ℕ). entry place (belowDiagonal place a i x l) i j) (one j)
     where
       one : (x : ℕ) → x + suc 0 ≡ suc x
       one x = omega arith
   left-stays i j (suc d) l hn h =
-      ap (λ (x : ℕ). entry place (leftOf place a i x l) i j) (add-suc j (suc d)) ∙ next (j + suc d) (far j d) (less j d h)
+      ap (λ (x : ℕ). entry place (belowDiagonal place a i x l) i j) (add-suc j (suc d)) ∙ next (j + suc d) (far j d) (less j d h)
       ∙ left-stays i j d l hn (less j d h)
     where
       far : (x y : ℕ) → x < x + suc y
@@ -162,37 +162,37 @@ module _ (place : ℕ → ℕ → ℕ) (n size : ℕ) (D : Placing place n size)
       less : (x y : ℕ) → x + suc (suc y) ≤ i → x + suc y ≤ i
       less x y g = omega arith
 
-      next : (x : ℕ) → j < x → x ≤ i → entry place (leftOf place a i (suc x) l) i j ≡ entry place (leftOf place a i x l) i j
+      next : (x : ℕ) → j < x → x ≤ i → entry place (belowDiagonal place a i (suc x) l) i j ≡ entry place (belowDiagonal place a i x l) i j
       next x g t =
-          let m = leftOf place a i x l in
+          let m = belowDiagonal place a i x l in
           set-other m (rest place a m i x /ᶠ entry place m x x) i x i j t hn (le-trans (le-of-lt g) t) hn (λ e. lt-irrefl x (subst (λ (y : ℕ). y < x) (e .1) g))
 
-  left-keeps : (i j k : ℕ) (l : List Float) → i < n → j < k → k ≤ i → entry place (leftOf place a i k l) i j ≡ entry place (leftOf place a i (suc j) l) i j
-  left-keeps i j k l hn h g = subst (λ (x : ℕ). entry place (leftOf place a i x l) i j ≡ entry place (leftOf place a i (suc j) l) i j) (gap j k h) (left-stays i j (k - suc j) l hn (subst (λ (x : ℕ). x ≤ i) (sym (gap j k h)) g))
+  left-keeps : (i j k : ℕ) (l : List Float) → i < n → j < k → k ≤ i → entry place (belowDiagonal place a i k l) i j ≡ entry place (belowDiagonal place a i (suc j) l) i j
+  left-keeps i j k l hn h g = subst (λ (x : ℕ). entry place (belowDiagonal place a i x l) i j ≡ entry place (belowDiagonal place a i (suc j) l) i j) (gap j k h) (left-stays i j (k - suc j) l hn (subst (λ (x : ℕ). x ≤ i) (sym (gap j k h)) g))
     where
       gap : (x y : ℕ) → x < y → x + suc (y - suc x) ≡ y
       gap x y t = omega arith
 
-  -- the row i that `leftOf` makes
+  -- the row i that `belowDiagonal` makes
   left-row : (i j : ℕ) (l : List Float) → length l ≡ size → i < n → j < i
-      → entry place (leftOf place a i i l) i j ≡ rest place a (leftOf place a i i l) i j /ᶠ entry place (leftOf place a i i l) j j
-  unfolding leftOf
+      → entry place (belowDiagonal place a i i l) i j ≡ rest place a (belowDiagonal place a i i l) i j /ᶠ entry place (belowDiagonal place a i i l) j j
+  unfolding belowDiagonal
   left-row i j l len h g =
-      let m = leftOf place a i i l in
-      let p = leftOf place a i j l in
+      let m = belowDiagonal place a i i l in
+      let p = belowDiagonal place a i j l in
       left-keeps i j i l h g (le-refl i) ∙ made ∙ ap (λ (x : Float). x /ᶠ entry place p j j) same-rest ∙ ap (λ (x : Float). rest place a m i j /ᶠ x) (row-j j (le-refl j))
     where
-      made : entry place (leftOf place a i (suc j) l) i j ≡ rest place a (leftOf place a i j l) i j /ᶠ entry place (leftOf place a i j l) j j
+      made : entry place (belowDiagonal place a i (suc j) l) i j ≡ rest place a (belowDiagonal place a i j l) i j /ᶠ entry place (belowDiagonal place a i j l) j j
       made =
-          let p = leftOf place a i j l in
+          let p = belowDiagonal place a i j l in
           getD-set-same p (place i j) (rest place a p i j /ᶠ entry place p j j) nan (subst (λ (x : ℕ). place i j < x) (sym (left-length place a i j l ∙ len)) (D .inside i j (le-of-lt g) h))
 
-      row-j : (k : ℕ) → k ≤ j → entry place (leftOf place a i j l) j k ≡ entry place (leftOf place a i i l) j k
+      row-j : (k : ℕ) → k ≤ j → entry place (belowDiagonal place a i j l) j k ≡ entry place (belowDiagonal place a i i l) j k
       row-j k t = left-earlier i j l h (le-of-lt g) j k t g ∙ sym (left-earlier i i l h (le-refl i) j k t g)
 
-      same-rest : rest place a (leftOf place a i j l) i j ≡ rest place a (leftOf place a i i l) i j
+      same-rest : rest place a (belowDiagonal place a i j l) i j ≡ rest place a (belowDiagonal place a i i l) i j
       same-rest =
-          rest-agree place a (leftOf place a i j l) (leftOf place a i i l) i j
+          rest-agree place a (belowDiagonal place a i j l) (belowDiagonal place a i i l) i j
           (λ k t. left-keeps i k j l h t (le-of-lt g) ∙ sym (left-keeps i k i l h (le-trans t (le-of-lt g)) (le-refl i))) (λ k t. row-j k (le-of-lt t))
 
   -- with row i, the rows up to it hold
@@ -204,7 +204,7 @@ module _ (place : ℕ → ℕ → ℕ) (n size : ℕ) (D : Placing place n size)
   }
     where
       mid : List Float
-      mid = leftOf place a i i l
+      mid = belowDiagonal place a i i l
 
       new : List Float
       new = withRow place a i l
@@ -217,7 +217,7 @@ module _ (place : ℕ → ℕ → ℕ) (n size : ℕ) (D : Placing place n size)
           pick (inr t) = f k t
 
       off : (x p : ℕ) → p ≤ x → x < n → ((x ≡ i) × (p ≡ i) → ⊥) → entry place mid x p ≡ entry place new x p
-      off x p u w ne = sym (set-other (leftOf place a i i l) (rootᶠ (pivotOf place a i l)) i i x p (le-refl i) h u w ne)
+      off x p u w ne = sym (set-other (belowDiagonal place a i i l) (rootᶠ (pivotOf place a i l)) i i x p (le-refl i) h u w ne)
 
       before : (x p : ℕ) → x < i → p ≤ x → entry place l x p ≡ entry place new x p
       before x p w u = sym (left-earlier i i l h (le-refl i) x p u w) ∙ off x p u (le-trans w (le-of-lt h)) (λ e. lt-irrefl i (subst (λ (y : ℕ). y < i) (e .0) w))
@@ -240,10 +240,10 @@ module _ (place : ℕ → ℕ → ℕ) (n size : ℕ) (D : Placing place n size)
       own = rest-agree place a mid new i i beside beside
 
       set-here : entry place new i i ≡ rootᶠ (pivotOf place a i l)
-      set-here = getD-set-same (leftOf place a i i l) (place i i) (rootᶠ (pivotOf place a i l)) nan (subst (λ (x : ℕ). place i i < x) (sym (left-length place a i i l ∙ len)) (D .inside i i (le-refl i) h))
+      set-here = getD-set-same (belowDiagonal place a i i l) (place i i) (rootᶠ (pivotOf place a i l)) nan (subst (λ (x : ℕ). place i i < x) (sym (left-length place a i i l ∙ len)) (D .inside i i (le-refl i) h))
 
   -- THE LAW: the rows of a factor that is accepted
-  pub factor-rows : (bad : ℕ → Refusal) (tol : Float) (l m : List Float) → length l ≡ size → factorFrom place bad a tol n 0 l ≡ done m → Rows place a tol n m
+  pub factor-rows : (bad : ℕ → Refusal) (tol : Float) (l m : List Float) → length l ≡ size → factorRows place bad a tol n 0 l ≡ done m → Rows place a tol n m
   factor-rows bad tol l m len d =
       factor-induct place a bad tol n (λ i x. (length x ≡ size) × Rows place a tol i x)
       (λ i x h t p. (with-length place a i x ∙ p .0, row-done tol i x (p .0) h t (p .1))) n 0 l m (zero-add n)

@@ -9,16 +9,13 @@ use lib.Dec.{T}
 use lib.Ieee.Fits.{and-i, and-l, and-r}
 use lib.ListN.{length, getD, take, drop, length-append, List·getD-append}
 use lib.Seq.{getD-append-add, take-at, drop-at}
-use Rattle.definitions.specs.Lists.{tab, upTo, square, part, keep, any, all}
+pub use Rattle.laws.specs.Every.{Each, none, more}
+use Rattle.definitions.specs.Lists.{tab, upTo, square, between, keep, any, all}
 
 pub up-lt : {i n : ℕ} → i < n → suc i < suc n
 up-lt l = suc-le-suc-iff .1 l
 
 -- ---- every element of a list
-
-pub data Each {A : Type 0} (P : A → Type 0) : List A → Type 0 where
-  none : Each P []
-  more : {x : A} {xs : List A} → P x → Each P xs → Each P (x ∷ xs)
 
 module _ {A : Type 0} where
   pub each-head : {P : A → Type 0} {x : A} {xs : List A} → Each P (x ∷ xs) → P x
@@ -272,7 +269,7 @@ unfolding square
 square-cong n f g h = flatMap-cong (λ i. tab (f i) n) (λ i. tab (g i) n) (each-upTo n (λ i l. tab-cong (f i) (g i) n (λ j m. h i j l m)))
 
 -- a part in the middle
-pub part-mid : {A : Type 0} (p q r : List A) (s e : ℕ) → length p ≡ s → s + length q ≡ e → part s e (p ++ (q ++ r)) ≡ q
+pub part-mid : {A : Type 0} (p q r : List A) (s e : ℕ) → length p ≡ s → s + length q ≡ e → between s e (p ++ (q ++ r)) ≡ q
 part-mid {A} p q r s e h g =
     ap (λ (l : List A). take (e - s) l) (drop-at p (q ++ r) s h) ∙ take-at q r (e - s) (back (length q) s e g)
   where

@@ -13,7 +13,8 @@ use lib.Ieee.Fits.{down-pos, two, two-le-pos}
 use lib.Ieee.Bits.{ofBits-toBits}
 use lib.Ieee.Exact.{HasValue, odd-sign, units-val}
 use Rattle.definitions.specs.Root.{radicand, root, rootExact}
-use Rattle.laws.proofs.RootSquares.{Rest, rest-is, rest-near, rest-nearest, rest-exact, closer}
+use Rattle.laws.proofs.RootSquares.{rest-is, rest-near, rest-nearest, rest-exact}
+use Rattle.laws.specs.WholeRoot.{Rest, closer, sizeOf}
 use Rattle.laws.proofs.RootScaled.{digits, size-gt}
 use Rattle.laws.proofs.RootLaws.{units-fits, near-most, near-least, some-digits, root-scaled, exact-scaled}
 
@@ -80,11 +81,7 @@ exact-of-value f (fin false (suc m) d) w n k c r F =
     ∙ ap (λ (y : ℕ). eqb (y * y) n) (sym (rest-is n c r (F .rest)))
     ∙ rest-exact n c r (F .rest)
 
--- ---- the pattern of a finite value with the sign clear: its size in units of the smallest
-abbrev pub sizeOf : ℕ → ℕ → ℕ
-sizeOf zero t = t
-sizeOf (suc x) t = (4503599627370496 + t) * 2 ^ x
-
+-- ---- the pattern of a finite value with the sign clear
 pub fields-value : (s : Bool) (x t : ℕ) → x < 2047 → HasValue (ofFields binary64 s x t) s (sizeOf x t) (2 ^ 1074)
 unfolding ofFields
 fields-value s zero t h = subst (λ (y : ℕ). HasValue (odd 53 s t 0 1074) s y (2 ^ 1074)) (mul-one t) (odd-sign 53 s t 0 1074)

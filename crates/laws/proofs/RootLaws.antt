@@ -12,7 +12,7 @@ use lib.Ieee.{Float, nan, inf, fin, Format, prec, emax, low, up, down, size, nea
 use lib.Ieee.Fits.{odd-fits, down-pos, two, two-le-pos}
 use lib.Ieee.Positive.{positive, positive-of-value}
 use lib.Ieee.Exact.{HasValue, units-val}
-use Rattle.definitions.specs.Root.{isqrt, Located, rounded, rootAt, radicand, root, rootExact}
+use Rattle.definitions.specs.Root.{isqrt, Located, rounded, locateRoot, radicand, root, rootExact}
 use Rattle.laws.proofs.RootSquares.{sq-lt, sq-up, dbl, root-unique, isqrt-root, Cmp, cmp, Near, no-middle, near-of}
 use Rattle.laws.proofs.Format.{pow-less, lift, fits-says}
 use Rattle.laws.proofs.RootScaled.{located, rootAt-scaled, Scaled, scale}
@@ -39,7 +39,7 @@ closest n = nearest (isqrt n) (compare (4 * n) ((isqrt n + isqrt n + 1) * (isqrt
 pub closest-near : (n : ℕ) → 0 < n → Near n (closest n)
 closest-near n N = near-of n (isqrt n) (compare (4 * n) ((isqrt n + isqrt n + 1) * (isqrt n + isqrt n + 1))) N (isqrt-root n) (cmp (4 * n) ((isqrt n + isqrt n + 1) * (isqrt n + isqrt n + 1)))
 
-positive-root : (f : Format) (m : ℕ) (e : ℤ) → root f (fin false (suc m) e) ≡ rounded f false (rootAt f (radicand f (suc m) e))
+positive-root : (f : Format) (m : ℕ) (e : ℤ) → root f (fin false (suc m) e) ≡ rounded f false (locateRoot f (radicand f (suc m) e))
 unfolding root
 positive-root f m e = refl
 
@@ -55,7 +55,7 @@ pub exact-scaled : (f : Format) (m : ℕ) (e : ℤ) (n k : ℕ) → radicand f (
     → rootExact f (fin false (suc m) e) ≡ eqb (isqrt n * isqrt n) n
 exact-scaled f m e n k h lo hi = by-definition ∙ ap (λ (l : Located). l .exact) (rootAt-scaled f (radicand f (suc m) e) n k h lo hi)
   where
-    by-definition : rootExact f (fin false (suc m) e) ≡ rootAt f (radicand f (suc m) e) .exact
+    by-definition : rootExact f (fin false (suc m) e) ≡ locateRoot f (radicand f (suc m) e) .exact
     by-definition = unfold rootExact in refl
 
 pub some-digits : (p n : ℕ) → 2 ^ (p - 1) * 2 ^ (p - 1) ≤ n → 0 < n
@@ -216,7 +216,7 @@ root-nearest f m e t =
 
 -- ---- 2. no tie
 
-pub root-no-tie : (f : Format) (m : ℕ) (e : ℤ) → T (fits f (fin false (suc m) e)) → rootAt f (radicand f (suc m) e) .side ≡ Ordering·eq → ⊥
+pub root-no-tie : (f : Format) (m : ℕ) (e : ℤ) → T (fits f (fin false (suc m) e)) → locateRoot f (radicand f (suc m) e) .side ≡ Ordering·eq → ⊥
 root-no-tie f m e t h =
     let S = scale f m e t in
     let c = isqrt (S .n) in

@@ -11,9 +11,10 @@ use lib.Pow.{pow-add, pow-pos, pow-mono}
 use lib.Ieee.{Format, binary32, binary64, prec, emax, low, up, down, size, fits, fin}
 use lib.Ieee.Digits.{size-lt, size-le, size-reaches}
 use lib.Ieee.Fits.{down-pos, two, two-le-pos}
-use Rattle.definitions.specs.Root.{isqrt, Located, rootAt, radicand}
+use Rattle.definitions.specs.Root.{isqrt, Located, locateRoot, radicand}
 use Rattle.laws.proofs.Format.{pow-less, pow-back, lift, fits-says}
-use Rattle.laws.proofs.RootSquares.{sq-lt, IsRoot, root-unique, isqrt-root, cmp-scaled, eqb-iff}
+use Rattle.laws.specs.WholeRoot.{IsRoot}
+use Rattle.laws.proofs.RootSquares.{sq-lt, root-unique, isqrt-root, cmp-scaled, eqb-iff}
 
 -- ---- digits
 
@@ -50,12 +51,12 @@ located n k =
     let c = isqrt n in
     record { kept = c; dropped = k; side = compare (4 * n) ((c + c + 1) * (c + c + 1)); exact = eqb (c * c) n }
 
--- `rootAt`, from its q and its k on
+-- `locateRoot`, from its q and its k on
 abbrev from : ℕ → ℕ → ℕ → Located
 from v q k = record { kept = q; dropped = k; side = compare (4 * v) ((q + q + 1) * 2 ^ k * ((q + q + 1) * 2 ^ k)); exact = eqb (q * 2 ^ k * (q * 2 ^ k)) v }
 
-rootAt-from : (f : Format) (v : ℕ) → rootAt f v ≡ from v (isqrt v / 2 ^ (size (isqrt v) - prec f)) (size (isqrt v) - prec f)
-unfolding rootAt
+rootAt-from : (f : Format) (v : ℕ) → locateRoot f v ≡ from v (isqrt v / 2 ^ (size (isqrt v) - prec f)) (size (isqrt v) - prec f)
+unfolding locateRoot
 rootAt-from f v = refl
 
 from-scaled : (n q k : ℕ) → from (n * (2 ^ k * 2 ^ k)) q k ≡ record { kept = q; dropped = k; side = compare (4 * n) ((q + q + 1) * (q + q + 1)); exact = eqb (q * q) n }
@@ -69,7 +70,7 @@ from-scaled n q k =
     ap₂ (λ (o : Ordering) (b : Bool). record { kept = q; dropped = k; side = o; exact = b }) s x
 
 -- THE law of the definition: scale by an even power of two, and look where √n lies
-pub rootAt-scaled : (f : Format) (v n k : ℕ) → v ≡ n * (2 ^ k * 2 ^ k) → 2 ^ (prec f - 1) * 2 ^ (prec f - 1) ≤ n → n < 2 ^ prec f * 2 ^ prec f → rootAt f v ≡ located n k
+pub rootAt-scaled : (f : Format) (v n k : ℕ) → v ≡ n * (2 ^ k * 2 ^ k) → 2 ^ (prec f - 1) * 2 ^ (prec f - 1) ≤ n → n < 2 ^ prec f * 2 ^ prec f → locateRoot f v ≡ located n k
 rootAt-scaled f v n k e lo hi =
     let w = isqrt v in
     let u = 2 ^ k in

@@ -10,6 +10,7 @@ use lib.Pow.{pow-pos}
 use lib.Ieee.{size, nearest}
 use lib.Ieee.Digits.{size-lt}
 use Rattle.definitions.specs.Root.{sqrtIn, isqrt}
+use Rattle.laws.specs.WholeRoot.{IsRoot, Rest, closer}
 
 -- ---- squares
 
@@ -32,9 +33,6 @@ pub sq-up : (a b : ℕ) → a < b → a * a < b * b
 sq-up a b h = lt-of-lt-of-le (omega (arith, next a)) (mul-le-mul h h)
 
 -- ---- the whole root
-
-abbrev pub IsRoot : ℕ → ℕ → Type 0
-IsRoot n r = (r * r ≤ n) × (n < suc r * suc r)
 
 pub root-unique : (n r s : ℕ) → IsRoot n r → IsRoot n s → r ≡ s
 root-unique n r s p q =
@@ -142,19 +140,11 @@ near-of n w Ordering·gt N r c =
 
 -- ---- a root with what is left over
 
-pub record Rest (n c r : ℕ) : Type 0 where
-  pub sum : n ≡ c * c + r
-  pub most : r ≤ c + c
-
 pub rest-root : (n c r : ℕ) → Rest n c r → IsRoot n c
 rest-root n c r h = (omega (arith, h .sum), omega (arith, h .sum, h .most, next c))
 
 pub rest-is : (n c r : ℕ) → Rest n c r → c ≡ isqrt n
 rest-is n c r h = root-unique n c (isqrt n) (rest-root n c r h) (isqrt-root n)
-
--- up where more than half is left over
-abbrev pub closer : ℕ → ℕ → ℕ
-closer c r = cond (ltb c r) (suc c) c
 
 pub rest-nearest : (n c r : ℕ) → Rest n c r → nearest c (compare (4 * n) ((c + c + 1) * (c + c + 1))) ≡ closer c r
 rest-nearest n c r h = go (compare (4 * n) ((c + c + 1) * (c + c + 1))) (cmp (4 * n) ((c + c + 1) * (c + c + 1))) (ltb c r) (ltb→lt c r) (nltb→le c r)

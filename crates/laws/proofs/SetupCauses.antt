@@ -12,9 +12,9 @@ use lib.Ieee.{Float, nan, inf, fin, up, down, lt, eq, ofBits}
 use lib.Ieee.Fits.{and-l, and-r, up-pos}
 use lib.Ieee.Positive.{positive}
 use Rattle.definitions.specs.Numbers.{_*ᶠ_, rootᶠ, zeroᶠ, oneᶠ, symmetryTol, pivotTol, larger, largest, total, usable, above}
-use Rattle.definitions.specs.Refusal.{Outcome, refused, done, require, _>>=_, numberOf}
+use Rattle.definitions.specs.Refusal.{Outcome, refused, done, require, _>>=_, numberOf, causeOf}
 use Rattle.definitions.specs.Matrix.{Matrix, storedAt, validOf}
-use Rattle.definitions.specs.Factor.{rest, leftOf, factorFrom}
+use Rattle.definitions.specs.Factor.{rest, belowDiagonal, factorRows}
 use Rattle.definitions.specs.Block.{maxBlock, blockCount, widthOf, blockOf, inBlock, topOf, skewed, blockFactor, factorsFrom, factorsOf}
 use Rattle.definitions.specs.Diagonal.{diagonalFrom, diagonalOf}
 use Rattle.definitions.specs.Estimate.{usableFrom, normalised, rounds, image, startOf, inverseRoots, rhoOf, estimateOf}
@@ -61,7 +61,7 @@ clear-test false r f h k = h
 -- ---- the checks
 
 valid-clear : (a : Matrix) → Clear (validOf a)
-unfolding validOf numberOf
+unfolding validOf numberOf causeOf
 valid-clear a =
     clear-test _ TooLarge _ tt (λ _.
     clear-test _ RowListLength _ tt (λ _.
@@ -73,7 +73,7 @@ valid-clear a =
     clear-require _ ValueNotFinite tt)))))))
 
 front-clear : (a : Matrix) (o : Options) → Clear (frontOf a o)
-unfolding frontOf numberOf
+unfolding frontOf numberOf causeOf
 front-clear a o =
     clear-bind (validOf a) _ (valid-clear a) (λ _ _.
     clear-test _ NotSquare _ tt (λ _.
@@ -84,26 +84,26 @@ front-clear a o =
 -- ---- factors
 
 factor-clear : (place : ℕ → ℕ → ℕ) (bad : ℕ → Refusal) (a : ℕ → ℕ → Float) (tol : Float) → ((i : ℕ) → T (not (fromDiagonal (bad i)))) → (left i : ℕ) (l : List Float)
-    → Clear (factorFrom place bad a tol left i l)
-unfolding factorFrom
+    → Clear (factorRows place bad a tol left i l)
+unfolding factorRows
 factor-clear place bad a tol B zero i l = tt
 factor-clear place bad a tol B (suc left) i l =
-    let m = leftOf place a i i l in
+    let m = belowDiagonal place a i i l in
     let pivot = rest place a m i i in
     go (above tol pivot) (factor-clear place bad a tol B left (suc i) (set m (place i i) (rootᶠ pivot)))
   where
-    go : (b : Bool) → Clear (factorFrom place bad a tol left (suc i) (set (leftOf place a i i l) (place i i) (rootᶠ (rest place a (leftOf place a i i l) i i))))
-        → Clear {A = List Float} (elim b [ true ↦ factorFrom place bad a tol left (suc i) (set (leftOf place a i i l) (place i i) (rootᶠ (rest place a (leftOf place a i i l) i i))) | false ↦ refused (bad i) ])
+    go : (b : Bool) → Clear (factorRows place bad a tol left (suc i) (set (belowDiagonal place a i i l) (place i i) (rootᶠ (rest place a (belowDiagonal place a i i l) i i))))
+        → Clear {A = List Float} (elim b [ true ↦ factorRows place bad a tol left (suc i) (set (belowDiagonal place a i i l) (place i i) (rootᶠ (rest place a (belowDiagonal place a i i l) i i))) | false ↦ refused (bad i) ])
     go true k = k
     go false k = B i
 
 block-clear : (a : Matrix) (start w : ℕ) → Clear (blockFactor a start w)
-unfolding blockFactor numberOf
+unfolding blockFactor numberOf causeOf
 block-clear a start w = go (skewed (blockOf a start w) w (symmetryTol *ᶠ topOf (blockOf a start w)))
   where
     go : (b : Bool) → Clear {A = List Float} (elim b [
       | true ↦ refused (BlockNotSymmetric start)
-      | false ↦ factorFrom (inBlock w) (λ i. BlockPivot (start + i)) (λ i j. getD (blockOf a start w) (inBlock w i j) nan) (pivotTol *ᶠ topOf (blockOf a start w)) w 0 (replicate (w * w) zeroᶠ)
+      | false ↦ factorRows (inBlock w) (λ i. BlockPivot (start + i)) (λ i j. getD (blockOf a start w) (inBlock w i j) nan) (pivotTol *ᶠ topOf (blockOf a start w)) w 0 (replicate (w * w) zeroᶠ)
     ])
     go true = tt
     go false = factor-clear (inBlock w) (λ i. BlockPivot (start + i)) (λ i j. getD (blockOf a start w) (inBlock w i j) nan) (pivotTol *ᶠ topOf (blockOf a start w)) (λ i. tt) w 0 (replicate (w * w) zeroᶠ)
@@ -114,7 +114,7 @@ factors-clear a size zero k fs = tt
 factors-clear a size (suc left) k fs = clear-bind (blockFactor a (k * size) (widthOf (a .rows) size k)) _ (block-clear a (k * size) (widthOf (a .rows) size k)) (λ l _. factors-clear a size left (suc k) (fs ++ l))
 
 coarse-clear : (c : ℕ) (m : List Float) → Clear (coarseFactor c m)
-unfolding coarseFactor numberOf
+unfolding coarseFactor numberOf causeOf
 coarse-clear c m =
     clear-test _ CoarseScale _ tt (λ _.
     factor-clear packed (λ i. CoarsePivot i) (entryIn m c) (pivotTol *ᶠ larger (largest m) oneᶠ) (λ i. tt) c 0 (replicate (packedLength c) zeroᶠ))
@@ -122,7 +122,7 @@ coarse-clear c m =
 -- ---- grouping
 
 graph-clear : (lists : List (List ℕ)) (nodes size : ℕ) → Clear (graphOf lists nodes size)
-unfolding graphOf numberOf
+unfolding graphOf numberOf causeOf
 graph-clear lists nodes size = clear-test _ NoNode _ tt (λ _. tt)
 
 grouping-clear : (g : TwoLevelAggregation) (a : Matrix) (o : Options) → Clear (groupingOf g a o)
@@ -212,7 +212,7 @@ usable-clear i (d ∷ ds) k = go (usable d) (positive-usable d (each-head k)) (l
 -- ---- the estimate and the transfer
 
 normalised-clear : (stage : ℕ) (x : List Float) → Clear (normalised stage x)
-unfolding normalised numberOf
+unfolding normalised numberOf causeOf
 normalised-clear stage x = clear-test _ (EstimateFailed stage) _ tt (λ _. tt)
 
 rounds-clear : (a : Matrix) (s : List Float) (k : ℕ) (x : List Float) → Clear (rounds a s k x)
@@ -221,7 +221,7 @@ rounds-clear a s zero x = tt
 rounds-clear a s (suc k) x = clear-bind (normalised 2 (image a s x)) _ (normalised-clear 2 (image a s x)) (λ y _. rounds-clear a s k y)
 
 estimate-clear : (a : Matrix) (d : List Float) → Each Positive d → Clear (estimateOf a d)
-unfolding estimateOf numberOf
+unfolding estimateOf numberOf causeOf
 estimate-clear a d k =
     clear-bind (usableFrom 0 d) _ (usable-clear 0 d k) (λ _ _.
     clear-bind (normalised 1 (startOf (a .rows))) _ (normalised-clear 1 (startOf (a .rows))) (λ x _.
@@ -254,7 +254,7 @@ block-sizes a o e =
     (leb→le 1 (o .block) (and-l (leb 1 (o .block)) (leb (o .block) maxBlock) (f2 .0)), leb→le (o .block) maxBlock (and-r (leb 1 (o .block)) (leb (o .block) maxBlock) (f2 .0)))
 
 setup-clear : (a : Matrix) (o : Options) (room : Lengths) → Clear (setupOf a o room)
-unfolding setupOf numberOf factorsOf
+unfolding setupOf numberOf causeOf factorsOf
 setup-clear a o room =
     clear-bind (frontOf a o) _ (front-clear a o) (λ _ front.
     clear-test _ ListTooShort _ tt (λ _.

@@ -1,1 +1,1 @@
-// Laws of the definitions, in specs/. No code.
+// Laws of the definitions, in proofs/; specs/ has words that contracts cite. No code.

@@ -8,9 +8,11 @@ use lib.Dec.{lit≤}
 use lib.Pow.{pow-add, pow-pos, pow-mono}
 use lib.Ieee.{binary64, ofBits}
 use Rattle.definitions.specs.Numbers.{rootᶠ}
-use Rattle.laws.proofs.RootSquares.{Near, Rest, rest-near, rest-root, closer, sq-lt}
+use Rattle.laws.specs.WholeRoot.{Rest, closer}
+use Rattle.laws.proofs.RootSquares.{Near, rest-near, rest-root, sq-lt}
 use Rattle.laws.proofs.RootLaws.{near-least, some-digits}
-use Rattle.laws.proofs.RootBits.{sizeOf, bits-value, Found, root-of-value}
+use Rattle.laws.specs.WholeRoot.{sizeOf}
+use Rattle.laws.proofs.RootBits.{bits-value, Found, root-of-value}
 use Rattle.root.specs.Fields.{Split, oddBit, half, raised}
 use Rattle.root.proofs.Exponent.{twice-half, half-small, raised-small, odd-small}
 

@@ -4,7 +4,8 @@ use Prim.Native.Nat.{ℕ, suc, _+_, _-_, _*_, _/_, _%_, _^_, _≤_, _<_}
 use native.Mathlib.Nat.{le-of-lt, lt-of-le-of-lt, mul-le-mul, div-lt-iff-lt-mul, div-add-mod', mod-lt, mul-mul-mul-comm, mul-right-comm, mul-comm, add-mul, mul-add, le-of-suc-le-suc}
 use native.Mathlib.Omega.{arith}
 use lib.Dec.{lit<}
-use Rattle.laws.proofs.RootSquares.{IsRoot, Rest, sq-lt, next}
+use Rattle.laws.specs.WholeRoot.{IsRoot, Rest}
+use Rattle.laws.proofs.RootSquares.{sq-lt, next}
 
 -- ---- the numbers of `with_rest`: a - s² in place, the quotient, what the division leaves, and the candidate
 abbrev pub num : ℕ → ℕ → ℕ

@@ -11,7 +11,7 @@ use lib.Bits.{bitAnd, and-mask}
 use lib.Count.{leadingZeros, leading-top}
 use lib.Pow.{pow-add, pow-pos}
 use Rattle.laws.proofs.Format.{pow-less}
-use Rattle.laws.proofs.RootBits.{sizeOf}
+use Rattle.laws.specs.WholeRoot.{sizeOf}
 use Rattle.root.specs.Fields.{raised, Split}
 use Rattle.root.proofs.Exponent.{sub-ge, sub-lt}
 

@@ -3,7 +3,7 @@ use mathlib.Core.Path.{_≡_}
 use Prim.Native.Nat.{ℕ, suc, _+_, _-_, _*_, _/_, _%_, _^_, _≤_, _<_}
 use lib.IntN.{ℤ, pos, negsuc}
 use lib.Signed.{mag, shrZ}
-use Rattle.laws.proofs.RootBits.{sizeOf}
+use Rattle.laws.specs.WholeRoot.{sizeOf}
 
 -- e + b, for an e that is not below -b
 abbrev pub raised : ℕ → ℤ → ℕ

@@ -6,7 +6,8 @@ use native.Mathlib.Nat.{add-zero, suc-add, add-suc, le-of-suc-le-suc, not-suc-le
 use native.Mathlib.Omega.{arith}
 use lib.ListN.{getD}
 use Rattle.definitions.specs.Root.{isqrt}
-use Rattle.laws.proofs.RootSquares.{IsRoot, isqrt-root}
+use Rattle.laws.specs.WholeRoot.{IsRoot}
+use Rattle.laws.proofs.RootSquares.{isqrt-root}
 
 -- n of them, from k on
 unfoldable pub wholeRoots : ℕ → ℕ → List ℕ

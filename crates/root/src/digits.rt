@@ -2,7 +2,7 @@
 
 ghost use Prim.Native.Nat.{_+_, _*_, _≤_, _<_, _^_};
 ghost use mathlib.Core.Path.{_≡_};
-ghost use Rattle.laws.proofs.RootSquares.{IsRoot, Rest, closer};
+ghost use Rattle.laws.specs.WholeRoot.{IsRoot, Rest, closer};
 use crate::StartTable;
 use crate::starts::start;
 
@@ -38,7 +38,7 @@ fn whole_root(a: u64, near: u64) -> u64
 }
 
 // The whole root of a * 2^52: that of a, then 26 digits from what is left over, which may be one too many.
-pub fn with_rest(table: &StartTable, a: u64) -> Rooted
+pub(crate) fn with_rest(table: &StartTable, a: u64) -> Rooted
     requires { ⌜ (2 ^ 52 ≤ a) × (a < 2 ^ 54) ⌝ }
     ensures { λ r. ⌜ Rest (a * 2 ^ 52) (r .root) (r .rest) ⌝ }
 {
@@ -62,7 +62,7 @@ pub fn with_rest(table: &StartTable, a: u64) -> Rooted
 }
 
 // The nearest whole number: one more where more than half is left over.
-pub fn nearest(root: u64, rest: u64) -> u64
+pub(crate) fn nearest(root: u64, rest: u64) -> u64
     requires { ⌜ root < 2 ^ 63 ⌝ }
     ensures { λ q. ⌜ q ≡ closer root rest ⌝ }
 {

@@ -11,7 +11,7 @@ pub struct Scaled {
 }
 
 // b's value as m * 2^(e - 52), where m has 53 bits. A subnormal is first brought up by its leading zeros.
-pub fn split(b: u64) -> Scaled
+pub(crate) fn split(b: u64) -> Scaled
     requires { ⌜ (0 < b) × (b < 0x7ff0_0000_0000_0000) ⌝ }
     ensures { λ r. ⌜ Split b (r .m) (r .e) ⌝ }
 {
@@ -32,7 +32,7 @@ pub fn split(b: u64) -> Scaled
 }
 
 // One bit is shifted into the significand where the exponent is odd.
-pub fn evened(m: u64, e: i32) -> u64
+pub(crate) fn evened(m: u64, e: i32) -> u64
     requires { ⌜ (m < 2 ^ 53) × (mag e < 1100) ⌝ }
     ensures { λ r. ⌜ r ≡ m * 2 ^ oddBit e ⌝ }
 {
@@ -40,7 +40,7 @@ pub fn evened(m: u64, e: i32) -> u64
 }
 
 // Half the exponent, rounded down on both sides of zero: a negative one is negated, halved upwards and negated again.
-pub fn halved(e: i32) -> i32
+pub(crate) fn halved(e: i32) -> i32
     requires { ⌜ mag e < 1100 ⌝ }
     ensures { λ r. ⌜ r ≡ half e ⌝ }
 {
@@ -48,7 +48,7 @@ pub fn halved(e: i32) -> i32
 }
 
 // The pattern of q * 2^(h - 52), where q has 53 bits: the leading one is not stored.
-pub fn rebuilt(h: i32, q: u64) -> u64
+pub(crate) fn rebuilt(h: i32, q: u64) -> u64
     requires { ⌜ (mag h < 600) × (2 ^ 52 ≤ q) × (q < 2 ^ 53) ⌝ }
     ensures { λ r. ⌜ r ≡ raised 1022 h * 2 ^ 52 + q ⌝ }
 {

@@ -778,14 +778,14 @@ const STARTS: [u16; 768] = [
 ];
 
 // The table as a value: the toolchain builds a constant array anew wherever it is named, so that a caller of many roots builds it once.
-pub fn starts() -> StartTable
+pub(crate) fn starts() -> StartTable
     ensures { λ r. ⌜ r ≡ wholeRoots 768 256 ⌝ }
 {
     STARTS
 }
 
 // Where the search starts, by any table: what it holds makes no difference but to the time.
-pub fn start(table: &StartTable, k: usize) -> u16
+pub(crate) fn start(table: &StartTable, k: usize) -> u16
     requires { ⌜ (256 ≤ k) × (k < 1024) ⌝ }
     ensures { λ r. ⌜ (2 ^ 11 ≤ r) × (r < 2 ^ 14) ⌝ }
 {

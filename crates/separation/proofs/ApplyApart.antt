@@ -11,7 +11,7 @@ use lib.Dec.{T, eqb, eqb→eq}
 use lib.ListN.{length, getD, drop}
 use lib.Seq.{getD-take, getD-drop}
 use lib.Ieee.{Float, nan}
-use Rattle.definitions.specs.Lists.{tab, upTo, keep, part as partOf}
+use Rattle.definitions.specs.Lists.{tab, upTo, keep, between}
 use Rattle.definitions.specs.Numbers.{_+ᶠ_, _*ᶠ_, total, summed}
 use Rattle.definitions.specs.Refusal.{done}
 use Rattle.definitions.specs.Matrix.{Matrix, Entry, entriesOf, valuesWhere}
@@ -22,7 +22,7 @@ use Rattle.definitions.specs.Block.{blockCount, widthOf, blockPart, blockSolve,
 use Rattle.definitions.specs.Transfer.{coarseColumn, transferRow, transferOf}
 use Rattle.definitions.specs.Coarse.{weightsAt, coarsePart, coarseSolve, resolved, packedEntry}
 use Rattle.definitions.specs.Setup.{nodeCount, Transfer, transferFor, coarseEntry, coarseMatrix}
-use Rattle.definitions.specs.Apply.{constantParts, smoothedParts, weightedParts}
+use Rattle.definitions.specs.Apply.{constantRestrictionTerms, smoothedRestrictionTerms, prolongationTerms}
 use Rattle.definitions.specs.Separation.{followsGraph}
 use Rattle.definitions.specs.declared.Options.{Options}
 use Rattle.definitions.specs.declared.TwoLevelBasis.{TwoLevelBasis}
@@ -58,7 +58,7 @@ width-is-size rows size k w h = narrow rows size (k * size) (le-trans (step k si
     narrow : (n x y : ℕ) → y + x ≤ n → min x (n - y) ≡ x
     narrow n x y g = omega arith
 
-part-at : (r : List Float) (s w j : ℕ) → j < w → getD (partOf s (s + w) r) j nan ≡ getD r (s + j) nan
+part-at : (r : List Float) (s w j : ℕ) → j < w → getD (between s (s + w) r) j nan ≡ getD r (s + j) nan
 part-at r s w j h = getD-take (s + w - s) (drop s r) j nan (subst (λ (x : ℕ). j < x) (sym (back s w)) h) ∙ getD-drop s r j nan
   where
     back : (x y : ℕ) → x + y - x ≡ y
@@ -67,7 +67,7 @@ part-at r s w j h = getD-take (s + w - s) (drop s r) j nan (subst (λ (x : ℕ).
 module _ (rows size : ℕ) (p : 1 ≤ size) (w : rows / size * size ≡ rows) (factors : List Float) where
   -- the solve of the block k, and where it stands
   solved : List Float → ℕ → List Float
-  solved r k = blockSolve (blockPart size (widthOf rows size k) k factors) (widthOf rows size k) (partOf (k * size) (k * size + widthOf rows size k) r)
+  solved r k = blockSolve (blockPart size (widthOf rows size k) k factors) (widthOf rows size k) (between (k * size) (k * size + widthOf rows size k) r)
 
   blocks-at : (r : List Float) (i : ℕ) → i < rows → getD (blockApplied rows size factors r) i nan ≡ getD (solved r (i / size)) (i % size) nan
   unfolding blockApplied solved upTo
@@ -75,7 +75,7 @@ module _ (rows size : ℕ) (p : 1 ≤ size) (w : rows / size * size ≡ rows) (f
       ap (λ (n : ℕ). getD (flatMap (solved r) (tab (λ k. k) n)) i nan) (blocks-are-nodes rows size p w)
       ∙ ap (λ (x : ℕ). getD (flatMap (solved r) (tab (λ k. k) (rows / size))) x nan) (sym (div-add-mod' i size))
       ∙ getD-rows (solved r) size (λ k. k) (rows / size) (i / size) (i % size) nan
-      (λ k l. block-length (blockPart size (widthOf rows size k) k factors) (widthOf rows size k) (partOf (k * size) (k * size + widthOf rows size k) r) ∙ width-is-size rows size k w l)
+      (λ k l. block-length (blockPart size (widthOf rows size k) k factors) (widthOf rows size k) (between (k * size) (k * size + widthOf rows size k) r) ∙ width-is-size rows size k w l)
       (div-lt-iff-lt-mul p .1 (subst (λ (x : ℕ). i < x) (sym w) h)) (mod-lt i p)
 
   pub blocks-near : (P : ℕ → Bool) (r r′ : List Float) → ((i : ℕ) → i < rows → T (P (i / size)) → Near (getD r i nan) (getD r′ i nan))
@@ -84,7 +84,7 @@ module _ (rows size : ℕ) (p : 1 ≤ size) (w : rows / size * size ≡ rows) (f
   blocks-near P r r′ R i h q =
       subst (λ (x : Float). Near x (getD (blockApplied rows size factors r′) i nan)) (sym (blocks-at r i h))
       (subst (λ (x : Float). Near (getD (solved r v) (i % size) nan) x) (sym (blocks-at r′ i h))
-      (block-near (blockPart size (widthOf rows size v) v factors) (widthOf rows size v) (partOf (v * size) (v * size + widthOf rows size v) r) (partOf (v * size) (v * size + widthOf rows size v) r′)
+      (block-near (blockPart size (widthOf rows size v) v factors) (widthOf rows size v) (between (v * size) (v * size + widthOf rows size v) r) (between (v * size) (v * size + widthOf rows size v) r′)
       inside (i % size) (subst (λ (x : ℕ). i % size < x) (sym wide) (mod-lt i p))))
     where
       v : ℕ
@@ -97,10 +97,10 @@ module _ (rows size : ℕ) (p : 1 ≤ size) (w : rows / size * size ≡ rows) (f
       wide = width-is-size rows size v w below
 
       inside : (j : ℕ) → j < widthOf rows size v
-          → Near (getD (partOf (v * size) (v * size + widthOf rows size v) r) j nan) (getD (partOf (v * size) (v * size + widthOf rows size v) r′) j nan)
+          → Near (getD (between (v * size) (v * size + widthOf rows size v) r) j nan) (getD (between (v * size) (v * size + widthOf rows size v) r′) j nan)
       inside j l =
           let g : j < size = subst (λ (x : ℕ). j < x) wide l in
-          subst (λ (x : Float). Near x (getD (partOf (v * size) (v * size + widthOf rows size v) r′) j nan)) (sym (part-at r (v * size) (widthOf rows size v) j l))
+          subst (λ (x : Float). Near x (getD (between (v * size) (v * size + widthOf rows size v) r′) j nan)) (sym (part-at r (v * size) (widthOf rows size v) j l))
           (subst (λ (x : Float). Near (getD r (v * size + j) nan) x) (sym (part-at r′ (v * size) (widthOf rows size v) j l))
           (R (v * size + j) (row-of-node rows size v j below g) (subst (λ (x : ℕ). T (P x)) (sym (node-of-row size v j g)) q)))
 
@@ -131,8 +131,8 @@ module _ {a : Matrix} {o : Options} (s : Stages a o) where
   weightsBy i = getD (s .transfer .weights) i []
 
   unfoldable pub partsBy : TwoLevelBasis → List Float → ℕ → List Float
-  partsBy PiecewiseConstant r j = constantParts columnBy r j
-  partsBy JacobiSmoothed r j = smoothedParts weightsBy r j
+  partsBy PiecewiseConstant r j = constantRestrictionTerms columnBy r j
+  partsBy JacobiSmoothed r j = smoothedRestrictionTerms weightsBy r j
 
   unfoldable pub restrictedBy : List Float → List Float
   restrictedBy r = tab (λ j. total (partsBy (o .basis) r j)) (dimension s)
@@ -142,7 +142,7 @@ module _ {a : Matrix} {o : Options} (s : Stages a o) where
 
   unfoldable pub gainedBy : TwoLevelBasis → List Float → ℕ → Float
   gainedBy PiecewiseConstant sol i = getD sol (columnBy i) nan
-  gainedBy JacobiSmoothed sol i = summed (weightedParts (weightsBy i) sol)
+  gainedBy JacobiSmoothed sol i = summed (prolongationTerms (weightsBy i) sol)
 
   unfoldable pub appliedBy : List Float → List Float
   appliedBy r = tab (λ i. getD (blockApplied (a .rows) (o .block) (s .factors) r) i nan +ᶠ gainedBy (o .basis) (solutionBy r) i) (a .rows)
@@ -203,7 +203,7 @@ module _ {a : Matrix} {o : Options} (s : Stages a o) (part : ℕ → Bool) (grap
 
   module _ (r r′ : List Float) (long : length r ≡ a .rows) (long′ : length r′ ≡ a .rows) (R : (i : ℕ) → i < a .rows → T (part (i / o .block)) → Near (getD r i nan) (getD r′ i nan)) where
     parts-near : (basis : TwoLevelBasis) (j : ℕ) → T (side j) → Nears (partsBy s basis r j) (partsBy s basis r′ j)
-    unfolding partsBy constantParts smoothedParts rowSide weightsAt
+    unfolding partsBy constantRestrictionTerms smoothedRestrictionTerms rowSide weightsAt
     parts-near PiecewiseConstant j q =
         subst (λ (n : ℕ). Nears (map (λ i. getD r i nan) (keep (λ i. eqb (columnBy s i) j) (upTo n))) (map (λ i. getD r′ i nan) (keep (λ i. eqb (columnBy s i) j) (upTo (length r′))))) (sym long)
         (subst (λ (n : ℕ). Nears (map (λ i. getD r i nan) (keep (λ i. eqb (columnBy s i) j) (upTo (a .rows)))) (map (λ i. getD r′ i nan) (keep (λ i. eqb (columnBy s i) j) (upTo n)))) (sym long′)
@@ -235,7 +235,7 @@ module _ {a : Matrix} {o : Options} (s : Stages a o) (part : ℕ → Bool) (grap
     solution-near = coarse-near (dimension s) (s .factor) side factor-parted (policyBy s) (restrictedBy s r) (restrictedBy s r′) restricted-near
 
     gained-near : (basis : TwoLevelBasis) (i : ℕ) → i < a .rows → T (rowSide i) → Near (gainedBy s basis (solutionBy s r) i) (gainedBy s basis (solutionBy s r′) i)
-    unfolding gainedBy weightedParts
+    unfolding gainedBy prolongationTerms
     gained-near PiecewiseConstant i h q = solution-near (columnBy s i) (in-range i h) (subst T (sym (own i h)) q)
     gained-near JacobiSmoothed i h q =
         near-summed (nears-map (λ e. e .value *ᶠ getD (solutionBy s r) (e .col) nan) (λ e. e .value *ᶠ getD (solutionBy s r′) (e .col) nan)

@@ -23,7 +23,7 @@ use Rattle.laws.proofs.Lists.{length-tab}
 use Rattle.laws.proofs.Outcomes.{done-inj, test-passed, pass-test}
 use Rattle.separation.proofs.Stages.{Stages, built, stages-of}
 use Rattle.separation.proofs.ApplyApart.{appliedBy}
-use Rattle.separation.proofs.Layout.{applied-read}
+use Rattle.separation.proofs.Places.{applied-read}
 use Rattle.separation.proofs.Fitting.{setup-fits, ample-accepts}
 use Rattle.separation.proofs.Theorem.{result-of, corrected-here, vectors-agree}
 

@@ -12,7 +12,7 @@ use Rattle.definitions.specs.Lists.{square, any}
 use Rattle.definitions.specs.Numbers.{_*ᶠ_, _/ᶠ_, zeroᶠ, oneᶠ, reduced}
 use Rattle.definitions.specs.Matrix.{Matrix, Entry, rowOf, entriesOf, valuesWhere}
 use Rattle.definitions.specs.Transfer.{coarseColumn, tentative, smoothingTerms, weightAt, transferRow}
-use Rattle.definitions.specs.Coarse.{constantTerms, constantEntry, weighted, weightsAt, productTerms, galerkinTerms, galerkinEntry, averaged, averagedSquare, entryIn}
+use Rattle.definitions.specs.Coarse.{constantTerms, constantEntry, weightedSum, weightsAt, productTerms, galerkinTerms, galerkinEntry, averaged, averagedSquare, entryIn}
 use Rattle.definitions.specs.Setup.{coarseEntry}
 use Rattle.definitions.specs.declared.TwoLevelBasis.{TwoLevelBasis}
 use Rattle.definitions.specs.declared.TwoLevelBasis.the-variants.{PiecewiseConstant, JacobiSmoothed}
@@ -129,15 +129,15 @@ module _ (a : Matrix) (size : ℕ) (ids : List ℕ) (P Q : ℕ → Bool)
         (each-imp (λ e k. ap (λ (ws : List Float). map (λ w. e .value *ᶠ w) ws) (weights-none (e .col) j (k .0) (subst (λ (x : Bool). T (unlike x (Q j))) (k .1) u))) (linked r h))
 
     galerkin-none : (i j : ℕ) → T (unlike (Q i) (Q j)) → galerkinTerms a transfer i j ≡ []
-    unfolding galerkinTerms weighted flatMap
+    unfolding galerkinTerms weightedSum flatMap
     galerkin-none i j u =
-        flatMap-none (λ r. flatMap (λ w. weighted w (productTerms a transfer r j)) (weightsAt a transfer r i)) (each-upTo (a .rows) (λ r h. row r h (third (Q i) (Q j) (P r) u)))
+        flatMap-none (λ r. flatMap (λ w. weightedSum w (productTerms a transfer r j)) (weightsAt a transfer r i)) (each-upTo (a .rows) (λ r h. row r h (third (Q i) (Q j) (P r) u)))
       where
-        row : (r : ℕ) → r < a .rows → T (unlike (Q i) (P r)) ⊎ (Q i ≡ P r) → flatMap (λ w. weighted w (productTerms a transfer r j)) (weightsAt a transfer r i) ≡ []
-        row r h (inl v) = ap (λ (ws : List Float). flatMap (λ w. weighted w (productTerms a transfer r j)) ws) (weights-none r i h (unlike-flip (Q i) (P r) v))
+        row : (r : ℕ) → r < a .rows → T (unlike (Q i) (P r)) ⊎ (Q i ≡ P r) → flatMap (λ w. weightedSum w (productTerms a transfer r j)) (weightsAt a transfer r i) ≡ []
+        row r h (inl v) = ap (λ (ws : List Float). flatMap (λ w. weightedSum w (productTerms a transfer r j)) ws) (weights-none r i h (unlike-flip (Q i) (P r) v))
         row r h (inr e) =
-            flatMap-none (λ w. weighted w (productTerms a transfer r j))
-            (each-any (weightsAt a transfer r i) (λ w. ap (λ (ts : List Float). weighted w ts) (product-none r j h (subst (λ (x : Bool). T (unlike x (Q j))) e u))))
+            flatMap-none (λ w. weightedSum w (productTerms a transfer r j))
+            (each-any (weightsAt a transfer r i) (λ w. ap (λ (ts : List Float). weightedSum w ts) (product-none r j h (subst (λ (x : Bool). T (unlike x (Q j))) e u))))
 
     -- ---- the coarse matrix, its average
 

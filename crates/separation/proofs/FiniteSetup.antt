@@ -24,7 +24,7 @@ use Rattle.laws.proofs.Lists.{getD-square}
 use Rattle.laws.proofs.FiniteFactor.{FiniteFactor, total-fits, factors-finite, coarse-finite}
 use Rattle.separation.proofs.Stages.{Stages, dimension, coarseAveraged, built, sound, stages-of}
 use Rattle.separation.proofs.ApplyApart.{blocks-are-nodes, width-is-size}
-use Rattle.separation.proofs.Layout.{factors-read, coarse-read}
+use Rattle.separation.proofs.Places.{factors-read, coarse-read}
 
 -- of a record and a list that goes on behind what it uses
 pub record FiniteSetup (s : Setup) (floats : List Float) : Type 0 where

@@ -34,7 +34,7 @@ use Rattle.separation.proofs.Columns.{ids-below}
 use Rattle.separation.proofs.CoarseApart.{weight-zero, zero-not-kept}
 use Rattle.separation.proofs.Stages.{Sound, Stages, dimension, built, sound, accepts}
 use Rattle.separation.proofs.ApplyApart.{constant-weights, smoothed-weights, policyBy}
-use Rattle.separation.proofs.Layout.{weights-count, pointers-read, columns-read, ids-read, ids-many, factors-many, coarse-many}
+use Rattle.separation.proofs.Places.{weights-count, pointers-read, columns-read, ids-read, ids-many, factors-many, coarse-many}
 
 -- ---- how many weights
 

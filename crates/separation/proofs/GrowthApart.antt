@@ -9,7 +9,7 @@ use native.Mathlib.Omega.{arith}
 use lib.Dec.{T, eqb, eqb→eq, eqb-refl}
 use lib.ListN.{length, getD, set, length-set}
 use lib.Seq.{getD-set-same}
-use Rattle.definitions.specs.Groups.{waiting, free, grow, growFrom}
+use Rattle.definitions.specs.Groups.{waiting, free, growGroup, growGroups}
 use Rattle.laws.proofs.Lists.{Each, none, more, each-head, each-tail, each-imp, each-append}
 use Rattle.separation.proofs.Sides.{Sided, sided-set, positive-set, below-set}
 
@@ -34,25 +34,25 @@ module _ (lists : ℕ → List ℕ) (anchor : ℕ → Bool) (part : ℕ → Bool
 
   -- what a store of g at every node of one side keeps, growth of the group g from that side keeps
   grow-inv : (Inv : List ℕ → Type 0) (g : ℕ) (s : Bool) → ((ids : List ℕ) (v : ℕ) → part v ≡ s → Inv ids → Inv (set ids v g))
-      → (room : ℕ) (ids queue : List ℕ) → Inv ids → Each (λ w. part w ≡ s) queue → Inv (grow lists anchor g room ids queue)
-  unfolding grow
+      → (room : ℕ) (ids queue : List ℕ) → Inv ids → Each (λ w. part w ≡ s) queue → Inv (growGroup lists anchor g room ids queue)
+  unfolding growGroup
   grow-inv Inv g s keeps zero ids queue h q = h
   grow-inv Inv g s keeps (suc room) ids queue h q = go (waiting ids queue) (waiting-each ids queue q) (λ i w. grow-inv Inv g s keeps room i w)
     where
-      go : (w : List ℕ) → Each (λ x. part x ≡ s) w → ((i q : List ℕ) → Inv i → Each (λ x. part x ≡ s) q → Inv (grow lists anchor g room i q))
-          → Inv (elim w [ [] ↦ ids | v ∷ rest ↦ grow lists anchor g room (set ids v g) (rest ++ free lists anchor (set ids v g) (lists v)) ])
+      go : (w : List ℕ) → Each (λ x. part x ≡ s) w → ((i q : List ℕ) → Inv i → Each (λ x. part x ≡ s) q → Inv (growGroup lists anchor g room i q))
+          → Inv (elim w [ [] ↦ ids | v ∷ rest ↦ growGroup lists anchor g room (set ids v g) (rest ++ free lists anchor (set ids v g) (lists v)) ])
       go [] e ih = h
       go (v ∷ rest) e ih =
           ih (set ids v g) (rest ++ free lists anchor (set ids v g) (lists v)) (keeps ids v (each-head e) h)
           (each-append (each-tail e) (free-each (set ids v g) (lists v) (each-imp (λ w k. k ∙ each-head e) (closed v))))
 
   -- growth takes in the node that it starts from
-  grow-takes : (g room v : ℕ) (ids : List ℕ) → g ≢ 0 → v < length ids → T (eqb (getD ids v 0) 0) → getD (grow lists anchor g (suc room) ids (v ∷ [])) v 0 ≢ 0
-  unfolding grow waiting
+  grow-takes : (g room v : ℕ) (ids : List ℕ) → g ≢ 0 → v < length ids → T (eqb (getD ids v 0) 0) → getD (growGroup lists anchor g (suc room) ids (v ∷ [])) v 0 ≢ 0
+  unfolding growGroup waiting
   grow-takes g room v ids p h t = go (eqb (getD ids v 0) 0) t
     where
       go : (b : Bool) → T b
-          → _≢_ {A = ℕ} (getD (elim (elim b as (λ x. List ℕ) [ true ↦ v ∷ [] | false ↦ waiting ids [] ]) as (λ x. List ℕ) [ [] ↦ ids | w ∷ rest ↦ grow lists anchor g room (set ids w g) (rest ++ free lists anchor (set ids w g) (lists w)) ]) v 0) 0
+          → _≢_ {A = ℕ} (getD (elim (elim b as (λ x. List ℕ) [ true ↦ v ∷ [] | false ↦ waiting ids [] ]) as (λ x. List ℕ) [ [] ↦ ids | w ∷ rest ↦ growGroup lists anchor g room (set ids w g) (rest ++ free lists anchor (set ids w g) (lists w)) ]) v 0) 0
       go true k =
           grow-inv (λ i. getD i v 0 ≢ 0) g (part v) (λ i w e n. positive-set i w g v p n) room (set ids v g) ([] ++ free lists anchor (set ids v g) (lists v))
           (λ z. p (sym (getD-set-same ids v g 0 h) ∙ z)) (free-each (set ids v g) (lists v) (closed v))
@@ -84,7 +84,7 @@ module _ (lists : ℕ → List ℕ) (anchor : ℕ → Bool) (part : ℕ → Bool
       go false f = refl
 
   start-group : (n v g size : ℕ) (ids : List ℕ) → v < n → T (eqb (getD ids v 0) 0) → Growing n v g ids
-      → Growing n (suc v) (suc g) (elim (anchor v) [ true ↦ set ids v (suc g) | false ↦ grow lists anchor (suc g) (suc size) ids (v ∷ []) ])
+      → Growing n (suc v) (suc g) (elim (anchor v) [ true ↦ set ids v (suc g) | false ↦ growGroup lists anchor (suc g) (suc size) ids (v ∷ []) ])
   start-group n v g size ids h t G = go (anchor v)
     where
       new : ℕ → Bool
@@ -118,7 +118,7 @@ module _ (lists : ℕ → List ℕ) (anchor : ℕ → Bool) (part : ℕ → Bool
           pick (inl e) = λ z. q (ap (λ (x : ℕ). getD i x 0) (sym e) ∙ z)
           pick (inr m) = k u (G .met u m)
 
-      go : (b : Bool) → Growing n (suc v) (suc g) (elim b [ true ↦ set ids v (suc g) | false ↦ grow lists anchor (suc g) (suc size) ids (v ∷ []) ])
+      go : (b : Bool) → Growing n (suc v) (suc g) (elim b [ true ↦ set ids v (suc g) | false ↦ growGroup lists anchor (suc g) (suc size) ids (v ∷ []) ])
       go true = record {
         side = new;
         sided = keeps-sided ids v refl sided-now;
@@ -131,7 +131,7 @@ module _ (lists : ℕ → List ℕ) (anchor : ℕ → Bool) (part : ℕ → Bool
         sided = grow-inv (Sided part new) (suc g) (part v) keeps-sided (suc size) ids (v ∷ []) sided-now queue;
         under = λ u. grow-inv (λ i. getD i u 0 ≤ suc g) (suc g) (part v) (λ i w e l. below-set i w (suc g) (suc g) u (le-refl (suc g)) l) (suc size) ids (v ∷ []) (up (getD ids u 0) (G .under u)) queue;
         long = grow-inv (λ i. length i ≡ n) (suc g) (part v) (λ i w e l. length-set i w (suc g) ∙ l) (suc size) ids (v ∷ []) (G .long) queue;
-        met = met-with (grow lists anchor (suc g) (suc size) ids (v ∷ []))
+        met = met-with (growGroup lists anchor (suc g) (suc size) ids (v ∷ []))
             (λ u k. grow-inv (λ i. getD i u 0 ≢ 0) (suc g) (part v) (λ i w e l. positive-set i w (suc g) u positive l) (suc size) ids (v ∷ []) k queue)
             (grow-takes (suc g) size v ids positive long-v t);
       }
@@ -144,8 +144,8 @@ module _ (lists : ℕ → List ℕ) (anchor : ℕ → Bool) (part : ℕ → Bool
       go u (inr m) = G .met u m
 
   pub growFrom-inv : (n size left v g : ℕ) (ids : List ℕ) → v + left ≡ n → Growing n v g ids
-      → Growing n n (growFrom lists anchor (suc size) left v g ids .1) (growFrom lists anchor (suc size) left v g ids .0)
-  unfolding growFrom
+      → Growing n n (growGroups lists anchor (suc size) left v g ids .1) (growGroups lists anchor (suc size) left v g ids .0)
+  unfolding growGroups
   growFrom-inv n size zero v g ids e G = subst (λ (x : ℕ). Growing n x g ids) (flat v n e) G
     where
       flat : (x y : ℕ) → x + 0 ≡ y → x ≡ y
@@ -159,12 +159,12 @@ module _ (lists : ℕ → List ℕ) (anchor : ℕ → Bool) (part : ℕ → Bool
       room x y z u = omega arith
 
       next : List ℕ
-      next = elim (anchor v) [ true ↦ set ids v (suc g) | false ↦ grow lists anchor (suc g) (suc size) ids (v ∷ []) ]
+      next = elim (anchor v) [ true ↦ set ids v (suc g) | false ↦ growGroup lists anchor (suc g) (suc size) ids (v ∷ []) ]
 
       go : (b : Bool) → (T b → T (eqb (getD ids v 0) 0)) → (T (not b) → T (not (eqb (getD ids v 0) 0)))
-          → ((k : ℕ) (i : List ℕ) → suc v + left ≡ n → Growing n (suc v) k i → Growing n n (growFrom lists anchor (suc size) left (suc v) k i .1) (growFrom lists anchor (suc size) left (suc v) k i .0))
+          → ((k : ℕ) (i : List ℕ) → suc v + left ≡ n → Growing n (suc v) k i → Growing n n (growGroups lists anchor (suc size) left (suc v) k i .1) (growGroups lists anchor (suc size) left (suc v) k i .0))
           → Growing n n
-          ((elim b as (λ x. List ℕ × ℕ) [ true ↦ growFrom lists anchor (suc size) left (suc v) (suc g) (elim (anchor v) [ true ↦ set ids v (suc g) | false ↦ grow lists anchor (suc g) (suc size) ids (v ∷ []) ]) | false ↦ growFrom lists anchor (suc size) left (suc v) g ids ]) .1)
-          ((elim b as (λ x. List ℕ × ℕ) [ true ↦ growFrom lists anchor (suc size) left (suc v) (suc g) (elim (anchor v) [ true ↦ set ids v (suc g) | false ↦ grow lists anchor (suc g) (suc size) ids (v ∷ []) ]) | false ↦ growFrom lists anchor (suc size) left (suc v) g ids ]) .0)
+          ((elim b as (λ x. List ℕ × ℕ) [ true ↦ growGroups lists anchor (suc size) left (suc v) (suc g) (elim (anchor v) [ true ↦ set ids v (suc g) | false ↦ growGroup lists anchor (suc g) (suc size) ids (v ∷ []) ]) | false ↦ growGroups lists anchor (suc size) left (suc v) g ids ]) .1)
+          ((elim b as (λ x. List ℕ × ℕ) [ true ↦ growGroups lists anchor (suc size) left (suc v) (suc g) (elim (anchor v) [ true ↦ set ids v (suc g) | false ↦ growGroup lists anchor (suc g) (suc size) ids (v ∷ []) ]) | false ↦ growGroups lists anchor (suc size) left (suc v) g ids ]) .0)
       go true p q ih = ih (suc g) next (at v left n e) (start-group n v g size ids (room v left n e) (p tt) G)
       go false p q ih = ih g ids (at v left n e) (skip-group n v g ids (q tt) G)

@@ -7,7 +7,7 @@ use Prim.Native.Nat.{ℕ, zero, suc, _<_}
 use native.Mathlib.Omega.{arith}
 use lib.Dec.{eqb, ltb}
 use lib.ListN.{length, getD, set, length-set}
-use Rattle.definitions.specs.Groups.{Joining, Groups, nodesIn, sizeIn, relabelled, joined, replay, edgesTo, before, chosen, others, named, takerOf, roundFrom, joiningsFrom}
+use Rattle.definitions.specs.Groups.{Joining, Groups, nodesIn, sizeIn, relabelled, joined, replay, edgesTo, before, chosen, otherGroups, namedGroups, takerOf, roundFrom, joiningsFrom}
 use Rattle.laws.proofs.Lists.{Each, none, more, each-head, each-tail, each-imp, each-append}
 use Rattle.separation.proofs.Sides.{set-read, Sided, sided-set, positive-set}
 
@@ -56,23 +56,23 @@ module _ (lists : ℕ → List ℕ) (anchor : ℕ → Bool) (part : ℕ → Bool
     abbrev Beside : ℕ → ℕ → Type 0
     Beside g o = o ≢ 0 → side o ≡ side g
 
-    others-beside : (g : ℕ) (s : Groups) (ws : List ℕ) → Sided part side (s .of) → Each (λ w. part w ≡ side g) ws → Each (Beside g) (others lists anchor g s ws)
-    unfolding others
+    others-beside : (g : ℕ) (s : Groups) (ws : List ℕ) → Sided part side (s .of) → Each (λ w. part w ≡ side g) ws → Each (Beside g) (otherGroups lists anchor g s ws)
+    unfolding otherGroups
     others-beside g s [] S h = none
     others-beside g s (w ∷ ws) S h = go (anchor w || eqb (getD (s .of) w 0) g || eqb (sizeIn s (getD (s .of) w 0)) 0) (others-beside g s ws S (each-tail h))
       where
-        go : (b : Bool) → Each (Beside g) (others lists anchor g s ws)
-            → Each (Beside g) (elim b [ true ↦ others lists anchor g s ws | false ↦ getD (s .of) w 0 ∷ others lists anchor g s ws ])
+        go : (b : Bool) → Each (Beside g) (otherGroups lists anchor g s ws)
+            → Each (Beside g) (elim b [ true ↦ otherGroups lists anchor g s ws | false ↦ getD (s .of) w 0 ∷ otherGroups lists anchor g s ws ])
         go true k = k
         go false k = more (λ ne. S w ne ∙ each-head h) k
 
-    named-beside : (g : ℕ) (s : Groups) (vs : List ℕ) → Sided part side (s .of) → Each (λ v. part v ≡ side g) vs → Each (Beside g) (named lists anchor g s vs)
-    unfolding named
+    named-beside : (g : ℕ) (s : Groups) (vs : List ℕ) → Sided part side (s .of) → Each (λ v. part v ≡ side g) vs → Each (Beside g) (namedGroups lists anchor g s vs)
+    unfolding namedGroups
     named-beside g s [] S h = none
     named-beside g s (v ∷ vs) S h = go (anchor v) (named-beside g s vs S (each-tail h))
       where
-        go : (b : Bool) → Each (Beside g) (named lists anchor g s vs)
-            → Each (Beside g) (elim b [ true ↦ named lists anchor g s vs | false ↦ others lists anchor g s (lists v) ++ named lists anchor g s vs ])
+        go : (b : Bool) → Each (Beside g) (namedGroups lists anchor g s vs)
+            → Each (Beside g) (elim b [ true ↦ namedGroups lists anchor g s vs | false ↦ otherGroups lists anchor g s (lists v) ++ namedGroups lists anchor g s vs ])
         go true k = k
         go false k = each-append (others-beside g s (lists v) S (each-imp (λ w e. e ∙ each-head h) (closed v))) k
 
@@ -89,8 +89,8 @@ module _ (lists : ℕ → List ℕ) (anchor : ℕ → Bool) (part : ℕ → Bool
     unfolding takerOf
     taker-beside floor n g s ne K = go (ltb 0 (sizeIn s g) && ltb (sizeIn s g) floor)
       where
-        go : (b : Bool) → Beside g (elim b [ true ↦ (let names = named lists anchor g s (nodesIn s g) in chosen (edgesTo names) (sizeIn s) 0 names) | false ↦ 0 ])
-        go true = let names = named lists anchor g s (nodesIn s g) in chosen-beside (edgesTo names) (sizeIn s) g 0 names (λ z. absurd (z refl)) (named-beside g s (nodesIn s g) (K .sided) (K .members g ne))
+        go : (b : Bool) → Beside g (elim b [ true ↦ (let names = namedGroups lists anchor g s (nodesIn s g) in chosen (edgesTo names) (sizeIn s) 0 names) | false ↦ 0 ])
+        go true = let names = namedGroups lists anchor g s (nodesIn s g) in chosen-beside (edgesTo names) (sizeIn s) g 0 names (λ z. absurd (z refl)) (named-beside g s (nodesIn s g) (K .sided) (K .members g ne))
         go false = λ z. absurd (z refl)
 
     round-inv : (n floor left g : ℕ) (s : Groups) → g ≢ 0 → Joinable n s → Joinable n (replay (roundFrom lists anchor floor left g s) s)

@@ -19,7 +19,7 @@ pub mod CoarseApart
 pub mod Stages
 pub mod ApplyApart
 -- from the lists of a setup to what was stored; that stored factors are finite
-pub mod Layout
+pub mod Places
 pub mod Fitting
 pub mod FiniteSetup
 -- the theorems, and an instance

@@ -9,7 +9,7 @@ use lib.ListN.{length, getD}
 use lib.Ieee.{Float, nan, binary64, eq, fits}
 use lib.Ieee.Fits.{and-l, and-r}
 use lib.Ieee.Scale.{finite}
-use Rattle.definitions.specs.Lists.{all, part}
+use Rattle.definitions.specs.Lists.{all, between}
 use Rattle.definitions.specs.Refusal.{Outcome, refused, done}
 use Rattle.definitions.specs.Matrix.{Matrix}
 use Rattle.definitions.specs.Links.{unconnected}
@@ -26,7 +26,7 @@ use Rattle.laws.proofs.Near.{Near, near-of-eq, near-to-eq}
 use Rattle.laws.proofs.Outcomes.{done-inj, bind-done, done-bind}
 use Rattle.separation.proofs.Stages.{Stages, built, formed-is, stages-of}
 use Rattle.separation.proofs.ApplyApart.{appliedBy, applied-near}
-use Rattle.separation.proofs.Layout.{applied-read}
+use Rattle.separation.proofs.Places.{applied-read}
 
 -- ---- what is done has a result
 
@@ -61,7 +61,7 @@ unfolding applyFormed
 handed-out x ints floats r h =
     let sol = coarseSolution x ints floats r in
     each-right
-    (each (blockCount (x .rows) (x .block)) (λ k. let w = widthOf (x .rows) (x .block) k in blockSolveFormed (blockPart (x .block) w k (factorsIn x floats)) w (part (k * x .block) (k * x .block + w) r))
+    (each (blockCount (x .rows) (x .block)) (λ k. let w = widthOf (x .rows) (x .block) k in blockSolveFormed (blockPart (x .block) w k (factorsIn x floats)) w (between (k * x .block) (k * x .block + w) r))
     ++ each (x .coarse) (λ j. restrictionFormed x ints floats (x .basis) r j)
     ++ coarseSolveFormed (x .policy) (x .coarse) (coarseIn x floats) (restricted x ints floats r)
     ++ each (x .rows) (λ i. gainFormed x ints floats (x .basis) sol i)) h

@@ -7,7 +7,7 @@ use lib.ListN.{length, replicate}
 use lib.Ieee.{Float}
 use borrow.Author.Tests.{eq-eqb, ne-eqb, le-leb, lt-leb}
 use Rattle.definitions.specs.Numbers.{zeroᶠ}
-use Rattle.definitions.specs.Refusal.{refused, keepsAll, numberOf}
+use Rattle.definitions.specs.Refusal.{refused, keepsAll, causeOf}
 use Rattle.definitions.specs.Matrix.{Matrix, validOf}
 use Rattle.definitions.specs.Answers.{answerOf, estimateAnswer}
 use Rattle.definitions.specs.Estimate.{estimateOf, estimateCall, estimateWorkLeft}
@@ -44,18 +44,18 @@ module _ (a : Matrix) (d lent : List Float) where
     sound = accepted-rows a v
 
     pub oblong : (a .cols ≡ a .rows → ⊥) → Left a d lent (NoEstimate NotSquare) lent
-    unfolding estimateCall keepsAll numberOf
+    unfolding estimateCall keepsAll causeOf
     oblong n = kept NotSquare refl (valid-goes a _ v ∙ stops _ _ _ (failed _ _ (ne-eqb (a .cols) (a .rows) n)))
 
     module _ (square : a .cols ≡ a .rows) where
       pub misfit : (length d ≡ a .rows → ⊥) → Left a d lent (NoEstimate (WrongLength (a .rows) (length d))) lent
-      unfolding estimateCall keepsAll numberOf
+      unfolding estimateCall keepsAll causeOf
       misfit n = kept (WrongLength (a .rows) (length d)) refl
           (valid-goes a _ v ∙ goes-on _ tt _ (passed _ _ (eq-eqb (a .cols) (a .rows) square)) ∙ stops _ _ _ (failed _ _ (ne-eqb (length d) (a .rows) n)))
 
       module _ (fits : length d ≡ a .rows) where
         pub short : length lent < 3 * a .rows → Left a d lent (NoEstimate ListTooShort) lent
-        unfolding estimateCall keepsAll numberOf
+        unfolding estimateCall keepsAll causeOf
         short n = kept ListTooShort refl
             (valid-goes a _ v ∙ goes-on _ tt _ (passed _ _ (eq-eqb (a .cols) (a .rows) square)) ∙ goes-on _ tt _ (passed _ _ (eq-eqb (length d) (a .rows) fits))
             ∙ stops _ _ _ (failed _ _ (lt-leb (3 * a .rows) (length lent) n)))

@@ -6,7 +6,7 @@ use mathlib.Core.List.{List, [], _∷_}
 use lib.ListN.{length, replicate}
 use lib.Ieee.{Float, lt}
 use Rattle.definitions.specs.Numbers.{zeroᶠ, usable}
-use Rattle.definitions.specs.Refusal.{Outcome, refused, done, require, _>>=_, keepsAll, numberOf, workLeft}
+use Rattle.definitions.specs.Refusal.{Outcome, refused, done, require, _>>=_, keepsAll, workLeft, causeOf}
 use Rattle.definitions.specs.Matrix.{Matrix}
 use Rattle.definitions.specs.Estimate.{usableFrom, normalised, image, rounds, estimateOf}
 use Rattle.definitions.specs.declared.Refusal.{Refusal}
@@ -31,7 +31,7 @@ unfolding Clears
 clears-done x = tt
 
 clears-diagonal : (i : ℕ) (d : List Float) → Clears (usableFrom i d)
-unfolding usableFrom Clears keepsAll numberOf
+unfolding usableFrom Clears keepsAll causeOf
 clears-diagonal i [] = tt
 clears-diagonal i (x ∷ d) = step (usable x) (lt x zeroᶠ) refl refl (clears-diagonal (suc i) d)
   where
@@ -41,7 +41,7 @@ clears-diagonal i (x ∷ d) = step (usable x) (lt x zeroᶠ) refl refl (clears-d
     step true false p q ih = rw (p, q, usableFrom) ih
 
 clears-normalised : (stage : ℕ) (x : List Float) → Clears (normalised stage x)
-unfolding normalised keepsAll numberOf
+unfolding normalised keepsAll causeOf
 clears-normalised stage x = clears-then _ _ (clears-require _ _ refl) (λ _. clears-done _)
 
 clears-rounds : (a : Matrix) (s : List Float) (k : ℕ) (x : List Float) → Clears (rounds a s k x)
@@ -50,7 +50,7 @@ clears-rounds a s zero x = clears-done x
 clears-rounds a s (suc k) x = clears-then _ _ (clears-normalised 2 (image a s x)) (λ y. clears-rounds a s k y)
 
 clears-estimate : (a : Matrix) (d : List Float) → Clears (estimateOf a d)
-unfolding estimateOf keepsAll numberOf
+unfolding estimateOf keepsAll causeOf
 clears-estimate a d =
     clears-then _ _ (clears-diagonal 0 d) (λ _.
     clears-then _ _ (clears-normalised 1 _) (λ x.

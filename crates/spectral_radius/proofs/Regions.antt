@@ -8,7 +8,7 @@ use native.Mathlib.Nat.{add-zero}
 use lib.ListN.{length, getD, set, take, drop, length-take, length-drop}
 use lib.Seq.{length-take-le, take-take, take-suc-set, drop-set-lt, take-at, drop-at, drop-drop, getD-take, getD-drop}
 use lib.Ieee.{Float, nan}
-use Rattle.definitions.specs.Lists.{tab, part}
+use Rattle.definitions.specs.Lists.{tab, between}
 use Rattle.definitions.specs.Numbers.{_/ᶠ_}
 use Rattle.definitions.specs.Matrix.{Matrix}
 use Rattle.laws.proofs.Lists.{tab-cong}
@@ -18,7 +18,7 @@ use Rattle.spectral_radius.proofs.Sums.{map-tab}
 
 -- ---- parts
 
-pub part-slice : {A : Type 0} (a e : ℕ) (w : List A) → part a e w ≡ drop a (take e w)
+pub part-slice : {A : Type 0} (a e : ℕ) (w : List A) → between a e w ≡ drop a (take e w)
 part-slice zero e w = let z : e - 0 ≡ e = omega arith in rw z
 part-slice (suc a) zero w = let z : 0 - suc a ≡ 0 = omega arith in rw z
 part-slice (suc a) (suc e) [] = none (suc e - suc a)
@@ -32,17 +32,17 @@ part-slice (suc a) (suc e) (x ∷ w) = let z : suc e - suc a ≡ e - a = omega a
 pub same-front : {A : Type 0} (n m : ℕ) (w v : List A) → n ≤ m → take m w ≡ take m v → take n w ≡ take n v
 same-front n m w v h e = sym (take-take n m w h) ∙ ap (λ l. take n l) e ∙ take-take n m v h
 
-pub same-part : {A : Type 0} (a n m : ℕ) (w v : List A) → n ≤ m → take m w ≡ take m v → part a n w ≡ part a n v
+pub same-part : {A : Type 0} (a n m : ℕ) (w v : List A) → n ≤ m → take m w ≡ take m v → between a n w ≡ between a n v
 same-part a n m w v h e = rw (part-slice a n w, part-slice a n v, same-front n m w v h e)
 
-pub length-part : {A : Type 0} (a e : ℕ) (w : List A) → e ≤ length w → length (part a e w) ≡ e - a
+pub length-part : {A : Type 0} (a e : ℕ) (w : List A) → e ≤ length w → length (between a e w) ≡ e - a
 length-part a e w h = length-take (e - a) (drop a w) ∙ rw (length-drop a w) (omega arith)
 
 -- a front that is known in two pieces
 pub first-piece : {A : Type 0} (n m : ℕ) (w p q : List A) → n ≤ m → length p ≡ n → take m w ≡ p ++ q → take n w ≡ p
 first-piece n m w p q h l e = sym (take-take n m w h) ∙ ap (λ t. take n t) e ∙ take-at p q n l
 
-pub second-piece : {A : Type 0} (n m : ℕ) (w p q : List A) → length p ≡ n → take m w ≡ p ++ q → part n m w ≡ q
+pub second-piece : {A : Type 0} (n m : ℕ) (w p q : List A) → length p ≡ n → take m w ≡ p ++ q → between n m w ≡ q
 second-piece n m w p q l e = part-slice n m w ∙ ap (λ t. drop n t) e ∙ drop-at p q n l
 
 -- ---- a region from m on that is filled up to i

@@ -4,7 +4,7 @@ use mathlib.Core.Bool.{Bool, true, false}
 use mathlib.Core.List.{List, map}
 use lib.ListN.{length, getD}
 use lib.Ieee.{Float, nan}
-use Rattle.definitions.specs.Lists.{part}
+use Rattle.definitions.specs.Lists.{between}
 use Rattle.definitions.specs.Numbers.{_*ᶠ_, zeroᶠ, total, above}
 use Rattle.definitions.specs.Refusal.{Outcome, refused, done, require, _>>=_}
 use Rattle.definitions.specs.Matrix.{Matrix, Entry}
@@ -17,11 +17,11 @@ Below n l = (k : ℕ) → k < length l → getD l k 0 < n
 
 -- the vector of a work list
 abbrev pub vectorIn : ℕ → List Float → List Float
-vectorIn rows w = part rows (rows + rows) w
+vectorIn rows w = between rows (rows + rows) w
 
 -- and its image
 abbrev pub imageIn : ℕ → List Float → List Float
-imageIn rows w = part (rows + rows) (rows + rows + rows) w
+imageIn rows w = between (rows + rows) (rows + rows + rows) w
 
 -- element i of the image of x
 abbrev pub imageAt : Matrix → List Float → List Float → ℕ → Float

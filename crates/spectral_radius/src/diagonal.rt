@@ -7,7 +7,7 @@ ghost use Rattle.definitions.specs.Answers.{answerOf};
 ghost use Rattle.definitions.specs.Estimate.{usableFrom, inverseRoots};
 
 // Causes 20 and 21, row by row.
-pub fn check(d: &[f64]) -> Answer
+pub(crate) fn check(d: &[f64]) -> Answer
     ensures { λ r. ⌜ r ≡ answerOf (usableFrom 0 (now (d .entry))) ⌝ }
 {
     let mut i: usize = 0;
@@ -26,7 +26,7 @@ pub fn check(d: &[f64]) -> Answer
 }
 
 // 1 over the root of each number.
-pub fn inverse_roots(d: &[f64], s: &mut [f64])
+pub(crate) fn inverse_roots(d: &[f64], s: &mut [f64])
     requires { ⌜ length (now d) ≡ length (now s) ⌝ }
     ensures { λ _. ⌜ now (s .exit) ≡ inverseRoots (now (d .entry)) ⌝ }
 {

@@ -11,7 +11,7 @@ ghost use Rattle.definitions.specs.Estimate.{startOf, norm as normOf, normalise
 ghost use Rattle.spectral_radius.specs.Power.{outcomeOf};
 
 // The products of x and y, summed from -0 as the source's `sum` does.
-pub fn dot(x: &[f64], y: &[f64]) -> f64
+pub(crate) fn dot(x: &[f64], y: &[f64]) -> f64
     requires { ⌜ length (now x) ≡ length (now y) ⌝ }
     ensures { λ r. ⌜ r ≡ summed (tab (λ k. getD (now (x .entry)) k nan *ᶠ getD (now (y .entry)) k nan) (length (now (x .entry)))) ⌝ }
 {
@@ -22,7 +22,7 @@ pub fn dot(x: &[f64], y: &[f64]) -> f64
     sum
 }
 
-pub fn divide(x: &mut [f64], norm: f64)
+pub(crate) fn divide(x: &mut [f64], norm: f64)
     ensures { λ _. ⌜ now (x .exit) ≡ map (λ v. v /ᶠ norm) (now (x .entry)) ⌝ }
 {
     for k in 0..x.len() {
@@ -39,7 +39,7 @@ fn start_at(i: usize) -> f64
     1.0 + k as f64
 }
 
-pub fn start(x: &mut [f64])
+pub(crate) fn start(x: &mut [f64])
     requires { ⌜ length (now x) ≤ maxRows ⌝ }
     ensures { λ _. ⌜ now (x .exit) ≡ startOf (length (now (x .entry))) ⌝ }
 {
@@ -48,14 +48,14 @@ pub fn start(x: &mut [f64])
     }
 }
 
-pub fn norm(x: &[f64]) -> f64
+pub(crate) fn norm(x: &[f64]) -> f64
     ensures { λ r. ⌜ r ≡ normOf (now (x .entry)) ⌝ }
 {
     root::root(dot(x, x))
 }
 
 // The starting vector over its norm. False where that is zero or not finite: stage 1.
-pub fn begin(x: &mut [f64]) -> bool
+pub(crate) fn begin(x: &mut [f64]) -> bool
     requires { ⌜ length (now x) ≤ maxRows ⌝ }
     ensures { λ r. ⌜ outcomeOf 1 r (now (x .exit)) ≡ normalised 1 (startOf (length (now (x .entry)))) ⌝ }
 {

@@ -7,7 +7,7 @@ use native.Mathlib.Numerals.{add-one}
 use native.Mathlib.Nat.{add-zero}
 use lib.ListN.{length, getD, set, take, drop, length-drop}
 use lib.Seq.{take-suc, take-suc-set, getD-drop}
-use Rattle.definitions.specs.Lists.{part}
+use Rattle.definitions.specs.Lists.{between}
 
 module _ {A : Type 0} (to : ℕ) (l₀ : List A) where
   pub front-none : take (to + 0) l₀ ≡ take to l₀ ++ []
@@ -18,10 +18,10 @@ module _ {A : Type 0} (to : ℕ) (l₀ : List A) where
       let z : to + (k + 1) ≡ suc (to + k) = omega arith in
       rw (z, take-suc-set l (to + k) v h, e, ev, append-assoc (take to l₀) q (x ∷ []))
 
-pub part-none : {A : Type 0} (from : ℕ) (l : List A) → part from (from + 0) l ≡ []
+pub part-none : {A : Type 0} (from : ℕ) (l : List A) → between from (from + 0) l ≡ []
 part-none from l = let z : from + 0 - from ≡ 0 = omega arith in rw z
 
-pub part-more : {A : Type 0} (d : A) (from k : ℕ) (l : List A) → from + k < length l → part from (from + (k + 1)) l ≡ part from (from + k) l ++ (getD l (from + k) d ∷ [])
+pub part-more : {A : Type 0} (d : A) (from k : ℕ) (l : List A) → from + k < length l → between from (from + (k + 1)) l ≡ between from (from + k) l ++ (getD l (from + k) d ∷ [])
 part-more d from k l h =
     let y : from + (k + 1) - from ≡ suc k = omega arith in
     let z : from + k - from ≡ k = omega arith in

@@ -7,7 +7,7 @@ use native.Mathlib.Numerals.{add-one}
 use lib.ListN.{length, getD, set, take, drop, length-append, length-take, length-drop, List·getD-append, length-map}
 use lib.Seq.{length-take-le, take-take, drop-at, take-append-le, drop-append-le, take-suc-set, drop-set-lt, take-add}
 use lib.Ieee.{Float, nan}
-use Rattle.definitions.specs.Lists.{tab, part, pointersFrom, joinedLists}
+use Rattle.definitions.specs.Lists.{tab, between, pointersFrom, joinedLists}
 use Rattle.definitions.specs.Matrix.{Entry}
 use Rattle.laws.proofs.Lists.{tab-cong}
 use Rattle.laws.proofs.Growing.{tab-snoc, flatMap-snoc}
@@ -16,7 +16,7 @@ use Rattle.transfer.specs.Weights.{Parted, Put, Built}
 
 -- ---- parts
 
-pub part-slice : {A : Type 0} (a e : ℕ) (w : List A) → part a e w ≡ drop a (take e w)
+pub part-slice : {A : Type 0} (a e : ℕ) (w : List A) → between a e w ≡ drop a (take e w)
 part-slice zero e w = let z : e - 0 ≡ e = omega arith in rw z
 part-slice (suc a) zero w = let z : 0 - suc a ≡ 0 = omega arith in rw z
 part-slice (suc a) (suc e) [] = none (suc e - suc a)
@@ -34,7 +34,7 @@ module _ {A : Type 0} (first : ℕ) (l t post : List A) (h : first ≤ length l)
   pub mid-drop : drop first (take first l ++ (t ++ post)) ≡ t ++ post
   mid-drop = drop-at (take first l) (t ++ post) first (length-take-le first l h)
 
-  pub mid-part : (n : ℕ) → n ≤ length t → part first (first + n) (take first l ++ (t ++ post)) ≡ take n t
+  pub mid-part : (n : ℕ) → n ≤ length t → between first (first + n) (take first l ++ (t ++ post)) ≡ take n t
   mid-part n q = let z : first + n - first ≡ n = omega arith in rw (z, mid-drop) (take-append-le n t post q)
 
 pub read-front : (c : ℕ) (w post : List Float) (js : List ℕ) → c ≤ length w → Below c js → map (λ j. getD (w ++ post) j nan) js ≡ map (λ j. getD w j nan) js
@@ -46,22 +46,22 @@ read-front c w post (j ∷ js) l b =
 -- ---- one row more
 
 module _ (c : ℕ) (row : List Entry) (first base cols at n : ℕ) (l₀ t pt l₂ : List ℕ) (f₀ w pf f₂ : List Float) (p : Parted c row t w n) (lt : length t ≡ c) (lw : length w ≡ c) (hl : first ≤ length l₀) (hf : base ≤ length f₀) (hc : cols + at ≤ first) (ha : at ≤ base)
-    (el : take (cols + at + n) l₂ ≡ take (cols + at) (take first l₀ ++ (t ++ pt)) ++ part first (first + n) (take first l₀ ++ (t ++ pt)))
-    (ef : take (at + length (part first (first + n) (take first l₀ ++ (t ++ pt)))) f₂ ≡ take at (take base f₀ ++ (w ++ pf)) ++ map (λ j. getD (drop base (take base f₀ ++ (w ++ pf))) j nan) (part first (first + n) (take first l₀ ++ (t ++ pt)))) where
-  columns-are : part first (first + n) (take first l₀ ++ (t ++ pt)) ≡ map (λ (e : Entry). e .col) row
+    (el : take (cols + at + n) l₂ ≡ take (cols + at) (take first l₀ ++ (t ++ pt)) ++ between first (first + n) (take first l₀ ++ (t ++ pt)))
+    (ef : take (at + length (between first (first + n) (take first l₀ ++ (t ++ pt)))) f₂ ≡ take at (take base f₀ ++ (w ++ pf)) ++ map (λ j. getD (drop base (take base f₀ ++ (w ++ pf))) j nan) (between first (first + n) (take first l₀ ++ (t ++ pt)))) where
+  columns-are : between first (first + n) (take first l₀ ++ (t ++ pt)) ≡ map (λ (e : Entry). e .col) row
   columns-are = mid-part first l₀ t pt hl n (p .room) ∙ p .columns
 
   pub row-put : Put cols row at l₀ l₂ f₀ f₂ (at + n)
   row-put = record {
     columns = let z : cols + (at + n) ≡ cols + at + n = omega arith in rw z (el ∙ rw (mid-front first l₀ t pt hl (cols + at) hc, columns-are));
     weights =
-        let m : length (part first (first + n) (take first l₀ ++ (t ++ pt))) ≡ n = ap length columns-are ∙ length-map row (λ (e : Entry). e .col) ∙ sym (p .many) in
+        let m : length (between first (first + n) (take first l₀ ++ (t ++ pt))) ≡ n = ap length columns-are ∙ length-map row (λ (e : Entry). e .col) ∙ sym (p .many) in
         let g = rw (m, columns-are, mid-front base f₀ w pf hf at ha, mid-drop base f₀ w pf hf) at ef in
         g ∙ ap (λ q. take at f₀ ++ q) (read-front c w pf (map (λ (e : Entry). e .col) row) (omega arith) (rw (p .columns) at (p .inside)) ∙ p .values);
     many = ap (λ k. at + k) (p .many);
   }
 
-pub length-part : {A : Type 0} (a k : ℕ) (w : List A) → a + k ≤ length w → length (part a (a + k) w) ≡ k
+pub length-part : {A : Type 0} (a k : ℕ) (w : List A) → a + k ≤ length w → length (between a (a + k) w) ≡ k
 length-part a k w h = length-take (a + k - a) (drop a w) ∙ rw (length-drop a w) (omega arith)
 
 -- ---- all rows
@@ -108,7 +108,7 @@ pointers-law f n = rw (add-one n) (tab-cong (λ k. length (before f k)) (λ k. 0
 pub record Rowed (f : ℕ → List Entry) (cols i at : ℕ) (ints : List ℕ) (floats : List Float) : Type 0 where
   pub many : at ≡ length (before f i)
   pub pointers : take (i + 1) ints ≡ tab (λ k. length (before f k)) (i + 1)
-  pub columns : part cols (cols + at) ints ≡ map (λ (e : Entry). e .col) (before f i)
+  pub columns : between cols (cols + at) ints ≡ map (λ (e : Entry). e .col) (before f i)
   pub weights : take at floats ≡ map (λ (e : Entry). e .value) (before f i)
 
 pub rowed-none : (f : ℕ → List Entry) (cols : ℕ) (ints : List ℕ) (floats : List Float) → 0 < length ints → Rowed f cols 0 0 (set ints 0 0) floats

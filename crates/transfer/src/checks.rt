@@ -10,7 +10,7 @@ ghost use Rattle.definitions.specs.Matrix.{maxRows, maxEntries};
 ghost use Rattle.definitions.specs.Answers.{answerOf};
 ghost use Rattle.transfer.specs.Call.{shapeChecked, groupsChecked, roomChecked};
 
-pub fn shape(rows: usize, cols: usize, size: usize, diagonal: usize) -> Answer
+pub(crate) fn shape(rows: usize, cols: usize, size: usize, diagonal: usize) -> Answer
     ensures { λ r. ⌜ r ≡ answerOf (shapeChecked rows cols size diagonal) ⌝ }
 {
     if cols != rows {
@@ -47,7 +47,7 @@ fn id_outside(ids: &[u32], groups: usize) -> bool
     false
 }
 
-pub fn groups(rows: usize, size: usize, ids: &[u32], count: usize) -> Answer
+pub(crate) fn groups(rows: usize, size: usize, ids: &[u32], count: usize) -> Answer
     requires { ⌜ (rows ≤ maxRows) × (1 ≤ size) × (size ≤ 8) ⌝ }
     ensures { λ r. ⌜ r ≡ answerOf (groupsChecked rows size (now (ids .entry)) count) ⌝ }
 {
@@ -67,7 +67,7 @@ pub fn groups(rows: usize, size: usize, ids: &[u32], count: usize) -> Answer
     Answer::Accepted
 }
 
-pub fn room(rows: usize, entries: usize, c: usize, ints: usize, floats: usize) -> Answer
+pub(crate) fn room(rows: usize, entries: usize, c: usize, ints: usize, floats: usize) -> Answer
     requires { ⌜ (rows ≤ maxRows) × (entries ≤ maxEntries) × (c ≤ 2_048) ⌝ }
     ensures { λ r. ⌜ r ≡ answerOf (roomChecked rows entries c ints floats) ⌝ }
 {

@@ -94,7 +94,7 @@ fn put_pointer(ints: &mut [u32], i: usize, at: usize)
 }
 
 // All rows: pointers and columns at the front of one list, weights at the front of the other; returns how many these are.
-pub fn build(
+pub(crate) fn build(
     rows: usize,
     ptr: &[u32],
     idx: &[u32],

@@ -25,7 +25,7 @@ fn clear_new(w: &mut [f64], j: usize, n: usize, more: usize)
 }
 
 // The entries from..to, of which the coarse columns join the first count and the weights are taken off; returns how many columns there are now.
-pub fn accumulate(
+pub(crate) fn accumulate(
     idx: &[u32],
     vals: &[f64],
     ids: &[u32],

@@ -5,13 +5,13 @@ ghost use mathlib.Core.List.{_++_, map};
 ghost use Prim.Native.Nat.{_+_, _-_, _≤_};
 ghost use lib.ListN.{length, getD, take, drop};
 ghost use lib.Ieee.{nan};
-ghost use Rattle.definitions.specs.Lists.{part};
+ghost use Rattle.definitions.specs.Lists.{between};
 ghost use Rattle.transfer.specs.Touched.{Below};
 
 // Copies n columns from a later place of the list to an earlier one.
-pub fn put_columns(l: &mut [u32], to: usize, from: usize, n: usize)
+pub(crate) fn put_columns(l: &mut [u32], to: usize, from: usize, n: usize)
     requires { ⌜ (to + n ≤ from) × (from + n ≤ length (now l)) ⌝ }
-    ensures { λ _. ⌜ take (to + n) (now (l .exit)) ≡ take to (now (l .entry)) ++ part from (from + n) (now (l .entry)) ⌝ }
+    ensures { λ _. ⌜ take (to + n) (now (l .exit)) ≡ take to (now (l .entry)) ++ between from (from + n) (now (l .entry)) ⌝ }
 {
     for k in 0..n {
         let j = l[from + k];
@@ -20,7 +20,7 @@ pub fn put_columns(l: &mut [u32], to: usize, from: usize, n: usize)
 }
 
 // Copies the weights of the columns t from their places behind base.
-pub fn put_weights(l: &mut [f64], to: usize, base: usize, t: &[u32])
+pub(crate) fn put_weights(l: &mut [f64], to: usize, base: usize, t: &[u32])
     requires { ⌜ (to + length (now t) ≤ base) × (base ≤ length (now l)) × Below (length (now l) - base) (now t) ⌝ }
     ensures { λ _. ⌜ take (to + length (now (t .entry))) (now (l .exit)) ≡ take to (now (l .entry)) ++ map (λ j. getD (drop base (now (l .entry))) j nan) (now (t .entry)) ⌝ }
 {

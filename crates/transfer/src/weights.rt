@@ -28,7 +28,7 @@ fn zero_at(w: &mut [f64], t: &[u32])
 }
 
 // Takes an entry off at its coarse column j.
-pub fn take_off(w: &mut [f64], j: usize, damping: f64, value: f64, inv: f64)
+pub(crate) fn take_off(w: &mut [f64], j: usize, damping: f64, value: f64, inv: f64)
     requires { ⌜ j < length (now w) ⌝ }
     ensures { λ _. ⌜ now (w .exit) ≡ set (now (w .entry)) j (getD (now (w .entry)) j nan -ᶠ damping *ᶠ value *ᶠ inv) ⌝ }
 {
@@ -89,7 +89,7 @@ fn weigh(
 
 // The columns that a row touches at the front of t, or every column, and its weights at their places; returns how many columns these are.
 // Inserting costs the square of a row's columns, a pass over all costs c, at most 2,048: long rows take the pass.
-pub fn weigh_row(
+pub(crate) fn weigh_row(
     idx: &[u32],
     vals: &[f64],
     ids: &[u32],
@@ -146,7 +146,7 @@ fn advance(w: &[f64], j: usize, r: usize) -> usize
 }
 
 // Keeps those of the first count columns whose weight is not zero; returns how many they are.
-pub fn compress(t: &mut [u32], count: usize, w: &[f64]) -> usize
+pub(crate) fn compress(t: &mut [u32], count: usize, w: &[f64]) -> usize
     requires { ⌜ (count ≤ length (now t)) × (count ≤ 2 ^ 32) × Below (length (now w)) (take count (now t)) ⌝ }
     ensures { λ r. ⌜ Gathered (now (t .exit)) r (keep (counts (now (w .entry))) (take count (now (t .entry)))) × (r ≤ count) ⌝ }
 {

@@ -7,7 +7,7 @@ use native.Mathlib.Nat.{min-eq-left, mul-le-mul-right}
 use lib.Arith.{digits-div}
 use lib.ListN.{length}
 use lib.Ieee.{Float}
-use Rattle.definitions.specs.Lists.{upTo, part}
+use Rattle.definitions.specs.Lists.{upTo, between}
 use Rattle.definitions.specs.Block.{blockCount, widthOf, backward, forward, blockSolve, blockPart, blockApplied}
 use Rattle.laws.proofs.Lists.{length-rows}
 
@@ -33,5 +33,5 @@ module _ (nodes size : ℕ) (some : 0 < size) where
   unfolding blockApplied upTo
   blocks-length rows factors r e =
       rw (e, count-is)
-      (length-rows (λ k. blockSolve (blockPart size (widthOf (nodes * size) size k) k factors) (widthOf (nodes * size) size k) (part (k * size) (k * size + widthOf (nodes * size) size k) r)) size (λ k. k) nodes
-      (λ k h. solve-length (blockPart size (widthOf (nodes * size) size k) k factors) (widthOf (nodes * size) size k) (part (k * size) (k * size + widthOf (nodes * size) size k) r) ∙ width-is k h))
+      (length-rows (λ k. blockSolve (blockPart size (widthOf (nodes * size) size k) k factors) (widthOf (nodes * size) size k) (between (k * size) (k * size + widthOf (nodes * size) size k) r)) size (λ k. k) nodes
+      (λ k h. solve-length (blockPart size (widthOf (nodes * size) size k) k factors) (widthOf (nodes * size) size k) (between (k * size) (k * size + widthOf (nodes * size) size k) r) ∙ width-is k h))

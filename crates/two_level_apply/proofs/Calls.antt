@@ -11,7 +11,7 @@ use lib.Ieee.{Float}
 use borrow.Author.Tests.{eq-eqb, ne-eqb, le-leb, lt-leb}
 use Rattle.definitions.specs.Lists.{tab, padded}
 use Rattle.definitions.specs.Numbers.{_*ᶠ_, zeroᶠ, summed}
-use Rattle.definitions.specs.Refusal.{Outcome, refused, done, require, _>>=_, keepsAll, resultLeft, workLeft, numberOf}
+use Rattle.definitions.specs.Refusal.{Outcome, refused, done, require, _>>=_, keepsAll, resultLeft, workLeft, causeOf}
 use Rattle.definitions.specs.Answers.{answerOf}
 use Rattle.definitions.specs.Coarse.{coarseLength, coarseSolve, packedBackward, packedForward, packedSolve, entryIn}
 use Rattle.definitions.specs.Fits.{setupFits}
@@ -113,13 +113,13 @@ module _ (s : Setup) (ints : List ℕ) (floats r lent work : List Float) where
 
 -- 13, 25 and 26 keep all
 pub short-keeps : keepsAll ListTooShort ≡ true
-unfolding keepsAll numberOf
+unfolding keepsAll causeOf
 short-keeps = refl
 
 pub length-keeps : (expected actual : ℕ) → keepsAll (WrongLength expected actual) ≡ true
-unfolding keepsAll numberOf
+unfolding keepsAll causeOf
 length-keeps expected actual = refl
 
 pub misfit-keeps : keepsAll SetupMisfit ≡ true
-unfolding keepsAll numberOf
+unfolding keepsAll causeOf
 misfit-keeps = refl

@@ -10,7 +10,7 @@ use lib.Ieee.{Float, nan}
 use Rattle.definitions.specs.Lists.{tab}
 use Rattle.definitions.specs.Numbers.{_+ᶠ_, _*ᶠ_, summed}
 use Rattle.definitions.specs.Matrix.{rowOf, stored}
-use Rattle.definitions.specs.Apply.{weightedParts}
+use Rattle.definitions.specs.Apply.{prolongationTerms}
 use Rattle.laws.proofs.Growing.{tab-none, tab-more, tab-all, tab-unread}
 use Rattle.two_level_apply.specs.Scatter.{put, bump, scatter, scattered, single, gainPuts}
 use Rattle.two_level_apply.proofs.Scattering.{single-step}
@@ -33,20 +33,20 @@ module _ (x : ℕ → Float) (z : List Float) where
 module _ (idx : List ℕ) (vals sol : List Float) (to : ℕ) where
   -- the sum so far, and what the weights from k on add to it
   abbrev pub sumLeft : ℕ → Float → Float
-  sumLeft k s = foldl (λ a v. a +ᶠ v) s (weightedParts (stored idx vals k to) sol)
+  sumLeft k s = foldl (λ a v. a +ᶠ v) s (prolongationTerms (stored idx vals k to) sol)
 
   pub sum-step : (k at : ℕ) (s t : Float) → k < to → to ≤ length idx → to ≤ length vals → at ≡ getD idx k 0 → sumLeft k s ≡ t
       → sumLeft (k + 1) (s +ᶠ getD vals k nan *ᶠ getD sol at nan) ≡ t
-  unfolding weightedParts zipWith
+  unfolding prolongationTerms zipWith
   sum-step k at s t h p q ea inv = rw (ea, add-one) (rw (slice-cons k to idx 0 h p, slice-cons k to vals nan h q) at inv)
 
   pub sum-done : (s t : Float) → sumLeft to s ≡ t → s ≡ t
-  unfolding weightedParts zipWith
+  unfolding prolongationTerms zipWith
   sum-done s t e = rw (slice-empty to idx) at e
 
 pub row-gain : (ptr idx : List ℕ) (vals sol l₀ l m : List Float) (i from to : ℕ) (v : Float)
     → l ≡ scattered (gainPuts (rowOf ptr idx vals) sol) i l₀ → from ≡ getD ptr i 0 → to ≡ getD ptr (i + 1) 0
-    → v ≡ summed (weightedParts (stored idx vals from to) sol) → m ≡ bump l (put i v) → m ≡ scattered (gainPuts (rowOf ptr idx vals) sol) (i + 1) l₀
+    → v ≡ summed (prolongationTerms (stored idx vals from to) sol) → m ≡ bump l (put i v) → m ≡ scattered (gainPuts (rowOf ptr idx vals) sol) (i + 1) l₀
 unfolding rowOf
 row-gain ptr idx vals sol l₀ l m i from to v e ef et ev em =
-    single-step (λ k. k) (λ k. summed (weightedParts (rowOf ptr idx vals k) sol)) l₀ l m i i v e refl (rw (ev, ef, et, add-one)) em
+    single-step (λ k. k) (λ k. summed (prolongationTerms (rowOf ptr idx vals k) sol)) l₀ l m i i v e refl (rw (ev, ef, et, add-one)) em

@@ -14,7 +14,7 @@ use Rattle.definitions.specs.Lists.{tab, upTo, keep}
 use Rattle.definitions.specs.Numbers.{_*ᶠ_, zeroᶠ, total}
 use Rattle.definitions.specs.Matrix.{Entry, valuesWhere, rowOf, stored}
 use Rattle.definitions.specs.Transfer.{coarseColumn}
-use Rattle.definitions.specs.Apply.{constantParts, smoothedParts}
+use Rattle.definitions.specs.Apply.{constantRestrictionTerms, smoothedRestrictionTerms}
 use Rattle.laws.proofs.Lists.{each-any, flatMap-cong}
 use Rattle.laws.proofs.Kept.{flatMap-keep, flatMap-one}
 use Rattle.csr32.proofs.Stored.{where-hit, where-miss, where-none}
@@ -33,8 +33,8 @@ zeros-tab (suc n) = ap (λ l. zeroᶠ ∷ l) (zeros-tab n)
 
 -- ---- PiecewiseConstant
 
-constant-parts : (column : ℕ → ℕ) (r : List Float) (j : ℕ) → flatMap (λ i. putsAt j (restrictPuts column r i)) (upTo (length r)) ≡ constantParts column r j
-unfolding constantParts
+constant-parts : (column : ℕ → ℕ) (r : List Float) (j : ℕ) → flatMap (λ i. putsAt j (restrictPuts column r i)) (upTo (length r)) ≡ constantRestrictionTerms column r j
+unfolding constantRestrictionTerms
 constant-parts column r j =
     flatMap-keep (λ i. eqb (column i) j) (λ i. putsAt j (restrictPuts column r i)) (λ i. getD r i nan ∷ [])
     (λ i q. where-hit (λ k. eqb k j) (put (column i) (getD r i nan)) [] q ∙ rw (where-none (λ k. eqb k j)))
@@ -43,8 +43,8 @@ constant-parts column r j =
     ∙ flatMap-one (λ i. getD r i nan) (keep (λ i. eqb (column i) j) (upTo (length r)))
 
 pub constant-law : (column : ℕ → ℕ) (r z l : List Float) (c : ℕ) → z ≡ replicate c zeroᶠ → l ≡ scattered (restrictPuts column r) (length r) z
-    → l ≡ tab (λ j. total (constantParts column r j)) c
-constant-law column r z l c p q = rw (q, p, zeros-tab c) (scatter-law (restrictPuts column r) (length r) c (constantParts column r) (constant-parts column r))
+    → l ≡ tab (λ j. total (constantRestrictionTerms column r j)) c
+constant-law column r z l c p q = rw (q, p, zeros-tab c) (scatter-law (restrictPuts column r) (length r) c (constantRestrictionTerms column r) (constant-parts column r))
 
 -- ---- JacobiSmoothed
 
@@ -59,15 +59,15 @@ where-scaled p x (e ∷ es) = step (p (e .col)) refl (where-scaled p x es)
     step true k ih = where-hit p m (scaled x es) k ∙ rw (ih, where-hit p e es k)
     step false k ih = where-miss p m (scaled x es) k ∙ rw (ih, where-miss p e es k)
 
-smoothed-parts : (transfer : ℕ → List Entry) (r : List Float) (j : ℕ) → flatMap (λ i. putsAt j (scaledPuts transfer r i)) (upTo (length r)) ≡ smoothedParts transfer r j
-unfolding smoothedParts
+smoothed-parts : (transfer : ℕ → List Entry) (r : List Float) (j : ℕ) → flatMap (λ i. putsAt j (scaledPuts transfer r i)) (upTo (length r)) ≡ smoothedRestrictionTerms transfer r j
+unfolding smoothedRestrictionTerms
 smoothed-parts transfer r j =
     flatMap-cong (λ i. putsAt j (scaledPuts transfer r i)) (λ i. map (λ w. w *ᶠ getD r i nan) (valuesWhere (λ k. eqb k j) (transfer i)))
     (each-any (upTo (length r)) (λ i. where-scaled (λ k. eqb k j) (getD r i nan) (transfer i)))
 
 pub smoothed-law : (transfer : ℕ → List Entry) (r z l : List Float) (c : ℕ) → z ≡ replicate c zeroᶠ → l ≡ scattered (scaledPuts transfer r) (length r) z
-    → l ≡ tab (λ j. total (smoothedParts transfer r j)) c
-smoothed-law transfer r z l c p q = rw (q, p, zeros-tab c) (scatter-law (scaledPuts transfer r) (length r) c (smoothedParts transfer r) (smoothed-parts transfer r))
+    → l ≡ tab (λ j. total (smoothedRestrictionTerms transfer r j)) c
+smoothed-law transfer r z l c p q = rw (q, p, zeros-tab c) (scatter-law (scaledPuts transfer r) (length r) c (smoothedRestrictionTerms transfer r) (smoothed-parts transfer r))
 
 module _ (idx : List ℕ) (vals : List Float) (x : Float) (to : ℕ) where
   -- what the weights from k on put

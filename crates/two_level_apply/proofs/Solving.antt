@@ -7,7 +7,7 @@ use native.Mathlib.Omega.{arith}
 use lib.ListN.{length, getD, take, drop, replicate, length-drop}
 use lib.Seq.{take-at, take-all}
 use lib.Ieee.{Float, nan}
-use Rattle.definitions.specs.Lists.{tab, padded, part}
+use Rattle.definitions.specs.Lists.{tab, padded, between}
 use Rattle.definitions.specs.Numbers.{_+ᶠ_, zeroᶠ}
 use Rattle.definitions.specs.Refusal.{resultLeft}
 use Rattle.definitions.specs.Block.{blockApplied}
@@ -21,7 +21,7 @@ use Rattle.two_level_apply.proofs.Parts.{bounds, weights-room}
 use Rattle.two_level_apply.proofs.Calls.{solve-done, solution-length, padded-front, padded-cleared}
 
 -- a part up to the end
-rest-is : (a : ℕ) (l : List Float) → part a (length l) l ≡ drop a l
+rest-is : (a : ℕ) (l : List Float) → between a (length l) l ≡ drop a l
 rest-is a l = take-all (length l - a) (drop a l) (rw (length-drop a l) (omega arith))
 
 tail-long : (n a k : ℕ) → a + k ≤ n → k ≤ n - a
@@ -38,7 +38,7 @@ module _ (s : Setup) (ints : List ℕ) (floats : List Float) (fits : setupFits s
   stored-room = rw (length-drop start floats) (tail-long (length floats) start len (weights-room s ints floats fits))
 
   pub coarse-left : (work m : List Float) → 2 * s .coarse ≤ length work
-      → m ≡ resultLeft zeroᶠ (coarseSolveCall (s .policy) (s .coarse) (part (s .rows * s .block + s .transfers) (length floats) floats) work) work
+      → m ≡ resultLeft zeroᶠ (coarseSolveCall (s .policy) (s .coarse) (between (s .rows * s .block + s .transfers) (length floats) floats) work) work
       → m ≡ padded zeroᶠ (length work) (coarseSolve (s .policy) (s .coarse) (coarseIn s floats) (take (s .coarse) work))
   unfolding resultLeft
   coarse-left work m h e =

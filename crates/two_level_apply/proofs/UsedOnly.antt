@@ -6,20 +6,20 @@ use native.Mathlib.Omega.{arith}
 use lib.ListN.{take, getD}
 use lib.Seq.{take-take}
 use lib.Ieee.{Float, nan}
-use Rattle.definitions.specs.Lists.{part}
+use Rattle.definitions.specs.Lists.{between}
 use Rattle.definitions.specs.Numbers.{_+ᶠ_, total}
 use Rattle.definitions.specs.Block.{blockApplied}
 use Rattle.definitions.specs.Coarse.{coarseLength}
 use Rattle.definitions.specs.Fits.{idsIn, pointersIn, columnsIn, factorsIn, weightsIn, coarseIn, usedInts, usedFloats}
 use Rattle.definitions.specs.Transfer.{coarseColumn}
-use Rattle.definitions.specs.Apply.{constantParts, smoothedParts, restrictedParts, restricted, coarseSolution, gained, applied}
+use Rattle.definitions.specs.Apply.{constantRestrictionTerms, smoothedRestrictionTerms, restrictionTerms, restricted, coarseSolution, gained, applied}
 use Rattle.definitions.specs.declared.Setup.{Setup}
 use Rattle.definitions.specs.declared.TwoLevelBasis.{TwoLevelBasis}
 use Rattle.laws.proofs.Lists.{tab-cong}
 use Rattle.definitions.specs.declared.TwoLevelBasis.the-variants.{PiecewiseConstant, JacobiSmoothed}
 
 -- a part that ends at or before n
-part-within : {A : Type 0} (a e n : ℕ) (l : List A) → e ≤ n → part a e (take n l) ≡ part a e l
+part-within : {A : Type 0} (a e n : ℕ) (l : List A) → e ≤ n → between a e (take n l) ≡ between a e l
 part-within zero e n l h = take-take (e - 0) n l (omega arith)
 part-within (suc a) e zero l h = let z : e - suc a ≡ 0 = omega arith in rw z
 part-within (suc a) e (suc n) [] h = refl
@@ -58,9 +58,9 @@ module _ (s : Setup) (ints : List ℕ) (floats : List Float) where
   unfolding usedInts
   columns-kept e = rw e (part-within (s .nodes + s .rows + 1) (s .nodes + s .rows + 1 + s .transfers) (s .nodes + s .rows + 1 + s .transfers) ints (omega arith))
 
-  parts-kept : (b : TwoLevelBasis) → s .basis ≡ b → (r : List Float) (j : ℕ) → restrictedParts s firstInts firstFloats b r j ≡ restrictedParts s ints floats b r j
-  unfolding restrictedParts smoothedParts
-  parts-kept PiecewiseConstant e r j = ap (λ ids. constantParts (coarseColumn (s .block) ids) r j) (ids-kept e)
+  parts-kept : (b : TwoLevelBasis) → s .basis ≡ b → (r : List Float) (j : ℕ) → restrictionTerms s firstInts firstFloats b r j ≡ restrictionTerms s ints floats b r j
+  unfolding restrictionTerms smoothedRestrictionTerms
+  parts-kept PiecewiseConstant e r j = ap (λ ids. constantRestrictionTerms (coarseColumn (s .block) ids) r j) (ids-kept e)
   parts-kept JacobiSmoothed e r j = rw (pointers-kept e, columns-kept e, weights-kept)
 
   gains-kept : (b : TwoLevelBasis) → s .basis ≡ b → (sol : List Float) (i : ℕ) → gained s firstInts firstFloats b sol i ≡ gained s ints floats b sol i
@@ -71,7 +71,7 @@ module _ (s : Setup) (ints : List ℕ) (floats : List Float) where
   restricted-kept : (r : List Float) → restricted s firstInts firstFloats r ≡ restricted s ints floats r
   unfolding restricted
   restricted-kept r =
-      tab-cong (λ j. total (restrictedParts s firstInts firstFloats (s .basis) r j)) (λ j. total (restrictedParts s ints floats (s .basis) r j)) (s .coarse) (λ j h. ap total (parts-kept (s .basis) refl r j))
+      tab-cong (λ j. total (restrictionTerms s firstInts firstFloats (s .basis) r j)) (λ j. total (restrictionTerms s ints floats (s .basis) r j)) (s .coarse) (λ j h. ap total (parts-kept (s .basis) refl r j))
 
   solution-kept : (r : List Float) → coarseSolution s firstInts firstFloats r ≡ coarseSolution s ints floats r
   unfolding coarseSolution

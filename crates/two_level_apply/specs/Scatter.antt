@@ -6,7 +6,7 @@ use lib.ListN.{length, getD, set}
 use lib.Ieee.{Float, nan}
 use Rattle.definitions.specs.Numbers.{_+ᶠ_, _*ᶠ_, summed}
 use Rattle.definitions.specs.Matrix.{Entry}
-use Rattle.definitions.specs.Apply.{weightedParts}
+use Rattle.definitions.specs.Apply.{prolongationTerms}
 
 abbrev pub put : ℕ → Float → Entry
 put k x = record { col = k; value = x }
@@ -49,7 +49,7 @@ scaledPuts transfer r i = scaled (getD r i nan) (transfer i)
 
 -- prolongation by weights
 abbrev pub gainPuts : (ℕ → List Entry) → List Float → ℕ → List Entry
-gainPuts transfer sol = single (λ i. i) (λ i. summed (weightedParts (transfer i) sol))
+gainPuts transfer sol = single (λ i. i) (λ i. summed (prolongationTerms (transfer i) sol))
 
 -- every number of a list is below n
 abbrev pub Below : ℕ → List ℕ → Type 0

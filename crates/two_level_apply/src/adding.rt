@@ -4,13 +4,13 @@ ghost use Prim.Native.Nat.{_+_, _<_, _≤_};
 ghost use lib.ListN.{length};
 ghost use Rattle.two_level_apply.specs.Scatter.{put, bump, scattered, partPuts};
 
-pub fn wide(x: u32) -> usize
+pub(crate) fn wide(x: u32) -> usize
     ensures { λ r. ⌜ r ≡ x ⌝ }
 {
     x as usize
 }
 
-pub fn add_at(l: &mut [f64], at: usize, x: f64)
+pub(crate) fn add_at(l: &mut [f64], at: usize, x: f64)
     requires { ⌜ at < length (now l) ⌝ }
     ensures { λ _. ⌜ now (l .exit) ≡ bump (now (l .entry)) (put at x) ⌝ }
 {
@@ -18,7 +18,7 @@ pub fn add_at(l: &mut [f64], at: usize, x: f64)
 }
 
 // Adds n numbers of one list, from a on, to those of another, from b on.
-pub fn add_part(from: &[f64], a: usize, to: &mut [f64], b: usize, n: usize)
+pub(crate) fn add_part(from: &[f64], a: usize, to: &mut [f64], b: usize, n: usize)
     requires { ⌜ (a + n ≤ length (now from)) × (b + n ≤ length (now to)) ⌝ }
     ensures { λ _. ⌜ now (to .exit) ≡ scattered (partPuts (now (from .entry)) a b) n (now (to .entry)) ⌝ }
 {

@@ -14,12 +14,12 @@ ghost use Rattle.definitions.specs.Numbers.{summed, _+ᶠ_};
 ghost use Rattle.definitions.specs.Matrix.{rowOf, stored};
 ghost use Rattle.definitions.specs.Transfer.{coarseColumn};
 ghost use Rattle.definitions.specs.Fits.{idsIn, pointersIn, columnsIn, weightsIn, setupFits};
-ghost use Rattle.definitions.specs.Apply.{weightedParts, gained};
+ghost use Rattle.definitions.specs.Apply.{prolongationTerms, gained};
 ghost use Rattle.definitions.specs.declared.TwoLevelBasis.the-variants.{JacobiSmoothed};
 ghost use Rattle.two_level_apply.specs.Scatter.{Below, Rows, Grouped};
 
 // z[i] += sol[coarse column of i], node after node.
-pub fn prolong_constant(sol: &[f64], ids: &[u32], size: usize, z: &mut [f64])
+pub(crate) fn prolong_constant(sol: &[f64], ids: &[u32], size: usize, z: &mut [f64])
     requires { ⌜ Grouped size (now ids) (length (now z)) (length (now sol)) ⌝ }
     ensures { λ _. ⌜ now (z .exit) ≡ tab (λ i. getD (now (z .entry)) i nan +ᶠ getD (now (sol .entry)) (coarseColumn size (now (ids .entry)) i) nan) (length (now (z .entry))) ⌝ }
 {
@@ -36,7 +36,7 @@ pub fn prolong_constant(sol: &[f64], ids: &[u32], size: usize, z: &mut [f64])
 // The weights from..to by the solution at their columns: a sum from -0.
 fn weight_sum(idx: &[u32], vals: &[f64], sol: &[f64], from: usize, to: usize) -> f64
     requires { ⌜ (from ≤ to) × (to ≤ length (now vals)) × (length (now idx) ≡ length (now vals)) × Below (length (now sol)) (now idx) ⌝ }
-    ensures { λ r. ⌜ r ≡ summed (weightedParts (stored (now (idx .entry)) (now (vals .entry)) from to) (now (sol .entry))) ⌝ }
+    ensures { λ r. ⌜ r ≡ summed (prolongationTerms (stored (now (idx .entry)) (now (vals .entry)) from to) (now (sol .entry))) ⌝ }
 {
     let mut sum = -0.0;
     let mut k = from;
@@ -48,9 +48,9 @@ fn weight_sum(idx: &[u32], vals: &[f64], sol: &[f64], from: usize, to: usize) ->
     sum
 }
 
-pub fn prolong_smoothed(ptr: &[u32], idx: &[u32], vals: &[f64], sol: &[f64], z: &mut [f64])
+pub(crate) fn prolong_smoothed(ptr: &[u32], idx: &[u32], vals: &[f64], sol: &[f64], z: &mut [f64])
     requires { ⌜ Rows (length (now z)) (length (now sol)) (now ptr) (now idx) (length (now vals)) ⌝ }
-    ensures { λ _. ⌜ now (z .exit) ≡ tab (λ i. getD (now (z .entry)) i nan +ᶠ summed (weightedParts (rowOf (now (ptr .entry)) (now (idx .entry)) (now (vals .entry)) i) (now (sol .entry)))) (length (now (z .entry))) ⌝ }
+    ensures { λ _. ⌜ now (z .exit) ≡ tab (λ i. getD (now (z .entry)) i nan +ᶠ summed (prolongationTerms (rowOf (now (ptr .entry)) (now (idx .entry)) (now (vals .entry)) i) (now (sol .entry)))) (length (now (z .entry))) ⌝ }
 {
     let mut i = 0;
     while i < z.len() {
@@ -73,7 +73,7 @@ fn prolong_groups(s: Setup, ints: &[u32], floats: &[f64], sol: &[f64], z: &mut [
 
 fn prolong_weights(s: Setup, ints: &[u32], floats: &[f64], sol: &[f64], z: &mut [f64])
     requires { ⌜ (setupFits s (now ints) (now floats) ≡ true) × (length (now z) ≡ s .rows) × (length (now sol) ≡ s .coarse) × (s .basis ≡ JacobiSmoothed) ⌝ }
-    ensures { λ _. ⌜ now (z .exit) ≡ tab (λ i. getD (now (z .entry)) i nan +ᶠ summed (weightedParts (rowOf (pointersIn s (now (ints .entry))) (columnsIn s (now (ints .entry))) (weightsIn s (now (floats .entry))) i) (now (sol .entry)))) (length (now (z .entry))) ⌝ }
+    ensures { λ _. ⌜ now (z .exit) ≡ tab (λ i. getD (now (z .entry)) i nan +ᶠ summed (prolongationTerms (rowOf (pointersIn s (now (ints .entry))) (columnsIn s (now (ints .entry))) (weightsIn s (now (floats .entry))) i) (now (sol .entry)))) (length (now (z .entry))) ⌝ }
 {
     let a = s.nodes as usize;
     let b = a + s.rows as usize + 1;
@@ -83,7 +83,7 @@ fn prolong_weights(s: Setup, ints: &[u32], floats: &[f64], sol: &[f64], z: &mut 
     prolong_smoothed(&ints[a..b], &ints[b..e], &floats[p..q], sol, z);
 }
 
-pub fn prolong(s: Setup, ints: &[u32], floats: &[f64], sol: &[f64], z: &mut [f64])
+pub(crate) fn prolong(s: Setup, ints: &[u32], floats: &[f64], sol: &[f64], z: &mut [f64])
     requires { ⌜ (setupFits s (now ints) (now floats) ≡ true) × (length (now z) ≡ s .rows) × (length (now sol) ≡ s .coarse) ⌝ }
     ensures { λ _. ⌜ now (z .exit) ≡ tab (λ i. getD (now (z .entry)) i nan +ᶠ gained s (now (ints .entry)) (now (floats .entry)) (s .basis) (now (sol .entry)) i) (s .rows) ⌝ }
 {

@@ -14,7 +14,7 @@ ghost use Rattle.definitions.specs.Numbers.{total};
 ghost use Rattle.definitions.specs.Matrix.{rowOf, stored};
 ghost use Rattle.definitions.specs.Transfer.{coarseColumn};
 ghost use Rattle.definitions.specs.Fits.{idsIn, pointersIn, columnsIn, weightsIn, setupFits};
-ghost use Rattle.definitions.specs.Apply.{constantParts, smoothedParts, restricted};
+ghost use Rattle.definitions.specs.Apply.{constantRestrictionTerms, smoothedRestrictionTerms, restricted};
 ghost use Rattle.definitions.specs.declared.TwoLevelBasis.the-variants.{JacobiSmoothed};
 ghost use Rattle.two_level_apply.specs.Scatter.{scatter, scattered, restrictPuts, scaled, scaledPuts, Below, Rows, Grouped};
 
@@ -34,9 +34,9 @@ fn add_nodes(r: &[f64], ids: &[u32], size: usize, rhs: &mut [f64])
 }
 
 // The same into a list that is cleared first.
-pub fn restrict_constant(r: &[f64], ids: &[u32], size: usize, rhs: &mut [f64])
+pub(crate) fn restrict_constant(r: &[f64], ids: &[u32], size: usize, rhs: &mut [f64])
     requires { ⌜ Grouped size (now ids) (length (now r)) (length (now rhs)) ⌝ }
-    ensures { λ _. ⌜ now (rhs .exit) ≡ tab (λ j. total (constantParts (coarseColumn size (now (ids .entry))) (now (r .entry)) j)) (length (now (rhs .entry))) ⌝ }
+    ensures { λ _. ⌜ now (rhs .exit) ≡ tab (λ j. total (constantRestrictionTerms (coarseColumn size (now (ids .entry))) (now (r .entry)) j)) (length (now (rhs .entry))) ⌝ }
 {
     numbers::zero_floats(rhs);
     add_nodes(r, ids, size, rhs);
@@ -69,9 +69,9 @@ fn add_transfers(ptr: &[u32], idx: &[u32], vals: &[f64], r: &[f64], rhs: &mut [f
     }
 }
 
-pub fn restrict_smoothed(ptr: &[u32], idx: &[u32], vals: &[f64], r: &[f64], rhs: &mut [f64])
+pub(crate) fn restrict_smoothed(ptr: &[u32], idx: &[u32], vals: &[f64], r: &[f64], rhs: &mut [f64])
     requires { ⌜ Rows (length (now r)) (length (now rhs)) (now ptr) (now idx) (length (now vals)) ⌝ }
-    ensures { λ _. ⌜ now (rhs .exit) ≡ tab (λ j. total (smoothedParts (rowOf (now (ptr .entry)) (now (idx .entry)) (now (vals .entry))) (now (r .entry)) j)) (length (now (rhs .entry))) ⌝ }
+    ensures { λ _. ⌜ now (rhs .exit) ≡ tab (λ j. total (smoothedRestrictionTerms (rowOf (now (ptr .entry)) (now (idx .entry)) (now (vals .entry))) (now (r .entry)) j)) (length (now (rhs .entry))) ⌝ }
 {
     numbers::zero_floats(rhs);
     add_transfers(ptr, idx, vals, r, rhs);
@@ -80,7 +80,7 @@ pub fn restrict_smoothed(ptr: &[u32], idx: &[u32], vals: &[f64], r: &[f64], rhs:
 // With a record and its lists: into the first elements of work, the others as they were.
 fn restrict_groups(s: Setup, ints: &[u32], floats: &[f64], r: &[f64], work: &mut [f64])
     requires { ⌜ (setupFits s (now ints) (now floats) ≡ true) × (length (now r) ≡ s .rows) × (s .coarse ≤ length (now work)) ⌝ }
-    ensures { λ _. ⌜ now (work .exit) ≡ tab (λ j. total (constantParts (coarseColumn (s .block) (idsIn s (now (ints .entry)))) (now (r .entry)) j)) (s .coarse) ++ drop (s .coarse) (now (work .entry)) ⌝ }
+    ensures { λ _. ⌜ now (work .exit) ≡ tab (λ j. total (constantRestrictionTerms (coarseColumn (s .block) (idsIn s (now (ints .entry)))) (now (r .entry)) j)) (s .coarse) ++ drop (s .coarse) (now (work .entry)) ⌝ }
 {
     let n = s.nodes as usize;
     let c = s.coarse as usize;
@@ -89,7 +89,7 @@ fn restrict_groups(s: Setup, ints: &[u32], floats: &[f64], r: &[f64], work: &mut
 
 fn restrict_weights(s: Setup, ints: &[u32], floats: &[f64], r: &[f64], work: &mut [f64])
     requires { ⌜ (setupFits s (now ints) (now floats) ≡ true) × (length (now r) ≡ s .rows) × (s .coarse ≤ length (now work)) × (s .basis ≡ JacobiSmoothed) ⌝ }
-    ensures { λ _. ⌜ now (work .exit) ≡ tab (λ j. total (smoothedParts (rowOf (pointersIn s (now (ints .entry))) (columnsIn s (now (ints .entry))) (weightsIn s (now (floats .entry)))) (now (r .entry)) j)) (s .coarse) ++ drop (s .coarse) (now (work .entry)) ⌝ }
+    ensures { λ _. ⌜ now (work .exit) ≡ tab (λ j. total (smoothedRestrictionTerms (rowOf (pointersIn s (now (ints .entry))) (columnsIn s (now (ints .entry))) (weightsIn s (now (floats .entry)))) (now (r .entry)) j)) (s .coarse) ++ drop (s .coarse) (now (work .entry)) ⌝ }
 {
     let a = s.nodes as usize;
     let b = a + s.rows as usize + 1;
@@ -100,7 +100,7 @@ fn restrict_weights(s: Setup, ints: &[u32], floats: &[f64], r: &[f64], work: &mu
     restrict_smoothed(&ints[a..b], &ints[b..e], &floats[p..q], r, &mut work[..c]);
 }
 
-pub fn restrict(s: Setup, ints: &[u32], floats: &[f64], r: &[f64], work: &mut [f64])
+pub(crate) fn restrict(s: Setup, ints: &[u32], floats: &[f64], r: &[f64], work: &mut [f64])
     requires { ⌜ (setupFits s (now ints) (now floats) ≡ true) × (length (now r) ≡ s .rows) × (s .coarse ≤ length (now work)) ⌝ }
     ensures { λ _. ⌜ now (work .exit) ≡ restricted s (now (ints .entry)) (now (floats .entry)) (now (r .entry)) ++ drop (s .coarse) (now (work .entry)) ⌝ }
 {

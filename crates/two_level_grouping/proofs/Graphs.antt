@@ -10,7 +10,7 @@ use lib.Seq.{drop-at}
 use lib.Ieee.{Float}
 use borrow.Author.Tests.{le-leb, lt-ltb, le-ltb, eq-eqb}
 use borrow.Rule.Slice.PartMut.{putMid, same-len-mid, put-same}
-use Rattle.definitions.specs.Lists.{part, padded, pointersFrom, joinedLists}
+use Rattle.definitions.specs.Lists.{between, padded, pointersFrom, joinedLists}
 use Rattle.definitions.specs.Numbers.{zeroᶠ}
 use Rattle.definitions.specs.Refusal.{Outcome, refused, done, require, _>>=_, resultLeft, workLeft, keepsAll}
 use Rattle.definitions.specs.Matrix.{Matrix, validOf}
@@ -93,9 +93,9 @@ module _ (a : Matrix) (o : Options) where
     reach = omega (arith, y .work)
 
     module _ (work work1 : List ℕ) (long : length work ≡ workRoom)
-        (came : work1 ≡ resultLeft 0 (neighboursWithin k a (o .block) base (length (part 0 ending work)) floatRoom) (part 0 ending work)) (kept : length work1 ≡ length (part 0 ending work)) where
+        (came : work1 ≡ resultLeft 0 (neighboursWithin k a (o .block) base (length (between 0 ending work)) floatRoom) (between 0 ending work)) (kept : length work1 ≡ length (between 0 ending work)) where
       abbrev lent : List ℕ
-      lent = part 0 ending work
+      lent = between 0 ending work
 
       abbrev within : Outcome (List ℕ)
       within = neighboursWithin k a (o .block) base (length lent) floatRoom

@@ -6,7 +6,7 @@ use native.Mathlib.Omega.{arith}
 use lib.ListN.{length, take, drop, replicate, length-drop, length-take, length-replicate, replicate-append-replicate, drop-of-length-le}
 use lib.Seq.{take-at, take-all, drop-at}
 use borrow.Rule.Slice.PartMut.{putMid, same-len-mid}
-use Rattle.definitions.specs.Lists.{padded, part}
+use Rattle.definitions.specs.Lists.{padded, between}
 use Rattle.definitions.specs.Refusal.{Outcome, done, resultLeft}
 use Rattle.definitions.specs.Groups.{Grouping, groupingLeft}
 use Rattle.numbers.specs.Copied.{copied}
@@ -38,11 +38,11 @@ pub put-length : {A : Type 0} (a : ℕ) (s y : List A) → a ≤ length s → le
 put-length a s y h e = same-len-mid a (length s - a) s y e
 
 -- what stands at the front of a list, with zeros behind it, is cleared
-pub front-cleared : {A : Type 0} (z : A) (n k : ℕ) (s xs zeros : List A) → s ≡ padded z n xs → length xs ≡ k → k ≤ n → zeros ≡ replicate (length (part 0 k s)) z → putMid 0 (k - 0) s zeros ≡ replicate n z
+pub front-cleared : {A : Type 0} (z : A) (n k : ℕ) (s xs zeros : List A) → s ≡ padded z n xs → length xs ≡ k → k ≤ n → zeros ≡ replicate (length (between 0 k s)) z → putMid 0 (k - 0) s zeros ≡ replicate n z
 unfolding padded
 front-cleared z n k s xs zeros e l h ez =
     let q : k - 0 ≡ k = omega arith in
-    let f : length (part 0 k s) ≡ k = rw (q, e) (ap length (taken-back z xs k n l) ∙ l) in
+    let f : length (between 0 k s) ≡ k = rw (q, e) (ap length (taken-back z xs k n l) ∙ l) in
     let b : drop (k - 0) s ≡ replicate (n - k) z = rw q (ap (λ t. drop k t) e ∙ drop-at xs (replicate (n - length xs) z) k l ∙ ap (λ m. replicate (n - m) z) l) in
     let c : zeros ≡ replicate k z = ez ∙ ap (λ m. replicate m z) f in
     rw (b, c) (replicate-append-replicate k (n - k) z ∙ ap (λ m. replicate m z) (whole k n h))
@@ -56,11 +56,11 @@ module _ (call : Outcome Grouping) (work work1 : List ℕ) (ew : work1 ≡ group
   unfolding groupingLeft resultLeft
   stands = ew ∙ rw eg
 
-  front : part 0 nodes work1 ≡ g .ids
+  front : between 0 nodes work1 ≡ g .ids
   front = let z : nodes - 0 ≡ nodes = omega arith in rw (z, stands) (taken-back 0 (g .ids) nodes (length work) l)
 
   -- copied to the list of the groups, and zeros put behind them
-  pub handed : (lent ids1 zeros : List ℕ) → nodes ≤ length lent → ids1 ≡ copied (part 0 nodes work1) lent → length ids1 ≡ length lent → zeros ≡ replicate (length (part nodes (length ids1) ids1)) 0
+  pub handed : (lent ids1 zeros : List ℕ) → nodes ≤ length lent → ids1 ≡ copied (between 0 nodes work1) lent → length ids1 ≡ length lent → zeros ≡ replicate (length (between nodes (length ids1) ids1)) 0
       → putMid nodes (length ids1 - nodes) ids1 zeros ≡ padded 0 (length lent) (g .ids)
   unfolding copied padded
   handed lent ids1 zeros h e k ez =
@@ -69,5 +69,5 @@ module _ (call : Outcome Grouping) (work work1 : List ℕ) (ew : work1 ≡ group
       put-tail nodes ids1 zeros ∙ ap (λ s. s ++ zeros) c ∙ ap (λ s. g .ids ++ s) (ez ∙ ap (λ n. replicate n 0) (tail-length nodes ids1 ∙ m))
 
   -- cleared
-  pub cleared : nodes ≤ length work → (zeros : List ℕ) → zeros ≡ replicate (length (part 0 nodes work1)) 0 → putMid 0 (nodes - 0) work1 zeros ≡ replicate (length work) 0
+  pub cleared : nodes ≤ length work → (zeros : List ℕ) → zeros ≡ replicate (length (between 0 nodes work1)) 0 → putMid 0 (nodes - 0) work1 zeros ≡ replicate (length work) 0
   cleared h zeros ez = front-cleared 0 (length work) nodes work1 (g .ids) zeros stands l h ez

@@ -8,7 +8,7 @@ use lib.Ieee.{Float}
 use borrow.Author.Tests.{leb-true, le-leb}
 use Rattle.definitions.specs.Lists.{padded, tab}
 use Rattle.definitions.specs.Numbers.{zeroᶠ}
-use Rattle.definitions.specs.Refusal.{Outcome, refused, done, Checked, _>>=_, resultLeft, workLeft, keepsAll, numberOf}
+use Rattle.definitions.specs.Refusal.{Outcome, refused, done, Checked, _>>=_, resultLeft, workLeft, keepsAll, causeOf}
 use Rattle.definitions.specs.Matrix.{Matrix, validOf, maxRows, maxEntries}
 use Rattle.definitions.specs.Groups.{Grouping, contiguousGrouping}
 use Rattle.definitions.specs.Setup.{frontOf, nodeCount, groupingOf}
@@ -124,7 +124,7 @@ module _ (a : Matrix) (o : Options) where
             kept ids work floats call r (front-kept a o r q) (stops (frontOf a o) r _ q)
 
         pub short : x ≡ Accepted → Settled call ids work floats (NoGroups ListTooShort) ids work floats
-        unfolding aggregateCall keepsAll numberOf sizesFit passes
+        unfolding aggregateCall keepsAll causeOf sizesFit passes
         short e =
             let d : frontOf a o ≡ done tt = accepted-done (frontOf a o) (sym ex ∙ e) in
             let w = front-rows a o (front-of a o d) in

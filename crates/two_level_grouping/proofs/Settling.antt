@@ -6,7 +6,7 @@ use Prim.Native.Nat.{ℕ}
 use lib.ListN.{length, replicate}
 use lib.Ieee.{Float}
 use Rattle.definitions.specs.Numbers.{zeroᶠ}
-use Rattle.definitions.specs.Refusal.{Outcome, refused, done, Checked, _>>=_, resultLeft, workLeft, keepsAll, numberOf}
+use Rattle.definitions.specs.Refusal.{Outcome, refused, done, Checked, _>>=_, resultLeft, workLeft, keepsAll, causeOf}
 use Rattle.definitions.specs.Matrix.{Matrix, validOf}
 use Rattle.definitions.specs.Groups.{Grouping}
 use Rattle.definitions.specs.Answers.{answerOf, groupingAnswer}
@@ -60,6 +60,6 @@ module _ (ids work : List ℕ) (floats : List Float) where
 
     pub no-node-settled : x ≡ Accepted → (ids' work' : List ℕ) (floats' : List Float) → ids' ≡ replicate (length ids) 0 → work' ≡ replicate (length work) 0 → floats' ≡ replicate (length floats) zeroᶠ
         → Settled (validThen a noNode) ids work floats (NoGroups NoNode) ids' work' floats'
-    unfolding groupingAnswer idsLeft _>>=_ resultLeft workLeft keepsAll numberOf
+    unfolding groupingAnswer idsLeft _>>=_ resultLeft workLeft keepsAll causeOf
     no-node-settled e ids' work' floats' e1 e2 e3 =
         valid-settled a noNode (accepted-done (validOf a) (sym ex ∙ e)) _ _ _ _ (record { answer = refl; groups = e1; ints = e2; floats = e3 })

@@ -6,7 +6,7 @@ use native.Mathlib.Omega.{arith}
 use native.Mathlib.Nat.{div-add-mod'}
 use lib.Dec.{leb, eqb}
 use borrow.Author.Tests.{leb-true, eqb-true}
-use Rattle.definitions.specs.Refusal.{Outcome, refused, done, Checked, require, _>>=_, keepsAll, numberOf}
+use Rattle.definitions.specs.Refusal.{Outcome, refused, done, Checked, require, _>>=_, keepsAll, causeOf}
 use Rattle.definitions.specs.Matrix.{Matrix, validOf}
 use Rattle.definitions.specs.Block.{maxBlock}
 use Rattle.definitions.specs.Groups.{maxGroup}
@@ -88,7 +88,7 @@ front-rows a o f = rows-of a (f .valid)
 
 -- 1 to 12 leave all lists as they were
 pub front-keeps : (a : Matrix) (o : Options) → Keeps (frontOf a o)
-unfolding frontOf keepsAll numberOf
+unfolding frontOf keepsAll causeOf
 front-keeps a o =
     keeps-then (validOf a) _ (valid-keeps a) (λ _.
     keeps-then _ _ (keeps-require _ NotSquare refl) (λ _.

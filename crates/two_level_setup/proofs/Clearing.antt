@@ -6,10 +6,10 @@ use mathlib.Core.List.{List, [], _∷_, _++_}
 use lib.ListN.{getD, replicate, set}
 use lib.Ieee.{Float, nan, lt}
 use Rattle.definitions.specs.Numbers.{_*ᶠ_, zeroᶠ, rootᶠ, usable, above, symmetryTol, pivotTol, total}
-use Rattle.definitions.specs.Refusal.{Outcome, refused, done, require, _>>=_, keepsAll, numberOf}
+use Rattle.definitions.specs.Refusal.{Outcome, refused, done, require, _>>=_, keepsAll, causeOf}
 use Rattle.definitions.specs.Matrix.{Matrix, storedAt}
 use Rattle.definitions.specs.Diagonal.{diagonalFrom, diagonalOf}
-use Rattle.definitions.specs.Factor.{factorFrom, leftOf, rest}
+use Rattle.definitions.specs.Factor.{factorRows, belowDiagonal, rest}
 use Rattle.definitions.specs.Block.{blockOf, topOf, skewed, inBlock, blockFactor, factorsFrom, factorsOf, blockCount, widthOf}
 use Rattle.definitions.specs.Estimate.{usableFrom, normalised, image, rounds, estimateOf}
 use Rattle.definitions.specs.Coarse.{coarseFactor}
@@ -48,22 +48,22 @@ clears-refused (refused q) r k e = let g : q ≡ r = cc in rw (← g) k
 
 -- ---- Cholesky
 
-clears-factor : (place : ℕ → ℕ → ℕ) (bad : ℕ → Refusal) (a : ℕ → ℕ → Float) (tol : Float) → ((i : ℕ) → keepsAll (bad i) ≡ false) → (left i : ℕ) (l : List Float) → Clears (factorFrom place bad a tol left i l)
-unfolding factorFrom Clears
+clears-factor : (place : ℕ → ℕ → ℕ) (bad : ℕ → Refusal) (a : ℕ → ℕ → Float) (tol : Float) → ((i : ℕ) → keepsAll (bad i) ≡ false) → (left i : ℕ) (l : List Float) → Clears (factorRows place bad a tol left i l)
+unfolding factorRows Clears
 clears-factor place bad a tol k zero i l = tt
-clears-factor place bad a tol k (suc left) i l = go (above tol (rest place a (leftOf place a i i l) i i)) (clears-factor place bad a tol k left (suc i) (set (leftOf place a i i l) (place i i) (rootᶠ (rest place a (leftOf place a i i l) i i))))
+clears-factor place bad a tol k (suc left) i l = go (above tol (rest place a (belowDiagonal place a i i l) i i)) (clears-factor place bad a tol k left (suc i) (set (belowDiagonal place a i i l) (place i i) (rootᶠ (rest place a (belowDiagonal place a i i l) i i))))
   where
-    go : (b : Bool) → Clears (factorFrom place bad a tol left (suc i) (set (leftOf place a i i l) (place i i) (rootᶠ (rest place a (leftOf place a i i l) i i)))) → Clears {A = List Float} (elim b [ true ↦ factorFrom place bad a tol left (suc i) (set (leftOf place a i i l) (place i i) (rootᶠ (rest place a (leftOf place a i i l) i i))) | false ↦ refused (bad i) ])
+    go : (b : Bool) → Clears (factorRows place bad a tol left (suc i) (set (belowDiagonal place a i i l) (place i i) (rootᶠ (rest place a (belowDiagonal place a i i l) i i)))) → Clears {A = List Float} (elim b [ true ↦ factorRows place bad a tol left (suc i) (set (belowDiagonal place a i i l) (place i i) (rootᶠ (rest place a (belowDiagonal place a i i l) i i))) | false ↦ refused (bad i) ])
     go true h = h
     go false h = k i
 
 clears-block : (a : Matrix) (start w : ℕ) → Clears (blockFactor a start w)
-unfolding blockFactor Clears keepsAll numberOf
+unfolding blockFactor Clears keepsAll causeOf
 clears-block a start w = go (skewed (blockOf a start w) w (symmetryTol *ᶠ topOf (blockOf a start w)))
   where
     go : (b : Bool) → Clears {A = List Float} (elim b [
       | true ↦ refused (BlockNotSymmetric start)
-      | false ↦ factorFrom (inBlock w) (λ i. BlockPivot (start + i)) (λ i j. getD (blockOf a start w) (inBlock w i j) nan) (pivotTol *ᶠ topOf (blockOf a start w)) w 0 (replicate (w * w) zeroᶠ)
+      | false ↦ factorRows (inBlock w) (λ i. BlockPivot (start + i)) (λ i j. getD (blockOf a start w) (inBlock w i j) nan) (pivotTol *ᶠ topOf (blockOf a start w)) w 0 (replicate (w * w) zeroᶠ)
     ])
     go true = refl
     go false = clears-factor (inBlock w) (λ i. BlockPivot (start + i)) _ _ (λ i. refl) w 0 (replicate (w * w) zeroᶠ)
@@ -80,7 +80,7 @@ clears-factors a size = clears-blocks a size (blockCount (a .rows) size) 0 []
 -- ---- the groups
 
 clears-graph : (lists : List (List ℕ)) (nodes size : ℕ) → Clears (graphOf lists nodes size)
-unfolding graphOf keepsAll numberOf
+unfolding graphOf keepsAll causeOf
 clears-graph lists nodes size = clears-then _ _ (clears-require _ _ refl) (λ _. clears-done _)
 
 clears-groups : (k : TwoLevelAggregation) (a : Matrix) (o : Options) → Clears (groupingOf k a o)
@@ -92,7 +92,7 @@ clears-groups StrongGraph a o = clears-graph _ _ _
 -- ---- the transfer
 
 clears-diagonal : (a : Matrix) (left i : ℕ) (sums : List Float) → Clears (diagonalFrom a left i sums)
-unfolding diagonalFrom Clears keepsAll numberOf
+unfolding diagonalFrom Clears keepsAll causeOf
 clears-diagonal a zero i sums = tt
 clears-diagonal a (suc left) i sums = go (storedAt a i i) (clears-diagonal a left (suc i) (sums ++ (total (storedAt a i i) ∷ [])))
   where
@@ -101,7 +101,7 @@ clears-diagonal a (suc left) i sums = go (storedAt a i i) (clears-diagonal a lef
     go (v ∷ vs) h = h
 
 clears-usable : (i : ℕ) (d : List Float) → Clears (usableFrom i d)
-unfolding usableFrom Clears keepsAll numberOf
+unfolding usableFrom Clears keepsAll causeOf
 clears-usable i [] = tt
 clears-usable i (x ∷ d) = step (usable x) (lt x zeroᶠ) refl refl (clears-usable (suc i) d)
   where
@@ -111,7 +111,7 @@ clears-usable i (x ∷ d) = step (usable x) (lt x zeroᶠ) refl refl (clears-usa
     step true false p q ih = rw (p, q, usableFrom) ih
 
 clears-normalised : (stage : ℕ) (x : List Float) → Clears (normalised stage x)
-unfolding normalised keepsAll numberOf
+unfolding normalised keepsAll causeOf
 clears-normalised stage x = clears-then _ _ (clears-require _ _ refl) (λ _. clears-done _)
 
 clears-rounds : (a : Matrix) (s : List Float) (k : ℕ) (x : List Float) → Clears (rounds a s k x)
@@ -120,7 +120,7 @@ clears-rounds a s zero x = clears-done x
 clears-rounds a s (suc k) x = clears-then _ _ (clears-normalised 2 (image a s x)) (λ y. clears-rounds a s k y)
 
 clears-estimate : (a : Matrix) (d : List Float) → Clears (estimateOf a d)
-unfolding estimateOf keepsAll numberOf
+unfolding estimateOf keepsAll causeOf
 clears-estimate a d =
     clears-then _ _ (clears-usable 0 d) (λ _.
     clears-then _ _ (clears-normalised 1 _) (λ x.
@@ -137,11 +137,11 @@ clears-transfer JacobiSmoothed a size ids c = clears-then _ _ (clears-diagonal a
 -- ---- the coarse part, and all
 
 clears-coarse : (c : ℕ) (m : List Float) → Clears (coarseFactor c m)
-unfolding coarseFactor keepsAll numberOf
+unfolding coarseFactor keepsAll causeOf
 clears-coarse c m = clears-then _ _ (clears-require _ _ refl) (λ _. clears-factor _ (λ i. CoarsePivot i) _ _ (λ i. refl) c 0 _)
 
 pub clears-all : (a : Matrix) (o : Options) (room : Lengths) → Clears (fromBlocks a o room)
-unfolding fromBlocks fromFactors fromGroups fromRoom fromTransfer keepsAll numberOf
+unfolding fromBlocks fromFactors fromGroups fromRoom fromTransfer keepsAll causeOf
 clears-all a o room =
     clears-then _ _ (clears-factors a (o .block)) (λ factors.
     clears-then _ _ (clears-groups (o .aggregation) a o) (λ g.

@@ -32,7 +32,7 @@ use Rattle.definitions.specs.Separation.{followsGraph}
 use Rattle.laws.proofs.Outcomes.{done-inj}
 use Rattle.separation.proofs.GroupsApart.{grouping-length}
 use Rattle.separation.proofs.Columns.{ids-length, ids-below}
-use Rattle.separation.proofs.Layout.{factors-length}
+use Rattle.separation.proofs.Places.{factors-length}
 use Rattle.separation.proofs.Parts.{graph-grouping}
 use Rattle.csr32.specs.Calls.{goes-on, stops, passed, refused-is}
 use Rattle.two_level_grouping.specs.Front.{rows-whole}

@@ -10,7 +10,7 @@ use native.Mathlib.Decide.{decLt}
 use lib.ListN.{length, take, replicate, getD, List·getD-eq-default}
 use lib.Ieee.{Float}
 use borrow.Author.Tests.{le-leb, lt-leb, eq-eqb}
-use Rattle.definitions.specs.Lists.{padded, part, any, square, pointersFrom, falls}
+use Rattle.definitions.specs.Lists.{padded, between, any, square, pointersFrom, falls}
 use Rattle.definitions.specs.Numbers.{zeroᶠ}
 use Rattle.definitions.specs.Refusal.{Outcome, done}
 use Rattle.definitions.specs.Matrix.{Matrix, Entry, validOf, rowOf}
@@ -24,7 +24,7 @@ use Rattle.definitions.specs.declared.TwoLevelBasis.the-variants.{PiecewiseCons
 use Rattle.definitions.specs.declared.Refusal.the-variants.{NotSquare, BlockSize, NotMultiple, ListTooShort, CoarseTooLarge, SetupMisfit}
 use Rattle.laws.proofs.Lists.{Each, none, more, each-map, each-flatMap, each-imp, part-mid}
 use Rattle.laws.proofs.Csr.{columnsOf, numbersOf, pointers-length, pointers-first, pointers-last, pointers-rise, columns-length, values-length, row-back}
-use Rattle.separation.proofs.Layout.{pointers-read, columns-read}
+use Rattle.separation.proofs.Places.{pointers-read, columns-read}
 use Rattle.csr32.specs.Calls.{goes-on, passed}
 use Rattle.csr32.specs.Rows.{outside}
 use Rattle.coarse_matrix.specs.Calls.{resultOrKept, workOrKept, constantChecks, constantCoarseCall, transferFits, galerkinChecks, galerkinCoarseCall}
@@ -38,7 +38,7 @@ none-outside n none = refl
 none-outside n (more {x = x} h k) = rw (lt-leb n x h) (none-outside n k)
 
 -- the groups are where they are read
-pub ids-read : (a : Matrix) (o : Options) (groups : ℕ) (ints : List ℕ) (g : Grouping) (rest : List ℕ) → Ids a o groups g rest ints → part 0 (nodeCount a o) ints ≡ g .ids
+pub ids-read : (a : Matrix) (o : Options) (groups : ℕ) (ints : List ℕ) (g : Grouping) (rest : List ℕ) → Ids a o groups g rest ints → between 0 (nodeCount a o) ints ≡ g .ids
 ids-read a o groups ints g rest i =
     let z : nodeCount a o - 0 ≡ nodeCount a o = omega arith in
     rw z (ap (λ l. take (nodeCount a o) l) (i .stand) ∙ padded-front 0 (length ints) (nodeCount a o) (g .ids) rest (i .many))
@@ -60,12 +60,12 @@ module _ (a : Matrix) (o : Options) (groups : ℕ) (ints : List ℕ) (floats : L
       ∙ passed _ ListTooShort (le-leb (groups * o .block * (groups * o .block)) (length workFloats) (omega (arith, w .workFloats))))
 
   pub constant-made : o .basis ≡ PiecewiseConstant → (workFloats' : List Float)
-      → workFloats' ≡ resultOrKept zeroᶠ (constantCoarseCall a (o .block) (part 0 (nodeCount a o) ints) groups (length workFloats)) workFloats
+      → workFloats' ≡ resultOrKept zeroᶠ (constantCoarseCall a (o .block) (between 0 (nodeCount a o) ints) groups (length workFloats)) workFloats
       → MatrixStage a o groups 0 ints floats workInts workFloats workInts workFloats'
   unfolding resultOrKept coarseMatrix coarseEntry
   constant-made b workFloats' e factors g damping weights wt m fl i cl =
-      let r : part 0 (nodeCount a o) ints ≡ g .ids = ids-read a o groups ints g (transferInts (o .basis) weights) i in
-      let k : constantCoarseCall a (o .block) (part 0 (nodeCount a o) ints) groups (length workFloats) ≡ done (averagedSquare (groups * o .block) (square (groups * o .block) (constantEntry a (coarseColumn (o .block) (g .ids)))))
+      let r : between 0 (nodeCount a o) ints ≡ g .ids = ids-read a o groups ints g (transferInts (o .basis) weights) i in
+      let k : constantCoarseCall a (o .block) (between 0 (nodeCount a o) ints) groups (length workFloats) ≡ done (averagedSquare (groups * o .block) (square (groups * o .block) (constantEntry a (coarseColumn (o .block) (g .ids)))))
       = ap (λ l. constantCoarseCall a (o .block) l groups (length workFloats)) r ∙ constant-passes (g .ids) (i .many) (subst (λ n. Each (λ x. x < n) (g .ids)) (sym (i .count)) (i .below)) in
       (cl .ints, e ∙ ap (λ x. resultOrKept zeroᶠ x workFloats) k ∙ rw (b, i .count))
 
@@ -132,7 +132,7 @@ module _ (a : Matrix) (o : Options) (groups transfers : ℕ) (ints : List ℕ) (
   used = a .rows * o .block
 
   abbrev call : Outcome (List Float)
-  call = galerkinCoarseCall a (groups * o .block) (part n (n + a .rows + 1) ints) (part (n + a .rows + 1) (n + a .rows + 1 + transfers) ints) (part used (used + transfers) floats) (length workInts) (length workFloats)
+  call = galerkinCoarseCall a (groups * o .block) (between n (n + a .rows + 1) ints) (between (n + a .rows + 1) (n + a .rows + 1 + transfers) ints) (between used (used + transfers) floats) (length workInts) (length workFloats)
 
   pub galerkin-made : o .basis ≡ JacobiSmoothed → (workInts' : List ℕ) (workFloats' : List Float)
       → workFloats' ≡ resultOrKept zeroᶠ call workFloats → workInts' ≡ workOrKept 0 call workInts
@@ -143,11 +143,11 @@ module _ (a : Matrix) (o : Options) (groups transfers : ℕ) (ints : List ℕ) (
       let v' : Weighted (a .rows) (groups * o .block) ws = subst (λ k. Weighted (a .rows) (k * o .block) ws) (sym (i .count)) v in
       let zs : List ℕ = replicate (length ints - length (g .ids ++ transferInts JacobiSmoothed ws)) 0 in
       let si : ints ≡ (g .ids ++ transferInts JacobiSmoothed ws) ++ zs = subst (λ s. ints ≡ padded 0 (length ints) (g .ids ++ transferInts s ws)) b (i .stand) in
-      let p1 : part n (n + a .rows + 1) ints ≡ pointersFrom 0 ws = ap (λ l. part n (n + a .rows + 1) l) si ∙ pointers-read (g .ids) zs ws n (a .rows) (i .many) (v .many) in
-      let p2 : part (n + a .rows + 1) (n + a .rows + 1 + transfers) ints ≡ columnsOf ws
-      = ap (λ t. part (n + a .rows + 1) (n + a .rows + 1 + t) ints) (sym m) ∙ ap (λ l. part (n + a .rows + 1) (n + a .rows + 1 + length (numbersOf ws)) l) si ∙ columns-read (g .ids) zs ws n (a .rows) (i .many) (v .many) in
+      let p1 : between n (n + a .rows + 1) ints ≡ pointersFrom 0 ws = ap (λ l. between n (n + a .rows + 1) l) si ∙ pointers-read (g .ids) zs ws n (a .rows) (i .many) (v .many) in
+      let p2 : between (n + a .rows + 1) (n + a .rows + 1 + transfers) ints ≡ columnsOf ws
+      = ap (λ t. between (n + a .rows + 1) (n + a .rows + 1 + t) ints) (sym m) ∙ ap (λ l. between (n + a .rows + 1) (n + a .rows + 1 + length (numbersOf ws)) l) si ∙ columns-read (g .ids) zs ws n (a .rows) (i .many) (v .many) in
       let rest : List Float = replicate (length floats - length (factors ++ numbersOf ws)) zeroᶠ in
-      let p3 : part used (used + transfers) floats ≡ numbersOf ws
-      = ap (λ l. part used (used + transfers) l) (fl .stand ∙ append-assoc factors (numbersOf ws) rest) ∙ part-mid factors (numbersOf ws) rest used (used + transfers) (fl .many) (ap (λ t. used + t) m) in
+      let p3 : between used (used + transfers) floats ≡ numbersOf ws
+      = ap (λ l. between used (used + transfers) l) (fl .stand ∙ append-assoc factors (numbersOf ws) rest) ∙ part-mid factors (numbersOf ws) rest used (used + transfers) (fl .many) (ap (λ t. used + t) m) in
       let k : call ≡ done (averagedSquare (groups * o .block) (square (groups * o .block) (galerkinEntry a (λ r. getD ws r [])))) = rw (p1, p2, p3) (galerkin-passes ws v') in
       (d ∙ ap (λ x. workOrKept 0 x workInts) k, e ∙ ap (λ x. resultOrKept zeroᶠ x workFloats) k ∙ rw (b, i .count))

@@ -6,7 +6,7 @@ use native.Mathlib.Omega.{arith}
 use lib.ListN.{length, take, drop, replicate, replicate-append-replicate}
 use lib.Seq.{drop-at, length-take-le}
 use borrow.Rule.Slice.PartMut.{putMid, post-is, mid-len}
-use Rattle.definitions.specs.Lists.{padded, part}
+use Rattle.definitions.specs.Lists.{padded, between}
 use Rattle.two_level_grouping.proofs.Kept.{drop-replicate}
 use Rattle.two_level_setup.proofs.Padding.{padded-none, padded-front, padded-back, padded-join}
 
@@ -38,12 +38,12 @@ module _ {A : Type 0} (z : A) where
       over n k x p q = omega arith
 
   -- a part that is cleared, with zeros behind it
-  pub tail-cleared : (a e : ℕ) (s zeros : List A) → a ≤ e → e ≤ length s → zeros ≡ replicate (length (part a e s)) z → drop e s ≡ replicate (length s - e) z → drop a (putMid a (e - a) s zeros) ≡ replicate (length s - a) z
+  pub tail-cleared : (a e : ℕ) (s zeros : List A) → a ≤ e → e ≤ length s → zeros ≡ replicate (length (between a e s)) z → drop e s ≡ replicate (length s - e) z → drop a (putMid a (e - a) s zeros) ≡ replicate (length s - a) z
   tail-cleared a e s zeros h l ez er =
       let y : zeros ≡ replicate (e - a) z = ez ∙ ap (λ m. replicate m z) (mid-len a e s l) in
       drop-at (take a s) (zeros ++ drop (e - a) (drop a s)) a (length-take-le a s (omega arith))
       ∙ ap (λ t. t ++ drop (e - a) (drop a s)) y ∙ ap (λ t. replicate (e - a) z ++ t) (post-is a e s h ∙ er)
-      ∙ replicate-append-replicate (e - a) (length s - e) z ∙ ap (λ m. replicate m z) (between a e (length s) h l)
+      ∙ replicate-append-replicate (e - a) (length s - e) z ∙ ap (λ m. replicate m z) (gap a e (length s) h l)
     where
-      between : (x y n : ℕ) → x ≤ y → y ≤ n → y - x + (n - y) ≡ n - x
-      between x y n p q = omega arith
+      gap : (x y n : ℕ) → x ≤ y → y ≤ n → y - x + (n - y) ≡ n - x
+      gap x y n p q = omega arith

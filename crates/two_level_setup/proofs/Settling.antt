@@ -6,7 +6,7 @@ use lib.Dec.{leb}
 use lib.ListN.{length}
 use borrow.Author.Tests.{le-leb, lt-leb}
 use Rattle.definitions.specs.Numbers.{zeroᶠ}
-use Rattle.definitions.specs.Refusal.{Outcome, refused, done, _>>=_, resultLeft, workLeft, keepsAll, numberOf}
+use Rattle.definitions.specs.Refusal.{Outcome, refused, done, _>>=_, resultLeft, workLeft, keepsAll, causeOf}
 use Rattle.definitions.specs.Matrix.{Matrix}
 use Rattle.definitions.specs.Setup.{Lengths, Lent, lengthsOf, entryNeeds, coarseNeeds, covers, maxCoarse, frontOf, Built, setupOf, setupLeft}
 use Rattle.definitions.specs.Answers.{answerOf, setupAnswer}
@@ -137,7 +137,7 @@ module _ (a : Matrix) (o : Options) (x : Lent) where
       front-holds = front-of a o fronted
 
       pub short : (t : Bool) → t ≡ covers (lengthsOf x) (entryNeeds a o) → t ≡ false → (NoSetup ListTooShort ≡ setupAnswer whole) × (x ≡ setupLeft whole x)
-      unfolding keepsAll numberOf
+      unfolding keepsAll causeOf
       short t et f =
           kept ListTooShort refl (setup-splits a o (lengthsOf x) ∙ goes-on (frontOf a o) tt _ fronted ∙ stops _ ListTooShort _ (failed (covers (lengthsOf x) (entryNeeds a o)) ListTooShort (sym et ∙ f)))
 

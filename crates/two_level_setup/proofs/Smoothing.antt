@@ -9,7 +9,7 @@ use lib.Seq.{length-take-le}
 use lib.Ieee.{Float, ne}
 use borrow.Author.Tests.{le-leb, eq-eqb}
 use borrow.Rule.Slice.PartMut.{putMid, mid-len, take-put}
-use Rattle.definitions.specs.Lists.{padded, part, pointersFrom, joinedLists}
+use Rattle.definitions.specs.Lists.{padded, between, pointersFrom, joinedLists}
 use Rattle.definitions.specs.Numbers.{zeroᶠ, total}
 use Rattle.definitions.specs.Refusal.{Outcome, refused, done, resultLeft, workLeft}
 use Rattle.definitions.specs.Matrix.{Matrix, Entry, validOf, storedAt}
@@ -76,7 +76,7 @@ module _ (a : Matrix) (o : Options) (groups : ℕ) (ints : List ℕ) (floats : L
 
   -- where it stands, behind the block factors
   abbrev read : List Float
-  read = part used (used + a .rows) floats
+  read = between used (used + a .rows) floats
 
   read-long : length read ≡ a .rows
   read-long = mid-len used (used + a .rows) floats (omega (arith, w .fit .floats)) ∙ omega arith
@@ -135,7 +135,7 @@ module _ (a : Matrix) (o : Options) (groups : ℕ) (ints : List ℕ) (floats : L
   diagonal-read : (factors d : List Float) → length d ≡ a .rows → Floats a o factors d floats → read ≡ d
   unfolding padded
   diagonal-read factors d l fl =
-      ap (λ s. part used (used + a .rows) s) (fl .stand ∙ append-assoc factors d (replicate (length floats - length (factors ++ d)) zeroᶠ))
+      ap (λ s. between used (used + a .rows) s) (fl .stand ∙ append-assoc factors d (replicate (length floats - length (factors ++ d)) zeroᶠ))
       ∙ part-mid factors d (replicate (length floats - length (factors ++ d)) zeroᶠ) used (used + a .rows) (fl .many) (ap (λ n. used + n) l)
 
   -- what the estimate is lent of the work floats
@@ -207,7 +207,7 @@ module _ (a : Matrix) (o : Options) (groups : ℕ) (ints : List ℕ) (floats : L
         ∙ passed _ ListTooShort (rw (le-leb (2 * a .rows + length (a .values) + 1 + 2 * (groups * o .block)) (length workInts) (omega (arith, w .workInts)), le-leb (a .rows + length (a .values) + groups * o .block) (length weighed) (rw weighed-long (omega arith)))))
 
     abbrev call : Outcome (List (List Entry))
-    call = smoothedTransferCall a (o .block) (part 0 (nodeCount a o) ints) groups read damping (length workInts) (length weighed)
+    call = smoothedTransferCall a (o .block) (between 0 (nodeCount a o) ints) groups read damping (length workInts) (length weighed)
 
     call-is : (factors : List Float) (g : Grouping) (d : List Float) → length d ≡ a .rows → Floats a o factors d floats → Ids a o groups g [] ints → call ≡ done (rowsOf d (g .ids) (g .count * o .block))
     call-is factors g d l fl i =
@@ -298,10 +298,10 @@ module _ (a : Matrix) (o : Options) (groups : ℕ) (ints : List ℕ) (floats : L
 -- ---- one list's move
 
 module _ (at count : ℕ) where
-  front-is : {A : Type 0} (z : A) (from xs : List A) → from ≡ padded z (length from) xs → length xs ≡ count → part 0 count from ≡ xs
+  front-is : {A : Type 0} (z : A) (from xs : List A) → from ≡ padded z (length from) xs → length xs ≡ count → between 0 count from ≡ xs
   front-is z from xs e l = let q : count - 0 ≡ count = omega arith in rw q (ap (λ s. take count s) e ∙ padded-all z (length from) count xs l)
 
-  pub moved-ints : (to from more zeros : List ℕ) → count ≤ length from → more ≡ copied (part 0 count from) (take (length to - at) (drop at to)) → zeros ≡ replicate (length (part 0 count from)) 0
+  pub moved-ints : (to from more zeros : List ℕ) → count ≤ length from → more ≡ copied (between 0 count from) (take (length to - at) (drop at to)) → zeros ≡ replicate (length (between 0 count from)) 0
       → MovedInts at count to from (putMid at (length to - at) to more) (putMid 0 (count - 0) from zeros)
   moved-ints to from more zeros hc em ez = record {
     moved = λ xs e l h z.
@@ -310,9 +310,9 @@ module _ (at count : ℕ) where
     clear = λ xs e l. front-cleared 0 (length from) count from xs zeros e l hc ez;
   }
 
-  pub moved-floats : (end : ℕ) (to from blanks more zeros : List Float) → at ≤ end → end ≤ length to → count ≤ length from → blanks ≡ replicate (length (part at end to)) zeroᶠ
-      → more ≡ copied (part 0 count from) (take (length (putMid at (end - at) to blanks) - at) (drop at (putMid at (end - at) to blanks))) → length (putMid at (end - at) to blanks) ≡ length to
-      → zeros ≡ replicate (length (part 0 count from)) zeroᶠ → MovedFloats at end count to from (putMid at (length (putMid at (end - at) to blanks) - at) (putMid at (end - at) to blanks) more) (putMid 0 (count - 0) from zeros)
+  pub moved-floats : (end : ℕ) (to from blanks more zeros : List Float) → at ≤ end → end ≤ length to → count ≤ length from → blanks ≡ replicate (length (between at end to)) zeroᶠ
+      → more ≡ copied (between 0 count from) (take (length (putMid at (end - at) to blanks) - at) (drop at (putMid at (end - at) to blanks))) → length (putMid at (end - at) to blanks) ≡ length to
+      → zeros ≡ replicate (length (between 0 count from)) zeroᶠ → MovedFloats at end count to from (putMid at (length (putMid at (end - at) to blanks) - at) (putMid at (end - at) to blanks) more) (putMid 0 (count - 0) from zeros)
   moved-floats end to from blanks more zeros ha he hc eb em lm ez = record {
     moved = λ xs e l h z.
         let mid = putMid at (end - at) to blanks in

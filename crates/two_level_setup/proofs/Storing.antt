@@ -7,7 +7,7 @@ use lib.ListN.{length, take, drop, replicate, length-drop, take-append-drop}
 use lib.Ieee.{Float}
 use borrow.Author.Tests.{le-leb}
 use borrow.Rule.Slice.PartMut.{putMid}
-use Rattle.definitions.specs.Lists.{padded, part, upTo}
+use Rattle.definitions.specs.Lists.{padded, between, upTo}
 use Rattle.definitions.specs.Numbers.{zeroᶠ, largest}
 use Rattle.definitions.specs.Refusal.{Outcome, refused, done, resultLeft}
 use Rattle.definitions.specs.Coarse.{packedLength, coarseFactor, resolved, coarsePart, inverseOf, averagedSquare, averaged, entryIn, packedSolve, unit}
@@ -48,7 +48,7 @@ inverse-length c l = length-square c (averaged (entryIn (flatMap (λ i. packedSo
 
 module _ (c start : ℕ) (floats work : List Float) (small : c ≤ 2048) (room : start + c * c ≤ length floats) (space : c * c ≤ length work) where
   pub inverted : (work1 more : List Float) → work1 ≡ resultLeft zeroᶠ (coarseInverseCall c (take (length floats - start) (drop start floats)) (length work)) work
-      → more ≡ copied (part 0 (c * c) work1) (take (length floats - start) (drop start floats)) → Inverted c start floats (putMid start (length floats - start) floats more)
+      → more ≡ copied (between 0 (c * c) work1) (take (length floats - start) (drop start floats)) → Inverted c start floats (putMid start (length floats - start) floats more)
   unfolding coarseInverseCall resultLeft
   inverted work1 more ew em = record {
     part = λ l e n.
@@ -60,7 +60,7 @@ module _ (c start : ℕ) (floats work : List Float) (small : c ≤ 2048) (room :
         ∙ ap (λ x. done (inverseOf c (take (packedLength c) x))) t ∙ ap (λ x. done (inverseOf c x)) (padded-all zeroᶠ (length floats - start) (packedLength c) l n) in
         let w : work1 ≡ padded zeroᶠ (length work) (inverseOf c l) = ew ∙ ap (λ x. resultLeft zeroᶠ x work) k in
         let z : c * c - 0 ≡ c * c = omega arith in
-        let p : part 0 (c * c) work1 ≡ inverseOf c l = rw (z, w) (padded-all zeroᶠ (length work) (c * c) (inverseOf c l) (inverse-length c l)) in
+        let p : between 0 (c * c) work1 ≡ inverseOf c l = rw (z, w) (padded-all zeroᶠ (length work) (c * c) (inverseOf c l) (inverse-length c l)) in
         let s : more ≡ padded zeroᶠ (length floats - start) (inverseOf c l)
         = rw (em, p, t) (copied-longer zeroᶠ (length floats - start) l (inverseOf c l) (rw (n, inverse-length c l) (packed-fits c)) (rw (inverse-length c l) (omega arith))) in
         put-tail start floats more ∙ ap (λ x. take start floats ++ x) s;

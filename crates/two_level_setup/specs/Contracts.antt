@@ -19,7 +19,7 @@ use Rattle.definitions.specs.declared.SetupAnswer.{SetupAnswer}
 use Rattle.definitions.specs.declared.SetupAnswer.the-variants.{Built as BuiltSetup, Refused as NoSetup}
 use Rattle.definitions.specs.declared.TwoLevelCoarseApplyPolicy.{TwoLevelCoarseApplyPolicy}
 use Rattle.definitions.specs.declared.TwoLevelBasis.the-variants.{JacobiSmoothed}
-use Rattle.laws.proofs.Lists.{Each}
+use Rattle.laws.specs.Every.{Each}
 use Rattle.two_level_setup.specs.Stages.{recordOf, fromTransfer, fromDiagonal, fromRoom, fromGroups, fromFactors, fromBlocks}
 use Rattle.two_level_setup.specs.Fit.{roomOf}
 

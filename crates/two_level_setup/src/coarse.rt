@@ -98,7 +98,7 @@ fn store(
 }
 
 // The factor of the coarse matrix at the front of the work list: causes 23 and 24, then the record.
-pub fn factor_stage(
+pub(crate) fn factor_stage(
     rows: usize,
     entries: usize,
     options: Options,

@@ -186,7 +186,7 @@ fn dense_stage(
 }
 
 // The same, lent only the front that it needs, since a stage clears what it is lent; behind it stand zeros already.
-pub fn coarse_stage(
+pub(crate) fn coarse_stage(
     rows: usize,
     cols: usize,
     row_ptr: &[u32],

@@ -196,7 +196,7 @@ fn estimate_stage(
 }
 
 // Cause 19, then the estimate. Behind the diagonal stand zeros already.
-pub fn diagonal_stage(
+pub(crate) fn diagonal_stage(
     rows: usize,
     cols: usize,
     row_ptr: &[u32],

@@ -16,7 +16,7 @@ ghost use Rattle.two_level_setup.specs.Fit.{Fit, Ample, Wide, roomOf};
 ghost use Rattle.two_level_setup.specs.Contracts.{lentOf, RoomStage, GroupStage, FactorsStage, BlocksStage};
 
 // Whether four lists are as long as asked.
-pub fn long_enough(
+pub(crate) fn long_enough(
     need_ints: usize,
     need_floats: usize,
     need_work_ints: usize,
@@ -226,7 +226,7 @@ fn factors_stage(
 }
 
 // Causes 14 and 15, and the block factors. A refusal leaves the lists as they happen to be.
-pub fn build(
+pub(crate) fn build(
     rows: usize,
     cols: usize,
     row_ptr: &[u32],

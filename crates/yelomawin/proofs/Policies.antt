@@ -9,7 +9,7 @@ use borrow.Author.Tests.{leb-true, le-leb, lt-leb}
 use Rattle.definitions.specs.declared.TwoLevelAggregation.the-variants.{StrongGraph}
 use Rattle.definitions.specs.declared.TwoLevelBasis.the-variants.{JacobiSmoothed}
 use Rattle.definitions.specs.declared.TwoLevelCoarseApplyPolicy.the-variants.{ExplicitInverse}
-use Rattle.yelomawin.specs.Boundary.{aggregationOf, basisOf, policyOf, arePolicies, isRecord}
+use Rattle.definitions.specs.Record.{aggregationOf, basisOf, policyOf, arePolicies, isRecord}
 
 pub last-aggregation : (n : ℕ) → (n ≡ 0 → ⊥) → (n ≡ 1 → ⊥) → StrongGraph ≡ aggregationOf n
 unfolding aggregationOf

@@ -7,7 +7,7 @@ use native.Mathlib.Numerals.{add-one}
 use lib.ListN.{length, set, take, drop, replicate}
 use lib.Seq.{drop-length}
 use Rattle.definitions.specs.Lists.{padded}
-use Rattle.definitions.specs.Refusal.{valuesOf}
+use Rattle.definitions.specs.Refusal.{valuesOf, causeOf}
 use Rattle.definitions.specs.declared.Refusal.{Refusal}
 use Rattle.definitions.specs.declared.Refusal.the-variants.{TooLarge, RowListLength, ColumnListLength, FirstPointer, LastPointer, PointerFalls, ColumnOutside, ValueNotFinite, NotSquare, BlockSize, GroupSize, NotMultiple, ListTooShort, BlockNotSymmetric, BlockPivot, NoNode, CoarseTooLarge, CoarseListTooShort, MissingDiagonal, ZeroDiagonal, NegativeDiagonal, EstimateFailed, CoarseScale, CoarsePivot, WrongLength, SetupMisfit, NeighbourOffsets, NeighbourOutside}
 use Rattle.yelomawin.specs.Boundary.{received, firstOf, secondOf}
@@ -73,7 +73,7 @@ one-told x lent = cut-of (x ∷ 0 ∷ []) lent ∙ more-zeros (x ∷ []) (length
 
 -- the two values of a cause are all that it has
 pub told : (r : Refusal) (lent : List ℕ) → received (firstOf r ∷ secondOf r ∷ []) lent ≡ received (valuesOf r) lent
-unfolding firstOf secondOf valuesOf
+unfolding firstOf secondOf valuesOf causeOf
 told TooLarge l = none-told l
 told RowListLength l = none-told l
 told ColumnListLength l = none-told l

@@ -10,7 +10,8 @@ ghost use mathlib.Core.Path.{_≡_};
 ghost use Prim.Native.Nat.{_≤_};
 ghost use lib.ListN.{set, length};
 ghost use lib.Ieee.{binary64, toBits};
-ghost use Rattle.yelomawin.specs.Boundary.{received, aggregationNumber, basisNumber, policyNumber, aggregationOf, basisOf, policyOf, arePolicies, recordNumbers, recordOf, isRecord};
+ghost use Rattle.definitions.specs.Record.{aggregationNumber, basisNumber, policyNumber, aggregationOf, basisOf, policyOf, arePolicies, recordNumbers, recordOf, isRecord};
+ghost use Rattle.yelomawin.specs.Boundary.{received};
 
 fn aggregation_number(g: TwoLevelAggregation) -> u64
     ensures { λ r. ⌜ r ≡ aggregationNumber g ⌝ }
@@ -41,7 +42,7 @@ fn policy_number(p: TwoLevelCoarseApplyPolicy) -> u64
     }
 }
 
-pub fn aggregation_of(n: u64) -> TwoLevelAggregation
+pub(crate) fn aggregation_of(n: u64) -> TwoLevelAggregation
     ensures { λ r. ⌜ r ≡ aggregationOf n ⌝ }
 {
     if n == 0 {
@@ -53,7 +54,7 @@ pub fn aggregation_of(n: u64) -> TwoLevelAggregation
     TwoLevelAggregation::StrongGraph
 }
 
-pub fn basis_of(n: u64) -> TwoLevelBasis
+pub(crate) fn basis_of(n: u64) -> TwoLevelBasis
     ensures { λ r. ⌜ r ≡ basisOf n ⌝ }
 {
     if n == 0 {
@@ -62,7 +63,7 @@ pub fn basis_of(n: u64) -> TwoLevelBasis
     TwoLevelBasis::JacobiSmoothed
 }
 
-pub fn policy_of(n: u64) -> TwoLevelCoarseApplyPolicy
+pub(crate) fn policy_of(n: u64) -> TwoLevelCoarseApplyPolicy
     ensures { λ r. ⌜ r ≡ policyOf n ⌝ }
 {
     if n == 0 {
@@ -105,7 +106,7 @@ fn put_rest(list: &mut [u64], s: Setup)
 }
 
 // The list receives the record's numbers.
-pub fn receive_record(list: &mut [u64], s: Setup)
+pub(crate) fn receive_record(list: &mut [u64], s: Setup)
     ensures { λ _. ⌜ now (list .exit) ≡ received (recordNumbers s) (now (list .entry)) ⌝ }
 {
     answers::clear(list);
@@ -114,7 +115,7 @@ pub fn receive_record(list: &mut [u64], s: Setup)
 }
 
 // Whether three numbers are policies.
-pub fn are_policies(aggregation: u64, basis: u64, policy: u64) -> bool
+pub(crate) fn are_policies(aggregation: u64, basis: u64, policy: u64) -> bool
     ensures { λ r. ⌜ r ≡ arePolicies aggregation basis policy ⌝ }
 {
     if aggregation <= 2 {
@@ -126,7 +127,7 @@ pub fn are_policies(aggregation: u64, basis: u64, policy: u64) -> bool
 }
 
 // Whether a list is a record: as many numbers, and policies among them.
-pub fn is_record(list: &[u64]) -> bool
+pub(crate) fn is_record(list: &[u64]) -> bool
     ensures { λ r. ⌜ r ≡ isRecord (now (list .entry)) ⌝ }
 {
     if 15 <= list.len() {
@@ -135,7 +136,7 @@ pub fn is_record(list: &[u64]) -> bool
     false
 }
 
-pub fn record_of(list: &[u64]) -> Setup
+pub(crate) fn record_of(list: &[u64]) -> Setup
     requires { ⌜ 15 ≤ length (now list) ⌝ }
     ensures { λ r. ⌜ r ≡ recordOf (now (list .entry)) ⌝ }
 {

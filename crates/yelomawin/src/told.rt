@@ -7,19 +7,22 @@ use definitions::GroupingAnswer;
 use definitions::SetupAnswer;
 use float_bits::bits_of;
 ghost use mathlib.Core.Path.{_≡_};
-ghost use Rattle.definitions.specs.Answers.{answerNumber, answerValues, groupingNumber, groupingValues, estimateNumber, estimateValues, setupNumber};
-ghost use Rattle.yelomawin.specs.Boundary.{received, setupValues};
+ghost use Rattle.definitions.specs.Answers.{answerNumber, answerValues, groupingNumber, groupingValues, estimateNumber, estimateValues, setupNumber, setupValues};
+ghost use Rattle.yelomawin.specs.Boundary.{received};
 
-pub fn number(answer: Answer) -> u64
+pub(crate) fn number(answer: Answer) -> u64
     ensures { λ r. ⌜ r ≡ answerNumber answer ⌝ }
 {
     match answer {
         Answer::Accepted => 0,
-        Answer::Refused(cause) => answers::number_of(cause),
+        Answer::Refused(cause) => {
+            let told = causes::told(cause);
+            told.number
+        }
     }
 }
 
-pub fn plain(answer: Answer, list: &mut [u64]) -> u64
+pub(crate) fn plain(answer: Answer, list: &mut [u64]) -> u64
     ensures { λ r. ⌜ r ≡ answerNumber answer ⌝ }
     ensures { λ _. ⌜ now (list .exit) ≡ received (answerValues answer) (now (list .entry)) ⌝ }
 {
@@ -32,7 +35,7 @@ pub fn plain(answer: Answer, list: &mut [u64]) -> u64
     }
 }
 
-pub fn grouping(answer: GroupingAnswer, list: &mut [u64]) -> u64
+pub(crate) fn grouping(answer: GroupingAnswer, list: &mut [u64]) -> u64
     ensures { λ r. ⌜ r ≡ groupingNumber answer ⌝ }
     ensures { λ _. ⌜ now (list .exit) ≡ received (groupingValues answer) (now (list .entry)) ⌝ }
 {
@@ -45,7 +48,7 @@ pub fn grouping(answer: GroupingAnswer, list: &mut [u64]) -> u64
     }
 }
 
-pub fn estimate(answer: EstimateAnswer, list: &mut [u64]) -> u64
+pub(crate) fn estimate(answer: EstimateAnswer, list: &mut [u64]) -> u64
     ensures { λ r. ⌜ r ≡ estimateNumber answer ⌝ }
     ensures { λ _. ⌜ now (list .exit) ≡ received (estimateValues answer) (now (list .entry)) ⌝ }
 {
@@ -58,7 +61,7 @@ pub fn estimate(answer: EstimateAnswer, list: &mut [u64]) -> u64
     }
 }
 
-pub fn setup(answer: SetupAnswer, list: &mut [u64]) -> u64
+pub(crate) fn setup(answer: SetupAnswer, list: &mut [u64]) -> u64
     ensures { λ r. ⌜ r ≡ setupNumber answer ⌝ }
     ensures { λ _. ⌜ now (list .exit) ≡ received (setupValues answer) (now (list .entry)) ⌝ }
 {

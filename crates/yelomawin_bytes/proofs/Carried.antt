@@ -7,8 +7,9 @@ use lib.ListN.{length}
 use Rattle.definitions.specs.Matrix.{csr}
 use Rattle.definitions.specs.Setup.{Lent, setupOf, setupLeft, lengthsOf}
 use Rattle.definitions.specs.Apply.{applyCall, applyLeft, applyWorkLeft}
-use Rattle.definitions.specs.Answers.{answerOf, answerNumber, setupAnswer, answerValues, setupNumber}
-use Rattle.yelomawin.specs.Boundary.{received, setupValues, optionsOf, arePolicies, whether, noPolicy, recordOf, isRecord}
+use Rattle.definitions.specs.Answers.{answerOf, answerNumber, setupAnswer, answerValues, setupNumber, setupValues}
+use Rattle.definitions.specs.Record.{arePolicies, recordOf, isRecord}
+use Rattle.yelomawin.specs.Boundary.{received, optionsOf, whether, noPolicy}
 
 abbrev pub ApplyTold : List ℕ → List ℕ → List Float → List Float → List Float → List Float → List ℕ → ℕ → List Float → List Float → List ℕ → Type 0
 ApplyTold n i f x z w a r z₂ w₂ a₂ =

@@ -15,8 +15,9 @@ ghost use Rattle.definitions.specs.Estimate.{estimateCall, estimateWorkLeft};
 ghost use Rattle.definitions.specs.Setup.{setupOf, setupLeft, lengthsOf};
 ghost use Rattle.two_level_setup.specs.Contracts.{lentOf};
 ghost use Rattle.definitions.specs.Apply.{applyCall, applyLeft, applyWorkLeft};
-ghost use Rattle.definitions.specs.Answers.{answerOf, answerNumber, groupingAnswer, estimateAnswer, setupAnswer, answerValues, groupingNumber, groupingValues, estimateNumber, estimateValues, setupNumber};
-ghost use Rattle.yelomawin.specs.Boundary.{received, setupValues, optionsOf, arePolicies, whether, noPolicy, recordOf, isRecord};
+ghost use Rattle.definitions.specs.Answers.{answerOf, answerNumber, groupingAnswer, estimateAnswer, setupAnswer, answerValues, groupingNumber, groupingValues, estimateNumber, estimateValues, setupNumber, setupValues};
+ghost use Rattle.definitions.specs.Record.{arePolicies, recordOf, isRecord};
+ghost use Rattle.yelomawin.specs.Boundary.{received, optionsOf, whether, noPolicy};
 ghost use Rattle.yelomawin_bytes.specs.Calls.{misfit, matrixOf, matrixFits, graphFits, solveFits, estimateFits, wordsFit, groupsFit, setupFits, keptFits};
 
 #[no_mangle]

@@ -9,7 +9,7 @@ use borrow.Author.Tests.{eqb-true, eqb-false, ltb-true, ltb-false}
 use lib.Dec.{eqb, ltb}
 use lib.ListN.{length, getD, set, replicate, length-set, length-replicate, getD-replicate, List·getD-eq-default}
 use lib.Seq.{getD-set-same, getD-set-other, set-out}
-use Rattle.definitions.specs.Groups.{free, waiting, grow, growFrom, grown, noAnchor}
+use Rattle.definitions.specs.Groups.{free, waiting, growGroup, growGroups, grown, noAnchor}
 use Rattle.aggregates.proofs.growth.Growing.{grow-takes, from-grows, from-passes}
 
 split {ℓ} : {X : Type ℓ} (b : Bool) → (b ≡ true → X) → (b ≡ false → X) → X
@@ -26,23 +26,23 @@ set-cases l i a j = split (eqb j i)
 
 module _ (lists : ℕ → List ℕ) (g : ℕ) (P : List ℕ → Type 0) (step : (ids : List ℕ) (v : ℕ) → P ids → P (set ids v g)) where
   -- what each store of a group keeps, its growth keeps
-  grow-keeps : (room : ℕ) (ids q : List ℕ) → P ids → P (grow lists noAnchor g room ids q)
-  unfolding grow
+  grow-keeps : (room : ℕ) (ids q : List ℕ) → P ids → P (growGroup lists noAnchor g room ids q)
+  unfolding growGroup
   grow-keeps zero ids q p = p
-  grow-keeps (suc room) ids q p = elim (waiting ids q) as (λ l. P (elim l as (λ _. List ℕ) [ [] ↦ ids | v ∷ rest ↦ grow lists noAnchor g room (set ids v g) (rest ++ free lists noAnchor (set ids v g) (lists v)) ]))
+  grow-keeps (suc room) ids q p = elim (waiting ids q) as (λ l. P (elim l as (λ _. List ℕ) [ [] ↦ ids | v ∷ rest ↦ growGroup lists noAnchor g room (set ids v g) (rest ++ free lists noAnchor (set ids v g) (lists v)) ]))
       [ [] ↦ p | v ∷ rest ↦ grow-keeps room (set ids v g) (rest ++ free lists noAnchor (set ids v g) (lists v)) (step ids v p) ]
 
 module _ (lists : ℕ → List ℕ) where
-  grow-length : (g room : ℕ) (ids q : List ℕ) → length (grow lists noAnchor g room ids q) ≡ length ids
+  grow-length : (g room : ℕ) (ids q : List ℕ) → length (growGroup lists noAnchor g room ids q) ≡ length ids
   grow-length g room ids q = grow-keeps lists g (λ l. length l ≡ length ids) (λ l v p. length-set l v g ∙ p) room ids q refl
 
-  grow-upto : (g room : ℕ) (ids q : List ℕ) → ((u : ℕ) → getD ids u 0 ≤ g) → (u : ℕ) → getD (grow lists noAnchor g room ids q) u 0 ≤ g
+  grow-upto : (g room : ℕ) (ids q : List ℕ) → ((u : ℕ) → getD ids u 0 ≤ g) → (u : ℕ) → getD (growGroup lists noAnchor g room ids q) u 0 ≤ g
   grow-upto g room ids q h = grow-keeps lists g (λ l. (u : ℕ) → getD l u 0 ≤ g) (λ l v p u. ⊎-elim (λ e. omega arith) (λ e. omega (arith, p u)) (set-cases l v g u)) room ids q h
 
-  grow-some : (g room : ℕ) (ids q : List ℕ) (u : ℕ) → 0 < g → 0 < getD ids u 0 → 0 < getD (grow lists noAnchor g room ids q) u 0
+  grow-some : (g room : ℕ) (ids q : List ℕ) (u : ℕ) → 0 < g → 0 < getD ids u 0 → 0 < getD (growGroup lists noAnchor g room ids q) u 0
   grow-some g room ids q u pos h = grow-keeps lists g (λ l. 0 < getD l u 0) (λ l v p. ⊎-elim (λ e. omega arith) (λ e. omega arith) (set-cases l v g u)) room ids q h
 
-  grow-seed : (g room : ℕ) (ids : List ℕ) (v : ℕ) → 0 < g → 0 < room → v < length ids → getD ids v 0 ≡ 0 → 0 < getD (grow lists noAnchor g room ids (v ∷ [])) v 0
+  grow-seed : (g room : ℕ) (ids : List ℕ) (v : ℕ) → 0 < g → 0 < room → v < length ids → getD ids v 0 ≡ 0 → 0 < getD (growGroup lists noAnchor g room ids (v ∷ [])) v 0
   grow-seed g zero ids v pos r h z = omega arith
   grow-seed g (suc room) ids v pos r h z =
       rw (grow-takes lists g room ids v [] z)
@@ -56,7 +56,7 @@ module _ (lists : ℕ → List ℕ) where
     pub few : g ≤ v
 
   module _ (n size : ℕ) (pos : 0 < size) where
-    grows : (v g : ℕ) (ids : List ℕ) → v < n → getD ids v 0 ≡ 0 → Grown n v g ids → Grown n (suc v) (suc g) (grow lists noAnchor (suc g) size ids (v ∷ []))
+    grows : (v g : ℕ) (ids : List ℕ) → v < n → getD ids v 0 ≡ 0 → Grown n v g ids → Grown n (suc v) (suc g) (growGroup lists noAnchor (suc g) size ids (v ∷ []))
     grows v g ids h z o = record {
       long = grow-length (suc g) size ids (v ∷ []) ∙ o .long;
       upto = grow-upto (suc g) size ids (v ∷ []) (λ u. omega (arith, o .upto u));
@@ -76,11 +76,11 @@ module _ (lists : ℕ → List ℕ) where
       few = omega (arith, o .few);
     }
 
-    from : (left v g : ℕ) (ids : List ℕ) → v + left ≡ n → Grown n v g ids → Grown n n (growFrom lists noAnchor size left v g ids .1) (growFrom lists noAnchor size left v g ids .0)
-    unfolding growFrom
+    from : (left v g : ℕ) (ids : List ℕ) → v + left ≡ n → Grown n v g ids → Grown n n (growGroups lists noAnchor size left v g ids .1) (growGroups lists noAnchor size left v g ids .0)
+    unfolding growGroups
     from zero v g ids e o = let q : v ≡ n = omega arith in rw q at o
     from (suc left) v g ids e o = split (eqb (getD ids v 0) 0)
-        (λ t. rw (from-grows lists size left v g ids (eqb-true (getD ids v 0) 0 t)) (from left (suc v) (suc g) (grow lists noAnchor (suc g) size ids (v ∷ [])) (omega arith) (grows v g ids (omega arith) (eqb-true (getD ids v 0) 0 t) o)))
+        (λ t. rw (from-grows lists size left v g ids (eqb-true (getD ids v 0) 0 t)) (from left (suc v) (suc g) (growGroup lists noAnchor (suc g) size ids (v ∷ [])) (omega arith) (grows v g ids (omega arith) (eqb-true (getD ids v 0) 0 t) o)))
         (λ t. rw (from-passes lists size left v g ids (eqb-false (getD ids v 0) 0 t)) (from left (suc v) g ids (omega arith) (passes v g ids (eqb-false (getD ids v 0) 0 t) o)))
 
     -- every node is in a group, by numbers from 1 to their count

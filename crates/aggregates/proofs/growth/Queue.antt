@@ -6,7 +6,7 @@ use native.Mathlib.Omega.{arith}
 use native.Mathlib.Numerals.{add-one}
 use lib.ListN.{length, getD, set, take, drop, length-set}
 use lib.Seq.{slice, slice-empty, slice-cons, length-slice, length-take-le, drop-append-le, take-append-le, take-take, take-set-lt, drop-set-lt, take-suc-set, drop-at, getD-take}
-use Rattle.definitions.specs.Groups.{free, grow, listed, noAnchor}
+use Rattle.definitions.specs.Groups.{free, growGroup, listed, noAnchor}
 use Rattle.aggregates.specs.Lists.{Lists}
 use Rattle.aggregates.specs.Growth.{Pushes}
 use Rattle.aggregates.proofs.growth.Free.{All, all-append, all-free, all-slice, free-short, spare, degree, spare-set, spare-within, offset-within}
@@ -19,7 +19,7 @@ pub record Queue (offsets nb : List ℕ) (base n : ℕ) (w₀ : List ℕ) (seed 
   pub order : head ≤ tail
   pub space : tail + spare (degree offsets) 0 (take n w) ≤ n + (length nb + 1)
   pub nodes : All (λ x. x < n) (slice head tail w)
-  pub goes : grow (listed offsets nb) noAnchor g room (take n w) (slice head tail w) ≡ grow (listed offsets nb) noAnchor g size (take n w₀) (seed ∷ [])
+  pub goes : growGroup (listed offsets nb) noAnchor g room (take n w) (slice head tail w) ≡ growGroup (listed offsets nb) noAnchor g size (take n w₀) (seed ∷ [])
 
 -- the queue at its start
 one-waits : (n : ℕ) (w : List ℕ) (x : ℕ) → n < length w → slice n (n + 1) (set w n x) ≡ x ∷ []
@@ -40,14 +40,14 @@ module _ (offsets nb : List ℕ) (base n : ℕ) (w₀ : List ℕ) (seed g size :
         order = omega arith;
         space = omega (arith, spare-within n offsets nb ok (take n (set w₀ n seed)) (length-take-le n (set w₀ n seed) (simp length-set (omega arith))));
         nodes = rw e (h, tt);
-        goes = ap (λ q. grow (listed offsets nb) noAnchor g size (take n (set w₀ n seed)) q) e;
+        goes = ap (λ q. growGroup (listed offsets nb) noAnchor g size (take n (set w₀ n seed)) q) e;
       }
 
   module _ (w : List ℕ) (head tail room : ℕ) (inv : Queue offsets nb base n w₀ seed g size w head tail room) where
-    pub queue-full : room ≡ 0 → take n w ≡ grow (listed offsets nb) noAnchor g size (take n w₀) (seed ∷ [])
+    pub queue-full : room ≡ 0 → take n w ≡ growGroup (listed offsets nb) noAnchor g size (take n w₀) (seed ∷ [])
     queue-full z = sym (grow-full (listed offsets nb) g (take n w) (slice head tail w)) ∙ (rw z at (inv .goes))
 
-    pub queue-last : tail ≤ head → take n w ≡ grow (listed offsets nb) noAnchor g size (take n w₀) (seed ∷ [])
+    pub queue-last : tail ≤ head → take n w ≡ growGroup (listed offsets nb) noAnchor g size (take n w₀) (seed ∷ [])
     queue-last h =
         let e : tail ≡ head = omega arith in
         let none : slice head tail w ≡ [] = rw e (slice-empty head w) in
@@ -140,11 +140,11 @@ module _ (offsets nb : List ℕ) (base n : ℕ) (w₀ : List ℕ) (seed g size :
           unfolding added
           new-is = new
 
-          goes-on : grow (listed offsets nb) noAnchor g (room - 1) (take n (set w v g)) (slice (head + 1) tail w ++ added) ≡ grow (listed offsets nb) noAnchor g size (take n w₀) (seed ∷ [])
+          goes-on : growGroup (listed offsets nb) noAnchor g (room - 1) (take n (set w v g)) (slice (head + 1) tail w ++ added) ≡ growGroup (listed offsets nb) noAnchor g size (take n w₀) (seed ∷ [])
           unfolding added
           goes-on =
               let r : room ≡ suc (room - 1) = omega (arith, some) in
-              let g₁ : grow (listed offsets nb) noAnchor g (suc (room - 1)) (take n w) (v ∷ slice (head + 1) tail w) ≡ grow (listed offsets nb) noAnchor g size (take n w₀) (seed ∷ []) =
+              let g₁ : growGroup (listed offsets nb) noAnchor g (suc (room - 1)) (take n w) (v ∷ slice (head + 1) tail w) ≡ growGroup (listed offsets nb) noAnchor g size (take n w₀) (seed ∷ []) =
               rw (← r, vis) (rw front at (inv .goes)) in
               rw after (sym (grow-takes (listed offsets nb) g (room - 1) (take n w) v (slice (head + 1) tail w) free-now) ∙ g₁)
 

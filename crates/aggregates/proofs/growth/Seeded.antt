@@ -5,7 +5,7 @@ use Prim.Native.Nat.{ℕ, _+_, _≤_}
 use native.Mathlib.Omega.{arith}
 use lib.ListN.{length, set, take, drop, length-set}
 use lib.Seq.{take-set-le, drop-set-lt}
-use Rattle.definitions.specs.Groups.{grow, listed, noAnchor}
+use Rattle.definitions.specs.Groups.{growGroup, listed, noAnchor}
 use Rattle.aggregates.specs.Lists.{Lists}
 use Rattle.aggregates.specs.Stored.{offsetsAt, neighboursAt, listsAt}
 use Rattle.aggregates.proofs.stored.Elements.{base-fits, lists-still}
@@ -26,6 +26,6 @@ module _ (base n : ℕ) (w : List ℕ) (seed : ℕ) (ok : Lists n (offsetsAt bas
   pub seeded-fits' : base ≤ length (set w n seed)
   seeded-fits' = simp length-set seeded-fits
 
-  pub seeded-grows : (g size : ℕ) → grow (listsAt base n (set w n seed)) noAnchor g size (take n (set w n seed)) (seed ∷ []) ≡ grow (listsAt base n w) noAnchor g size (take n w) (seed ∷ [])
-  seeded-grows g size = ap (λ l. grow (listsAt base n (set w n seed)) noAnchor g size l (seed ∷ [])) (take-set-le n w n seed (omega arith))
-      ∙ lists-still base n (set w n seed) w seeded-still (λ o nb. grow (listed o nb) noAnchor g size (take n w) (seed ∷ []) ≡ grow (listsAt base n w) noAnchor g size (take n w) (seed ∷ [])) refl
+  pub seeded-grows : (g size : ℕ) → growGroup (listsAt base n (set w n seed)) noAnchor g size (take n (set w n seed)) (seed ∷ []) ≡ growGroup (listsAt base n w) noAnchor g size (take n w) (seed ∷ [])
+  seeded-grows g size = ap (λ l. growGroup (listsAt base n (set w n seed)) noAnchor g size l (seed ∷ [])) (take-set-le n w n seed (omega arith))
+      ∙ lists-still base n (set w n seed) w seeded-still (λ o nb. growGroup (listed o nb) noAnchor g size (take n w) (seed ∷ []) ≡ growGroup (listsAt base n w) noAnchor g size (take n w) (seed ∷ [])) refl

@@ -8,7 +8,7 @@ use borrow.Author.Tests.{lt-ltb, le-ltb, eqb-false}
 use lib.Dec.{eqb}
 use lib.ListN.{length, getD, length-append, replicate, length-replicate, getD-replicate}
 use lib.Seq.{slice, length-slice}
-use Rattle.definitions.specs.Groups.{Groups, Joining, nodesIn, sizeIn, edgesTo, chosen, named, listed, noAnchor, takerOf}
+use Rattle.definitions.specs.Groups.{Groups, Joining, nodesIn, sizeIn, edgesTo, chosen, namedGroups, listed, noAnchor, takerOf}
 use Rattle.laws.proofs.Tests.{both-false}
 use Rattle.laws.proofs.Lists.{getD-tab, tab-cong}
 use Rattle.aggregates.specs.JoinChoice.{at, othersBy, namedBy, named-is}
@@ -151,7 +151,7 @@ module _ (n groups : ℕ) (offsets nb ids w : List ℕ) (rep : Rep n groups offs
     choice-same sizes e = chosen-cong (λ o. o ≤ groups) (edgesTo names) sizes (edgesTo names) (at (2 * n + 1) w) (λ x p. refl) e
         (λ b a p q. better-keeps (edgesTo names) (at (2 * n + 1) w) b a (λ x. x ≤ groups) p q) 0 names (omega arith) low-names
 
-    same-names : named (listed offsets nb) noAnchor g S (nodesIn S g) ≡ names
+    same-names : namedGroups (listed offsets nb) noAnchor g S (nodesIn S g) ≡ names
     unfolding stateOf
     same-names = named-is (listed offsets nb) g S (nodesIn S g) ∙ rw (members-are g hg) (named-cong (listed offsets nb) g ids ids (sizeIn S) (at (2 * n + 1) w) (membersOf n w g)
         (all-imp (λ v. v < n) (λ v. All (λ x. (getD ids x 0 ≡ getD ids x 0) × (sizeIn S (getD ids x 0) ≡ at (2 * n + 1) w (getD ids x 0))) (listed offsets nb v))

@@ -7,7 +7,7 @@ use borrow.Author.Needs.{needs}
 use lib.Dec.{lit≤}
 use lib.IntN.{ℤ}
 use lib.Signed.{mag}
-use Rattle.laws.proofs.RootSquares.{Rest, closer}
+use Rattle.laws.specs.WholeRoot.{Rest, closer}
 use Rattle.root.specs.Fields.{Split, oddBit, half, raised}
 use Rattle.root.proofs.Exponent.{again, again-is, half-small, odd-small}
 use Rattle.root.proofs.Assembled.{Evened, evened, root-small, closer-least, closer-most, assembled}

@@ -5,7 +5,7 @@ use mathlib.Core.Logic.{⊎-elim}
 use Prim.Native.Nat.{_+_, _-_, _≤_}
 use native.Mathlib.Omega.{arith}
 use lib.ListN.{length, take}
-use Rattle.definitions.specs.Groups.{grow, listed, noAnchor}
+use Rattle.definitions.specs.Groups.{growGroup, listed, noAnchor}
 use Rattle.aggregates.specs.Lists.{Lists}
 use Rattle.aggregates.specs.Stored.{offsetsAt, neighboursAt}
 use Rattle.aggregates.proofs.stored.Elements.{base-fits, lists-still}
@@ -68,7 +68,7 @@ loop-again c =
     ⊎-elim
     (λ x.
     let f = x .2 in
-    let grows = lists-still (a .base) (a .nodes) (a .w .now) (l .w) (sym (l .inv .still)) (λ o n. take (a .nodes) (f .last .0) ≡ grow (listed o n) noAnchor (l .g + 1) (a .size) (take (a .nodes) (l .w)) (l .v ∷ [])) (f .ensures .0) in
+    let grows = lists-still (a .base) (a .nodes) (a .w .now) (l .w) (sym (l .inv .still)) (λ o n. take (a .nodes) (f .last .0) ≡ growGroup (listed o n) noAnchor (l .g + 1) (a .size) (take (a .nodes) (l .w)) (l .v ∷ [])) (f .ensures .0) in
     rw (x .5, x .6) (seed-grows (offsetsAt (a .base) (a .nodes) (a .w .now)) (neighboursAt (a .base) (a .nodes) (a .w .now)) (a .base) (a .nodes) (a .w .now) (a .size) (l .w) (l .g) (l .v) (l .inv) (omega arith) (f .last .0) (x .0 .taken) grows (f .kept .0) (f .ensures .1)))
     (λ x. rw (x .1, x .2) (seed-passes (offsetsAt (a .base) (a .nodes) (a .w .now)) (neighboursAt (a .base) (a .nodes) (a .w .now)) (a .base) (a .nodes) (a .w .now) (a .size) (l .w) (l .g) (l .v) (l .inv) (omega arith) (x .0 .left)))
     (c .if1 .came)

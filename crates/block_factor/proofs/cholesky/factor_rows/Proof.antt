@@ -3,7 +3,7 @@ use mathlib.Core.Path.{_≡_, ap, sym, _∙_}
 use native.Mathlib.Omega.{arith}
 use native.Mathlib.Nat.{sub-zero}
 use Prim.Native.Nat.{_-_, _≤_}
-use Rattle.definitions.specs.Factor.{factorFrom}
+use Rattle.definitions.specs.Factor.{factorRows}
 use Rattle.definitions.specs.Block.{inBlock}
 use Rattle.block_factor.specs.Dense.{blank, denseEntry}
 use Rattle.block_factor.specs.Factored.{factored, pivotRow}
@@ -13,7 +13,7 @@ use Rattle.block_factor.proofs.cholesky.factor_rows.Statement.{statemen
 use Rattle.block_factor.proofs.cholesky.factor_rows.Tie as tie
 
 abbrev Inv-loop : tie.InvT-loop
-Inv-loop a w first tol table l₀ i₀ l i = (i ≤ w) × (factorFrom (inBlock w) (pivotRow first) (denseEntry w a) tol (w - i) i l ≡ factorFrom (inBlock w) (pivotRow first) (denseEntry w a) tol w 0 blank)
+Inv-loop a w first tol table l₀ i₀ l i = (i ≤ w) × (factorRows (inBlock w) (pivotRow first) (denseEntry w a) tol (w - i) i l ≡ factorRows (inBlock w) (pivotRow first) (denseEntry w a) tol w 0 blank)
 
 abbrev μ-loop : tie.MeasureT-loop
 μ-loop a w first tol table l₀ i₀ l i = w - i

@@ -2,7 +2,7 @@
 use mathlib.Core.Path.{_≡_, refl, ap, _∙_}
 use native.Mathlib.Omega.{arith}
 use Prim.Native.Nat.{_-_, _≤_}
-use Rattle.definitions.specs.Factor.{leftOf}
+use Rattle.definitions.specs.Factor.{belowDiagonal}
 use Rattle.definitions.specs.Block.{inBlock}
 use Rattle.block_factor.specs.Dense.{denseEntry}
 use Rattle.block_factor.proofs.Steps.{left-none, left-more}
@@ -11,7 +11,7 @@ use Rattle.block_factor.proofs.cholesky.fill_row.Statement.{statement}
 use Rattle.block_factor.proofs.cholesky.fill_row.Tie as tie
 
 abbrev Inv-loop : tie.InvT-loop
-Inv-loop a l₀ w i j₀ l j = (j ≤ i) × (l ≡ leftOf (inBlock w) (denseEntry w a) i j l₀)
+Inv-loop a l₀ w i j₀ l j = (j ≤ i) × (l ≡ belowDiagonal (inBlock w) (denseEntry w a) i j l₀)
 
 abbrev μ-loop : tie.MeasureT-loop
 μ-loop a l₀ w i j₀ l j = i - j
@@ -47,7 +47,7 @@ returns : tie.Need-returns Inv-loop μ-loop
 returns c =
     let x = c .before .before .args in
     let e : c .before .loop .j ≡ x .i = omega arith in
-    c .before .loop .inv .1 ∙ ap (λ n. leftOf (inBlock (x .w)) (denseEntry (x .w) (x .a .now)) (x .i) n (x .l .now)) e
+    c .before .loop .inv .1 ∙ ap (λ n. belowDiagonal (inBlock (x .w)) (denseEntry (x .w) (x .a .now)) (x .i) n (x .l .now)) e
 
 pub fill-row-spec : {M : Type 1} → statement M
 fill-row-spec =

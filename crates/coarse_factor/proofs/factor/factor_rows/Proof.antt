@@ -1,5 +1,5 @@
 use lib.ListN.{length, length-set}
-use Rattle.definitions.specs.Factor.{factorFrom}
+use Rattle.definitions.specs.Factor.{factorRows}
 use Rattle.definitions.specs.Coarse.{packed, packedLength, entryIn}
 use Rattle.definitions.specs.declared.Refusal.the-variants.{CoarsePivot}
 use Rattle.averaging.proofs.Places.{place}
@@ -20,7 +20,7 @@ use Rattle.numbers.proofs.above.Reads as above-reads
 use Rattle.root.proofs.root.Reads as root-reads
 
 abbrev Inv-loop : tie.InvT-loop
-Inv-loop m l₀ c tol start₀ i₀ l start i = (i ≤ c) × (length l ≡ length l₀) × (start ≡ packedLength i) × (factorFrom packed (λ k. CoarsePivot k) (entryIn m c) tol (c - i) i l ≡ factorFrom packed (λ k. CoarsePivot k) (entryIn m c) tol c 0 l₀)
+Inv-loop m l₀ c tol start₀ i₀ l start i = (i ≤ c) × (length l ≡ length l₀) × (start ≡ packedLength i) × (factorRows packed (λ k. CoarsePivot k) (entryIn m c) tol (c - i) i l ≡ factorRows packed (λ k. CoarsePivot k) (entryIn m c) tol c 0 l₀)
 
 abbrev μ-loop : tie.MeasureT-loop
 μ-loop m l₀ c tol start₀ i₀ l start i = c - i

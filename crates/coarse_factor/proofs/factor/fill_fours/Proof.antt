@@ -1,5 +1,5 @@
 use lib.ListN.{length, length-set}
-use Rattle.definitions.specs.Factor.{leftOf}
+use Rattle.definitions.specs.Factor.{belowDiagonal}
 use Rattle.definitions.specs.Coarse.{packed, packedLength, entryIn}
 use Rattle.averaging.proofs.Places.{place}
 use Rattle.coarse_factor.proofs.Packed.{tri-row}
@@ -18,7 +18,7 @@ use Rattle.coarse_factor.proofs.factor.rest_four.Reads as rest-four-rea
 use Rattle.coarse_factor.proofs.factor.solved_four.Reads as solved-four-reads
 
 abbrev Inv-loop : tie.InvT-loop
-Inv-loop m l₀ c i start base row₀ j₀ l row j = (j ≤ i) × (row ≡ packedLength j) × (length l ≡ length l₀) × (l ≡ leftOf packed (entryIn m c) i j l₀)
+Inv-loop m l₀ c i start base row₀ j₀ l row j = (j ≤ i) × (row ≡ packedLength j) × (length l ≡ length l₀) × (l ≡ belowDiagonal packed (entryIn m c) i j l₀)
 
 abbrev μ-loop : tie.MeasureT-loop
 μ-loop m l₀ c i start base row₀ j₀ l row j = i - j

@@ -3,7 +3,7 @@ use mathlib.Core.Path.{_≡_, refl}
 use mathlib.Core.List.{List}
 use lib.ListN.{length, length-set}
 use lib.Ieee.{Float}
-use Rattle.definitions.specs.Factor.{leftOf}
+use Rattle.definitions.specs.Factor.{belowDiagonal}
 use Rattle.definitions.specs.Coarse.{packed, packedLength, entryIn}
 use Rattle.averaging.proofs.Places.{place}
 use Rattle.coarse_factor.proofs.Packed.{tri-next}
@@ -17,7 +17,7 @@ use Rattle.coarse_factor.proofs.factor.fill_rest.Lts as lts
 use Rattle.coarse_factor.proofs.factor.rest.Reads as rest-reads
 
 abbrev Inv-loop : tie.InvT-loop
-Inv-loop m l₀ c i start from base row₀ j₀ l row j = (j ≤ i) × (length l ≡ length l₀) × (row ≡ packedLength j) × ((k : List Float) → l₀ ≡ leftOf packed (entryIn m c) i from k → l ≡ leftOf packed (entryIn m c) i j k)
+Inv-loop m l₀ c i start from base row₀ j₀ l row j = (j ≤ i) × (length l ≡ length l₀) × (row ≡ packedLength j) × ((k : List Float) → l₀ ≡ belowDiagonal packed (entryIn m c) i from k → l ≡ belowDiagonal packed (entryIn m c) i j k)
 
 abbrev μ-loop : tie.MeasureT-loop
 μ-loop m l₀ c i start from base row₀ j₀ l row j = i - j

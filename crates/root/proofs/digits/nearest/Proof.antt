@@ -6,7 +6,7 @@ use mathlib.Core.Bool.{Bool, true, false, not, cond}
 use native.Mathlib.Numerals.{add-one}
 use native.Mathlib.Omega.{arith}
 use lib.Dec.{T, ltb, ltb→lt, nltb→le}
-use Rattle.laws.proofs.RootSquares.{closer}
+use Rattle.laws.specs.WholeRoot.{closer}
 use Rattle.root.proofs.digits.nearest.Statement.{statement}
 use Rattle.root.proofs.digits.nearest.Tie as tie
 

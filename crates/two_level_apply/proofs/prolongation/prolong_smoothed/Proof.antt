@@ -9,7 +9,7 @@ use Rattle.two_level_apply.proofs.Scattering.{none-step}
 use Rattle.two_level_apply.proofs.Restricting.{row-span}
 use Rattle.two_level_apply.proofs.Prolonging.{row-gain, gained-all}
 use Rattle.definitions.specs.Numbers.{summed}
-use Rattle.definitions.specs.Apply.{weightedParts}
+use Rattle.definitions.specs.Apply.{prolongationTerms}
 use borrow.Author.Needs.{needs}
 use Rattle.two_level_apply.proofs.prolongation.prolong_smoothed.Statement.{statement}
 use Rattle.two_level_apply.proofs.prolongation.prolong_smoothed.Tie as tie
@@ -83,7 +83,7 @@ returns : tie.Need-returns Inv-loop μ-loop
 returns c =
     let a = c .before .before .before .before .before .before .before .args in
     let l = c .before .loop in
-    gained-all (λ i. summed (weightedParts (rowOf (a .ptr .now) (a .idx .now) (a .vals .now) i) (a .sol .now))) (a .z .now) (l .i) (l .z) (omega arith) (l .inv .2)
+    gained-all (λ i. summed (prolongationTerms (rowOf (a .ptr .now) (a .idx .now) (a .vals .now) i) (a .sol .now))) (a .z .now) (l .i) (l .z) (omega arith) (l .inv .2)
 
 pub prolong-smoothed-spec : {M : Type 1} → statement M
 prolong-smoothed-spec =

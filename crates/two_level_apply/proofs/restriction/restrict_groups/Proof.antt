@@ -5,7 +5,7 @@ use Rattle.definitions.specs.Fits.{idsIn}
 use Rattle.two_level_apply.proofs.Parts.{nodes-room, grouped, front}
 use Rattle.definitions.specs.Numbers.{total}
 use Rattle.definitions.specs.Transfer.{coarseColumn}
-use Rattle.definitions.specs.Apply.{constantParts}
+use Rattle.definitions.specs.Apply.{constantRestrictionTerms}
 use borrow.Author.Needs.{needs}
 use Rattle.two_level_apply.proofs.restriction.restrict_groups.Statement.{statement}
 use Rattle.two_level_apply.proofs.restriction.restrict_groups.Tie as tie
@@ -35,7 +35,7 @@ returns : tie.Need-returns
 returns c =
     let a = c .before .before .before .before .before .before .before .before .before .args in
     let d = c .before .before .restrict-constant in
-    front (a .work .now) (d .last .1 .1 .1 .0) (λ j. total (constantParts (coarseColumn (a .s .block) (idsIn (a .s) (a .ints .now))) (a .r .now) j)) (a .s .coarse) (c .before .before .before .before .before .before .before .before .before .pre .2) (d .ensures)
+    front (a .work .now) (d .last .1 .1 .1 .0) (λ j. total (constantRestrictionTerms (coarseColumn (a .s .block) (idsIn (a .s) (a .ints .now))) (a .r .now) j)) (a .s .coarse) (c .before .before .before .before .before .before .before .before .before .pre .2) (d .ensures)
 
 pub restrict-groups-spec : {M : Type 1} → statement M
 restrict-groups-spec =

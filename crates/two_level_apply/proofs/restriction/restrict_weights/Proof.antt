@@ -7,7 +7,7 @@ use Rattle.definitions.specs.Fits.{pointersIn, columnsIn, weightsIn}
 use Rattle.two_level_apply.proofs.Parts.{weights-long, compressed, Room, room, front}
 use Rattle.definitions.specs.Numbers.{total}
 use Rattle.definitions.specs.Matrix.{rowOf}
-use Rattle.definitions.specs.Apply.{smoothedParts}
+use Rattle.definitions.specs.Apply.{smoothedRestrictionTerms}
 use borrow.Author.Needs.{needs}
 use Rattle.two_level_apply.proofs.restriction.restrict_weights.Statement.{statement}
 use Rattle.two_level_apply.proofs.restriction.restrict_weights.Tie as tie
@@ -85,7 +85,7 @@ returns : tie.Need-returns
 returns c =
     let a = c .before .before .before .before .before .before .before .before .before .before .before .before .args in
     let d = c .before .before .restrict-smoothed in
-    front (a .work .now) (d .last .1 .1 .1 .1 .0) (λ j. total (smoothedParts (rowOf (pointersIn (a .s) (a .ints .now)) (columnsIn (a .s) (a .ints .now)) (weightsIn (a .s) (a .floats .now))) (a .r .now) j)) (a .s .coarse) (c .before .before .before .before .before .before .before .before .before .before .before .before .pre .2) (d .ensures)
+    front (a .work .now) (d .last .1 .1 .1 .1 .0) (λ j. total (smoothedRestrictionTerms (rowOf (pointersIn (a .s) (a .ints .now)) (columnsIn (a .s) (a .ints .now)) (weightsIn (a .s) (a .floats .now))) (a .r .now) j)) (a .s .coarse) (c .before .before .before .before .before .before .before .before .before .before .before .before .pre .2) (d .ensures)
 
 pub restrict-weights-spec : {M : Type 1} → statement M
 restrict-weights-spec =

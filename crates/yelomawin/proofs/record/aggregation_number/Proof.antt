@@ -1,5 +1,5 @@
 -- By the cases of the policy.
-use Rattle.yelomawin.specs.Boundary.{aggregationNumber}
+use Rattle.definitions.specs.Record.{aggregationNumber}
 use borrow.Author.Needs.{needs}
 use Rattle.yelomawin.proofs.record.aggregation_number.Statement.{statement}
 use Rattle.yelomawin.proofs.record.aggregation_number.Tie as tie

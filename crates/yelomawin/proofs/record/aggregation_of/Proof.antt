@@ -1,5 +1,5 @@
 -- By the number.
-use Rattle.yelomawin.specs.Boundary.{aggregationOf}
+use Rattle.definitions.specs.Record.{aggregationOf}
 use Rattle.yelomawin.proofs.Policies.{last-aggregation}
 use Rattle.yelomawin.proofs.record.aggregation_of.Statement.{statement}
 use Rattle.yelomawin.proofs.record.aggregation_of.Tie as tie

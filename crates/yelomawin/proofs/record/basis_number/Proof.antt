@@ -1,5 +1,5 @@
 -- By the cases of the policy.
-use Rattle.yelomawin.specs.Boundary.{basisNumber}
+use Rattle.definitions.specs.Record.{basisNumber}
 use borrow.Author.Needs.{needs}
 use Rattle.yelomawin.proofs.record.basis_number.Statement.{statement}
 use Rattle.yelomawin.proofs.record.basis_number.Tie as tie

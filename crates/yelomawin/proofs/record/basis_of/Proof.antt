@@ -1,5 +1,5 @@
 -- By the number.
-use Rattle.yelomawin.specs.Boundary.{basisOf}
+use Rattle.definitions.specs.Record.{basisOf}
 use Rattle.yelomawin.proofs.Policies.{last-basis}
 use Rattle.yelomawin.proofs.record.basis_of.Statement.{statement}
 use Rattle.yelomawin.proofs.record.basis_of.Tie as tie

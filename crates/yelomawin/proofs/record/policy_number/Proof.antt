@@ -1,5 +1,5 @@
 -- By the cases of the policy.
-use Rattle.yelomawin.specs.Boundary.{policyNumber}
+use Rattle.definitions.specs.Record.{policyNumber}
 use borrow.Author.Needs.{needs}
 use Rattle.yelomawin.proofs.record.policy_number.Statement.{statement}
 use Rattle.yelomawin.proofs.record.policy_number.Tie as tie

@@ -1,5 +1,5 @@
 -- By the number.
-use Rattle.yelomawin.specs.Boundary.{policyOf}
+use Rattle.definitions.specs.Record.{policyOf}
 use Rattle.yelomawin.proofs.Policies.{last-policy}
 use Rattle.yelomawin.proofs.record.policy_of.Statement.{statement}
 use Rattle.yelomawin.proofs.record.policy_of.Tie as tie

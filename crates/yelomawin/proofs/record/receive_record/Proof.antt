@@ -1,5 +1,5 @@
 -- Zeros everywhere, then the numbers in turn.
-use Rattle.yelomawin.specs.Boundary.{recordNumbers}
+use Rattle.definitions.specs.Record.{recordNumbers}
 use Rattle.yelomawin.proofs.Receiving.{written, receives}
 use borrow.Author.Needs.{needs}
 use Rattle.yelomawin.proofs.record.receive_record.Statement.{statement}

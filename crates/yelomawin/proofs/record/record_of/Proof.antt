@@ -1,5 +1,5 @@
 -- Number by number.
-use Rattle.yelomawin.specs.Boundary.{recordOf}
+use Rattle.definitions.specs.Record.{recordOf}
 use borrow.Author.Needs.{needs}
 use Rattle.yelomawin.proofs.record.record_of.Statement.{statement}
 use Rattle.yelomawin.proofs.record.record_of.Tie as tie

@@ -1,7 +1,6 @@
 -- By the cases of the answer.
 use mathlib.Core.Path.{refl}
-use Rattle.definitions.specs.Answers.{setupNumber}
-use Rattle.yelomawin.specs.Boundary.{setupValues}
+use Rattle.definitions.specs.Answers.{setupNumber, setupValues}
 use borrow.Author.Needs.{needs}
 use Rattle.yelomawin.proofs.told.setup.Statement.{statement}
 use Rattle.yelomawin.proofs.told.setup.Tie as tie

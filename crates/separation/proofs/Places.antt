@@ -8,7 +8,7 @@ use lib.Dec.{eqb}
 use lib.ListN.{length, getD, take, length-append}
 use lib.Seq.{take-at}
 use lib.Ieee.{Float, nan}
-use Rattle.definitions.specs.Lists.{tab, upTo, part, pointersFrom}
+use Rattle.definitions.specs.Lists.{tab, upTo, between, pointersFrom}
 use Rattle.definitions.specs.Numbers.{_+ᶠ_, _*ᶠ_, total, summed}
 use Rattle.definitions.specs.Refusal.{done}
 use Rattle.definitions.specs.Matrix.{Matrix, Entry, rowOf, valuesWhere}
@@ -17,7 +17,7 @@ use Rattle.definitions.specs.Transfer.{coarseColumn, transferRow, transferOf}
 use Rattle.definitions.specs.Coarse.{packedLength, averagedSquare, averaged, entryIn, coarseLength, coarsePart, coarseSolve, inverseOf, packedSolve, unit}
 use Rattle.definitions.specs.Setup.{nodeCount, Transfer, transferFor, transferInts, transferFloats, builtFrom}
 use Rattle.definitions.specs.Fits.{idsIn, pointersIn, columnsIn, factorsIn, weightsIn, coarseIn}
-use Rattle.definitions.specs.Apply.{constantParts, smoothedParts, weightedParts, transferIn, restrictedParts, restricted, coarseSolution, gained, applied}
+use Rattle.definitions.specs.Apply.{constantRestrictionTerms, smoothedRestrictionTerms, prolongationTerms, transferIn, restrictionTerms, restricted, coarseSolution, gained, applied}
 use Rattle.definitions.specs.declared.Options.{Options}
 use Rattle.definitions.specs.declared.TwoLevelBasis.{TwoLevelBasis}
 use Rattle.definitions.specs.declared.TwoLevelBasis.the-variants.{PiecewiseConstant, JacobiSmoothed}
@@ -98,18 +98,18 @@ module _ (ids zs : List ℕ) (ws : List (List Entry)) (nodes rows : ℕ) (p : le
   many : length (pointersFrom 0 ws) ≡ suc rows
   many = pointers-length 0 ws ∙ ap suc q
 
-  pub pointers-read : part nodes (nodes + rows + 1) ((ids ++ transferInts JacobiSmoothed ws) ++ zs) ≡ pointersFrom 0 ws
+  pub pointers-read : between nodes (nodes + rows + 1) ((ids ++ transferInts JacobiSmoothed ws) ++ zs) ≡ pointersFrom 0 ws
   pointers-read =
-      ap (λ (l : List ℕ). part nodes (nodes + rows + 1) l) stored
+      ap (λ (l : List ℕ). between nodes (nodes + rows + 1) l) stored
       ∙ part-mid ids (pointersFrom 0 ws) (columnsOf ws ++ zs) nodes (nodes + rows + 1) p (ap (λ (x : ℕ). nodes + x) many ∙ next nodes rows)
     where
       next : (x y : ℕ) → x + suc y ≡ x + y + 1
       next x y = omega arith
 
-  pub columns-read : part (nodes + rows + 1) (nodes + rows + 1 + length (transferFloats ws)) ((ids ++ transferInts JacobiSmoothed ws) ++ zs) ≡ columnsOf ws
+  pub columns-read : between (nodes + rows + 1) (nodes + rows + 1 + length (transferFloats ws)) ((ids ++ transferInts JacobiSmoothed ws) ++ zs) ≡ columnsOf ws
   unfolding transferFloats
   columns-read =
-      ap (λ (l : List ℕ). part (nodes + rows + 1) (nodes + rows + 1 + length (numbersOf ws)) l) (stored ∙ sym (append-assoc ids (pointersFrom 0 ws) (columnsOf ws ++ zs)))
+      ap (λ (l : List ℕ). between (nodes + rows + 1) (nodes + rows + 1 + length (numbersOf ws)) l) (stored ∙ sym (append-assoc ids (pointersFrom 0 ws) (columnsOf ws ++ zs)))
       ∙ part-mid (ids ++ pointersFrom 0 ws) (columnsOf ws) zs (nodes + rows + 1) (nodes + rows + 1 + length (numbersOf ws))
       (length-append ids (pointersFrom 0 ws) ∙ ap (λ (x : ℕ). x + length (pointersFrom 0 ws)) p ∙ ap (λ (x : ℕ). nodes + x) many ∙ next nodes rows)
       (ap (λ (x : ℕ). nodes + rows + 1 + x) (columns-length ws ∙ sym (values-length ws)))
@@ -151,27 +151,27 @@ module _ {a : Matrix} {o : Options} (s : Stages a o) (zs : List ℕ) (fs : List 
   pub weights-read : weightsIn (built s .setup) (built s .floats ++ fs) ≡ values
   unfolding builtFrom
   weights-read =
-      ap (λ (l : List Float). part (a .rows * o .block) (a .rows * o .block + length values) l) floats-are
+      ap (λ (l : List Float). between (a .rows * o .block) (a .rows * o .block + length values) l) floats-are
       ∙ part-mid (s .factors) values (cp ++ fs) (a .rows * o .block) (a .rows * o .block + length values) factors-many refl
 
   pub coarse-read : coarseIn (built s .setup) (built s .floats ++ fs) ≡ coarsePart (policyBy s) (dimension s) (s .factor)
   unfolding builtFrom
   coarse-read =
       let from = a .rows * o .block + length values in
-      ap (λ (l : List Float). part from (from + coarseLength (policyBy s) (dimension s)) l) (append-assoc (s .factors ++ values) cp fs)
+      ap (λ (l : List Float). between from (from + coarseLength (policyBy s) (dimension s)) l) (append-assoc (s .factors ++ values) cp fs)
       ∙ part-mid (s .factors ++ values) cp fs from (from + coarseLength (policyBy s) (dimension s))
       (length-append (s .factors) values ∙ ap (λ (x : ℕ). x + length values) factors-many) (ap (λ (x : ℕ). from + x) coarse-many)
 
   rows-from : (basis : TwoLevelBasis) → transferFor basis a (o .block) (s .groups .ids) (dimension s) ≡ done (s .transfer)
       → OnlySmoothed basis ((i : ℕ) → i < a .rows →
-      rowOf (part (nodeCount a o) (nodeCount a o + a .rows + 1) ((s .groups .ids ++ transferInts basis (s .transfer .weights)) ++ zs))
-      (part (nodeCount a o + a .rows + 1) (nodeCount a o + a .rows + 1 + length values) ((s .groups .ids ++ transferInts basis (s .transfer .weights)) ++ zs)) values i ≡ weightsBy s i)
+      rowOf (between (nodeCount a o) (nodeCount a o + a .rows + 1) ((s .groups .ids ++ transferInts basis (s .transfer .weights)) ++ zs))
+      (between (nodeCount a o + a .rows + 1) (nodeCount a o + a .rows + 1 + length values) ((s .groups .ids ++ transferInts basis (s .transfer .weights)) ++ zs)) values i ≡ weightsBy s i)
   unfolding transferFloats
   rows-from PiecewiseConstant e = tt
   rows-from JacobiSmoothed e = λ i h.
       let ws = s .transfer .weights in
       let q = weights-count a (o .block) (s .groups .ids) (dimension s) (s .transfer) e in
-      ap (λ (l : List ℕ). rowOf l (part (nodeCount a o + a .rows + 1) (nodeCount a o + a .rows + 1 + length (transferFloats ws)) ((s .groups .ids ++ transferInts JacobiSmoothed ws) ++ zs)) (numbersOf ws) i)
+      ap (λ (l : List ℕ). rowOf l (between (nodeCount a o + a .rows + 1) (nodeCount a o + a .rows + 1 + length (transferFloats ws)) ((s .groups .ids ++ transferInts JacobiSmoothed ws) ++ zs)) (numbersOf ws) i)
       (pointers-read (s .groups .ids) zs ws (nodeCount a o) (a .rows) ids-many q)
       ∙ ap (λ (l : List ℕ). rowOf (pointersFrom 0 ws) l (numbersOf ws) i) (columns-read (s .groups .ids) zs ws (nodeCount a o) (a .rows) ids-many q)
       ∙ row-back ws i (subst (λ (x : ℕ). i < x) (sym q) h)
@@ -182,8 +182,8 @@ module _ {a : Matrix} {o : Options} (s : Stages a o) (zs : List ℕ) (fs : List 
     where
       go : (basis : TwoLevelBasis)
           → OnlySmoothed basis ((i : ℕ) → i < a .rows →
-          rowOf (part (nodeCount a o) (nodeCount a o + a .rows + 1) ((s .groups .ids ++ transferInts (o .basis) (s .transfer .weights)) ++ zs))
-          (part (nodeCount a o + a .rows + 1) (nodeCount a o + a .rows + 1 + length values) ((s .groups .ids ++ transferInts (o .basis) (s .transfer .weights)) ++ zs)) values i ≡ weightsBy s i)
+          rowOf (between (nodeCount a o) (nodeCount a o + a .rows + 1) ((s .groups .ids ++ transferInts (o .basis) (s .transfer .weights)) ++ zs))
+          (between (nodeCount a o + a .rows + 1) (nodeCount a o + a .rows + 1 + length values) ((s .groups .ids ++ transferInts (o .basis) (s .transfer .weights)) ++ zs)) values i ≡ weightsBy s i)
           → OnlySmoothed basis ((i : ℕ) → i < a .rows → transferIn (built s .setup) (built s .ints ++ zs) (built s .floats ++ fs) i ≡ weightsBy s i)
       go PiecewiseConstant k = tt
       go JacobiSmoothed k = λ i h.
@@ -193,9 +193,9 @@ module _ {a : Matrix} {o : Options} (s : Stages a o) (zs : List ℕ) (fs : List 
 
   module _ (r : List Float) (long : length r ≡ a .rows) where
     parts-read : (basis : TwoLevelBasis) → OnlySmoothed basis ((i : ℕ) → i < a .rows → transferIn (built s .setup) (built s .ints ++ zs) (built s .floats ++ fs) i ≡ weightsBy s i)
-        → (j : ℕ) → restrictedParts (built s .setup) (built s .ints ++ zs) (built s .floats ++ fs) basis r j ≡ partsBy s basis r j
-    unfolding restrictedParts partsBy smoothedParts builtFrom
-    parts-read PiecewiseConstant k j = ap (λ (x : List ℕ). constantParts (λ i. coarseColumn (o .block) x i) r j) ids-read
+        → (j : ℕ) → restrictionTerms (built s .setup) (built s .ints ++ zs) (built s .floats ++ fs) basis r j ≡ partsBy s basis r j
+    unfolding restrictionTerms partsBy smoothedRestrictionTerms builtFrom
+    parts-read PiecewiseConstant k j = ap (λ (x : List ℕ). constantRestrictionTerms (λ i. coarseColumn (o .block) x i) r j) ids-read
     parts-read JacobiSmoothed k j =
         flatMap-cong (λ i. map (λ w. w *ᶠ getD r i nan) (valuesWhere (λ c. eqb c j) (transferIn (built s .setup) (built s .ints ++ zs) (built s .floats ++ fs) i)))
         (λ i. map (λ w. w *ᶠ getD r i nan) (valuesWhere (λ c. eqb c j) (weightsBy s i)))
@@ -205,12 +205,12 @@ module _ {a : Matrix} {o : Options} (s : Stages a o) (zs : List ℕ) (fs : List 
         → (sol : List Float) (i : ℕ) → i < a .rows → gained (built s .setup) (built s .ints ++ zs) (built s .floats ++ fs) basis sol i ≡ gainedBy s basis sol i
     unfolding gained gainedBy builtFrom
     gains-read PiecewiseConstant k sol i h = ap (λ (x : List ℕ). getD sol (coarseColumn (o .block) x i) nan) ids-read
-    gains-read JacobiSmoothed k sol i h = ap (λ (row : List Entry). summed (weightedParts row sol)) (k i h)
+    gains-read JacobiSmoothed k sol i h = ap (λ (row : List Entry). summed (prolongationTerms row sol)) (k i h)
 
     restricted-read : restricted (built s .setup) (built s .ints ++ zs) (built s .floats ++ fs) r ≡ restrictedBy s r
     unfolding restricted restrictedBy builtFrom
     restricted-read =
-        tab-cong (λ j. total (restrictedParts (built s .setup) (built s .ints ++ zs) (built s .floats ++ fs) (o .basis) r j)) (λ j. total (partsBy s (o .basis) r j)) (dimension s)
+        tab-cong (λ j. total (restrictionTerms (built s .setup) (built s .ints ++ zs) (built s .floats ++ fs) (o .basis) r j)) (λ j. total (partsBy s (o .basis) r j)) (dimension s)
         (λ j h. ap total (parts-read (o .basis) rows-read j))
 
     solution-read : coarseSolution (built s .setup) (built s .ints ++ zs) (built s .floats ++ fs) r ≡ solutionBy s r

@@ -1,9 +1,11 @@
 -- By the cases of the cause.
-use Rattle.definitions.specs.Refusal.{valuesOf}
-use Rattle.yelomawin.specs.Boundary.{firstOf}
+use Rattle.definitions.specs.Refusal.{numberOf, valuesOf, causeOf}
+use Rattle.causes.specs.Told.{toldOf}
 use borrow.Author.Needs.{needs}
-use Rattle.yelomawin.proofs.answers.first_of.Statement.{statement}
-use Rattle.yelomawin.proofs.answers.first_of.Tie as tie
+use Rattle.causes.proofs.told.Statement.{statement}
+use Rattle.causes.proofs.told.Tie as tie
+use Rattle.causes.proofs.told.Reads as reads
+use Rattle.causes.proofs.told.Lts as lts
 
 enum-told : tie.Need-enum-told
 enum-told c = search needs
@@ -90,119 +92,119 @@ enum-told-18 : tie.Need-enum-told-18
 enum-told-18 c = search needs
 
 returns : tie.Need-returns
-unfolding firstOf valuesOf
+unfolding toldOf numberOf valuesOf causeOf
 returns c = rw (c .enum-told .given .1)
 
 returns-2 : tie.Need-returns-2
-unfolding firstOf valuesOf
+unfolding toldOf numberOf valuesOf causeOf
 returns-2 c = rw (c .enum-told2 .given .1)
 
 returns-3 : tie.Need-returns-3
-unfolding firstOf valuesOf
+unfolding toldOf numberOf valuesOf causeOf
 returns-3 c = rw (c .enum-told3 .given .1)
 
 returns-4 : tie.Need-returns-4
-unfolding firstOf valuesOf
+unfolding toldOf numberOf valuesOf causeOf
 returns-4 c = rw (c .enum-told4 .given .1)
 
 returns-5 : tie.Need-returns-5
-unfolding firstOf valuesOf
+unfolding toldOf numberOf valuesOf causeOf
 returns-5 c = rw (c .enum-told5 .given .1)
 
 returns-6 : tie.Need-returns-6
-unfolding firstOf valuesOf
+unfolding toldOf numberOf valuesOf causeOf
 returns-6 c = rw (c .enum-told6 .given .1)
 
 returns-7 : tie.Need-returns-7
-unfolding firstOf valuesOf
+unfolding toldOf numberOf valuesOf causeOf
 returns-7 c = rw (c .enum-told7 .given .1)
 
 returns-8 : tie.Need-returns-8
-unfolding firstOf valuesOf
+unfolding toldOf numberOf valuesOf causeOf
 returns-8 c = rw (c .enum-told8 .given .1)
 
 returns-9 : tie.Need-returns-9
-unfolding firstOf valuesOf
+unfolding toldOf numberOf valuesOf causeOf
 returns-9 c = rw (c .enum-told9 .given .1)
 
 returns-10 : tie.Need-returns-10
-unfolding firstOf valuesOf
+unfolding toldOf numberOf valuesOf causeOf
 returns-10 c = rw (c .enum-told10 .given .1)
 
 returns-11 : tie.Need-returns-11
-unfolding firstOf valuesOf
+unfolding toldOf numberOf valuesOf causeOf
 returns-11 c = rw (c .enum-told11 .given .1)
 
 returns-12 : tie.Need-returns-12
-unfolding firstOf valuesOf
+unfolding toldOf numberOf valuesOf causeOf
 returns-12 c = rw (c .enum-told12 .given .1)
 
 returns-13 : tie.Need-returns-13
-unfolding firstOf valuesOf
+unfolding toldOf numberOf valuesOf causeOf
 returns-13 c = rw (c .enum-told13 .given .1)
 
 returns-14 : tie.Need-returns-14
-unfolding firstOf valuesOf
+unfolding toldOf numberOf valuesOf causeOf
 returns-14 c = rw (c .before .cause .given .1)
 
 returns-15 : tie.Need-returns-15
-unfolding firstOf valuesOf
+unfolding toldOf numberOf valuesOf causeOf
 returns-15 c = rw (c .before .cause2 .given .1)
 
 returns-16 : tie.Need-returns-16
-unfolding firstOf valuesOf
+unfolding toldOf numberOf valuesOf causeOf
 returns-16 c = rw (c .enum-told14 .given .1)
 
 returns-17 : tie.Need-returns-17
-unfolding firstOf valuesOf
+unfolding toldOf numberOf valuesOf causeOf
 returns-17 c = rw (c .before .cause3 .given .1)
 
 returns-18 : tie.Need-returns-18
-unfolding firstOf valuesOf
+unfolding toldOf numberOf valuesOf causeOf
 returns-18 c = rw (c .before .cause4 .given .1)
 
 returns-19 : tie.Need-returns-19
-unfolding firstOf valuesOf
+unfolding toldOf numberOf valuesOf causeOf
 returns-19 c = rw (c .before .cause5 .given .1)
 
 returns-20 : tie.Need-returns-20
-unfolding firstOf valuesOf
+unfolding toldOf numberOf valuesOf causeOf
 returns-20 c = rw (c .before .cause6 .given .1)
 
 returns-21 : tie.Need-returns-21
-unfolding firstOf valuesOf
+unfolding toldOf numberOf valuesOf causeOf
 returns-21 c = rw (c .before .cause7 .given .1)
 
 returns-22 : tie.Need-returns-22
-unfolding firstOf valuesOf
+unfolding toldOf numberOf valuesOf causeOf
 returns-22 c = rw (c .before .cause8 .given .1)
 
 returns-23 : tie.Need-returns-23
-unfolding firstOf valuesOf
+unfolding toldOf numberOf valuesOf causeOf
 returns-23 c = rw (c .enum-told15 .given .1)
 
 returns-24 : tie.Need-returns-24
-unfolding firstOf valuesOf
+unfolding toldOf numberOf valuesOf causeOf
 returns-24 c = rw (c .before .cause9 .given .1)
 
 returns-25 : tie.Need-returns-25
-unfolding firstOf valuesOf
+unfolding toldOf numberOf valuesOf causeOf
 returns-25 c = rw (c .before .cause10 .given .1)
 
 returns-26 : tie.Need-returns-26
-unfolding firstOf valuesOf
+unfolding toldOf numberOf valuesOf causeOf
 returns-26 c = rw (c .enum-told16 .given .1)
 
 returns-27 : tie.Need-returns-27
-unfolding firstOf valuesOf
+unfolding toldOf numberOf valuesOf causeOf
 returns-27 c = rw (c .enum-told17 .given .1)
 
 returns-28 : tie.Need-returns-28
-unfolding firstOf valuesOf
+unfolding toldOf numberOf valuesOf causeOf
 returns-28 c = rw (c .enum-told18 .given .1)
 
-pub first-of-spec : {M : Type 1} → statement M
-first-of-spec =
+pub told-spec : {M : Type 1} → statement M
+told-spec =
     tie.close
     (tie.spec
     enum-told

@@ -1,0 +1,2 @@
+-- a row of the table as numbers
+pub mod Told

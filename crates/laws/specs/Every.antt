@@ -1,0 +1,6 @@
+-- Every element of a list.
+use mathlib.Core.List.{List, [], _∷_}
+
+pub data Each {A : Type 0} (P : A → Type 0) : List A → Type 0 where
+  none : Each P []
+  more : {x : A} {xs : List A} → P x → Each P xs → Each P (x ∷ xs)

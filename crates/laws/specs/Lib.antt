@@ -1,0 +1,3 @@
+-- Words that contracts of more than one crate cite.
+pub mod Every
+pub mod WholeRoot
