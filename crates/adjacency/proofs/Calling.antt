@@ -26,7 +26,7 @@ use Rattle.csr32.specs.Rows.{Rows}
 use Rattle.csr32.specs.Valid.{accepted-rows, square-rows, valid-goes, valid-stops, valid-kept}
 use Rattle.laws.proofs.Tests.{both-true}
 use Rattle.adjacency.specs.Fits.{four, enough, fitsOf}
-use Rattle.adjacency.specs.Formed.{Formed}
+use Rattle.adjacency.specs.WellFormed.{WellFormed}
 use Rattle.adjacency.specs.Within.{neighboursWithin}
 use Rattle.adjacency.proofs.Fitting.{enough-are}
 
@@ -53,7 +53,7 @@ unfolding four keepsAll causeOf
 fits-keeps p q r s = keeps-then _ _ (keeps-require p _ refl) (λ _. keeps-then _ _ (keeps-require q _ refl) (λ _. keeps-then _ _ (keeps-require r _ refl) (λ _. keeps-require s _ refl)))
 
 -- the facts that the loops need
-formed-of : (rows size : ℕ) (ptr cols : List ℕ) (vals : List Float) → Rows (csr rows rows ptr cols vals) → 1 ≤ size → rows % size ≡ 0 → Formed (rows / size) size ptr cols vals
+formed-of : (rows size : ℕ) (ptr cols : List ℕ) (vals : List Float) → Rows (csr rows rows ptr cols vals) → 1 ≤ size → rows % size ≡ 0 → WellFormed (rows / size) size ptr cols vals
 formed-of rows size ptr cols vals w h m =
     let e : rows / size * size ≡ rows = omega (arith, div-add-mod' rows size, m) in
     let n : rows / size ≤ rows = div-le-self rows size in
@@ -130,7 +130,7 @@ module _ (g : TwoLevelAggregation) (rows cols : ℕ) (ptr idx : List ℕ) (vals 
           walks : Rows (csr rows rows ptr idx vals)
           walks = square-rows rows cols ptr idx vals square (accepted-rows a (sym ex ∙ e))
 
-          pub formed : Formed (rows / size) size ptr idx vals
+          pub formed : WellFormed (rows / size) size ptr idx vals
           formed = formed-of rows size ptr idx vals walks size-low divides
 
           pub rooms : (2 * (rows / size) ≤ base) × ((base + rows / size + 1 + length idx ≤ length ints) × (3 * (rows / size) ≤ length floats))

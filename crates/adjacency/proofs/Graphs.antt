@@ -13,7 +13,7 @@ use lib.Ieee.{Float}
 use Rattle.definitions.specs.Lists.{tab, joinedLists}
 use Rattle.definitions.specs.Matrix.{Matrix, csr}
 use Rattle.laws.proofs.Growing.{tab-snoc}
-use Rattle.adjacency.specs.Formed.{Formed}
+use Rattle.adjacency.specs.WellFormed.{WellFormed}
 use Rattle.adjacency.specs.Lined.{joinedUpTo, Lined}
 use Rattle.adjacency.specs.Lists.{listOf, Between, Listed}
 use Rattle.adjacency.proofs.Laws.{by-case}
@@ -87,7 +87,7 @@ between-put {nodes = nodes} {v = v} {work = work} i x work' b h e = record {
   even = b .even;
 }
 
-module _ {nodes size : ℕ} {ptr cols : List ℕ} {vals : List Float} (w : Formed nodes size ptr cols vals) where
+module _ {nodes size : ℕ} {ptr cols : List ℕ} {vals : List Float} (w : WellFormed nodes size ptr cols vals) where
   abbrev a : Matrix
   a = csr (nodes * size) (nodes * size) ptr cols vals
 

@@ -12,7 +12,7 @@ use Rattle.definitions.specs.Numbers.{total, zeroᶠ}
 use Rattle.definitions.specs.Matrix.{Matrix, csr, stored}
 use Rattle.definitions.specs.Neighbours.{neighboursOf, squaresTowards, normTowards, divisorOf, strength}
 use Rattle.adjacency.specs.Collect.{marked, nodesIn}
-use Rattle.adjacency.specs.Formed.{Formed, Spans}
+use Rattle.adjacency.specs.WellFormed.{WellFormed, Spans}
 use Rattle.adjacency.specs.Lists.{found, weights, listOf, Between, Listed}
 use Rattle.adjacency.specs.Order.{before, sortBy, Below}
 use Rattle.adjacency.specs.Strengths.{AllPlain, squaresIn, cleared, weighed, strongOf, measured}
@@ -37,7 +37,7 @@ even-before : (s : List Float) → ((u : ℕ) → getD s u zeroᶠ ≡ zeroᶠ) 
 unfolding before lt eq ofBits
 even-before s e x y = rw (e x, e y)
 
-module _ {nodes size : ℕ} {ptr cols : List ℕ} {vals : List Float} (w : Formed nodes size ptr cols vals) where
+module _ {nodes size : ℕ} {ptr cols : List ℕ} {vals : List Float} (w : WellFormed nodes size ptr cols vals) where
   abbrev a : Matrix
   a = csr (nodes * size) (nodes * size) ptr cols vals
 
@@ -149,7 +149,7 @@ module _ {nodes size : ℕ} {ptr cols : List ℕ} {vals : List Float} (w : Forme
             zero-at u = getD-drop (2 * nodes) (weights false nodes size v from to cols vals g l) u zeroᶠ ∙ even refl u
 
 -- ---- the calls of `node_list`, in their order
-module _ {nodes size : ℕ} {ptr cols : List ℕ} {vals : List Float} (w : Formed nodes size ptr cols vals) {v from to : ℕ} (s : Spans nodes size v ptr from to)
+module _ {nodes size : ℕ} {ptr cols : List ℕ} {vals : List Float} (w : WellFormed nodes size ptr cols vals) {v from to : ℕ} (s : Spans nodes size v ptr from to)
     {strong : Bool} {ints : List ℕ} {l : List Float} (b : Between strong (csr (nodes * size) (nodes * size) ptr cols vals) size nodes v ints l)
     (at end : ℕ) (lists lists₁ : List ℕ) (h : at + (to - from) ≤ length lists)
     (e : end ≡ at + length (found nodes size v from to cols ints)) (q : take end lists₁ ≡ take at lists ++ found nodes size v from to cols ints) where

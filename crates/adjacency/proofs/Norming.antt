@@ -13,7 +13,7 @@ use Rattle.definitions.specs.Lists.{keep}
 use Rattle.definitions.specs.Numbers.{rootᶠ, total, zeroᶠ}
 use Rattle.definitions.specs.Matrix.{Matrix, Entry, csr, stored, valuesWhere}
 use Rattle.definitions.specs.Neighbours.{normTowards}
-use Rattle.adjacency.specs.Formed.{Formed, Spans}
+use Rattle.adjacency.specs.WellFormed.{WellFormed, Spans}
 use Rattle.adjacency.specs.Lists.{Between}
 use Rattle.adjacency.specs.Norms.{Normed}
 use Rattle.adjacency.specs.Strengths.{plain, AllPlain, squaresIn}
@@ -37,7 +37,7 @@ pub record Norming (a : Matrix) (size nodes : ℕ) (l₀ l : List Float) (v : �
   pub same : length l ≡ length l₀
   pub sofar : Normed a size nodes v l
 
-module _ {nodes size : ℕ} {ptr cols : List ℕ} {vals : List Float} (w : Formed nodes size ptr cols vals) where
+module _ {nodes size : ℕ} {ptr cols : List ℕ} {vals : List Float} (w : WellFormed nodes size ptr cols vals) where
   abbrev a : Matrix
   a = csr (nodes * size) (nodes * size) ptr cols vals
 

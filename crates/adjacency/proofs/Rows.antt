@@ -15,7 +15,7 @@ use Rattle.definitions.specs.Matrix.{Entry, csr, stored, rowOf, entriesOf}
 use Rattle.definitions.specs.Links.{nodeEntries}
 use Rattle.definitions.specs.Neighbours.{neighboursOf}
 use Rattle.adjacency.specs.Collect.{nodesIn, others}
-use Rattle.adjacency.specs.Formed.{Formed, Spans}
+use Rattle.adjacency.specs.WellFormed.{WellFormed, Spans}
 use Rattle.adjacency.proofs.Ascending.{asc, upTo-asc, keep-same}
 use Rattle.adjacency.proofs.Weighing.{stored-cons, stored-none}
 use Rattle.adjacency.proofs.Measures.{Towards, Finite}
@@ -46,7 +46,7 @@ next-row v size = rw (add-one v) (suc-mul v size)
 pub row-fits : (v nodes size : ℕ) → v < nodes → v * size + size ≤ nodes * size
 row-fits v nodes size h = let p : suc v * size ≤ nodes * size = mul-le-mul-right size h in rw (← suc-mul v size) p
 
-module _ {nodes size : ℕ} {ptr cols : List ℕ} {vals : List Float} (w : Formed nodes size ptr cols vals) where
+module _ {nodes size : ℕ} {ptr cols : List ℕ} {vals : List Float} (w : WellFormed nodes size ptr cols vals) where
   rise : (i k e : ℕ) → e ≡ i + k → e ≤ nodes * size → getD ptr i 0 ≤ getD ptr e 0
   rise i zero e q h = let z : e ≡ i = omega arith in rw z (omega arith)
   rise i (suc k) zero q h = absurd (omega arith)

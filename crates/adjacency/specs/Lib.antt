@@ -2,7 +2,7 @@
 pub mod Order
 pub mod Collect
 pub mod Strengths
-pub mod Formed
+pub mod WellFormed
 pub mod Lists
 pub mod Norms
 pub mod Lined

@@ -11,7 +11,7 @@ ghost use Rattle.definitions.specs.Lists.{padded};
 ghost use Rattle.definitions.specs.Matrix.{csr};
 ghost use Rattle.definitions.specs.Neighbours.{flatNeighbours};
 ghost use Rattle.adjacency.specs.Flat.{flatOf};
-ghost use Rattle.adjacency.specs.Formed.{Formed};
+ghost use Rattle.adjacency.specs.WellFormed.{WellFormed};
 ghost use Rattle.adjacency.specs.Lists.{Between, listOf};
 
 // Clears the stamps and the floats, and makes the diagonal norms if strengths are wanted.
@@ -26,7 +26,7 @@ fn ready(
     floats: &mut [f64],
     table: &root::StartTable,
 )
-    requires { ⌜ Formed nodes size (now «row_ptr») (now «col_idx») (now values) ⌝ }
+    requires { ⌜ WellFormed nodes size (now «row_ptr») (now «col_idx») (now values) ⌝ }
     requires { ⌜ (2 * nodes ≤ length (now work)) × (3 * nodes ≤ length (now floats)) ⌝ }
     ensures { λ _. ⌜ Between strong (csr (nodes * size) (nodes * size) (now («row_ptr» .entry)) (now («col_idx» .entry)) (now (values .entry))) size nodes 0 (now (work .exit)) (now (floats .exit)) ⌝ }
 {
@@ -50,7 +50,7 @@ fn linked(
     floats: &mut [f64],
     table: &root::StartTable,
 )
-    requires { ⌜ Formed nodes size (now «row_ptr») (now «col_idx») (now values) ⌝ }
+    requires { ⌜ WellFormed nodes size (now «row_ptr») (now «col_idx») (now values) ⌝ }
     requires { ⌜ (2 * nodes ≤ base) × ((base + nodes + 1 + length (now «col_idx») ≤ length (now work)) × (3 * nodes ≤ length (now floats))) ⌝ }
     ensures { λ _. ⌜ now (work .exit) ≡ padded 0 (length (now (work .entry))) (replicate base 0 ++ flatOf (listOf strong (csr (nodes * size) (nodes * size) (now («row_ptr» .entry)) (now («col_idx» .entry)) (now (values .entry))) size nodes) nodes) ⌝ }
 {
@@ -94,7 +94,7 @@ fn fill(
     floats: &mut [f64],
     table: &root::StartTable,
 )
-    requires { ⌜ Formed nodes size (now «row_ptr») (now «col_idx») (now values) ⌝ }
+    requires { ⌜ WellFormed nodes size (now «row_ptr») (now «col_idx») (now values) ⌝ }
     requires { ⌜ (2 * nodes ≤ base) × ((base + nodes + 1 + length (now «col_idx») ≤ length (now work)) × (3 * nodes ≤ length (now floats))) ⌝ }
     ensures { λ _. ⌜ now (work .exit) ≡ padded 0 (length (now (work .entry))) (replicate base 0 ++ flatNeighbours aggregation (csr (nodes * size) (nodes * size) (now («row_ptr» .entry)) (now («col_idx» .entry)) (now (values .entry))) size nodes) ⌝ }
 {
@@ -139,7 +139,7 @@ pub(crate) fn build(
     work_ints: &mut [u32],
     work_floats: &mut [f64],
 )
-    requires { ⌜ Formed nodes «block_size» (now «row_ptr») (now «col_idx») (now values) ⌝ }
+    requires { ⌜ WellFormed nodes «block_size» (now «row_ptr») (now «col_idx») (now values) ⌝ }
     requires { ⌜ (2 * nodes ≤ base) × ((base + nodes + 1 + length (now «col_idx») ≤ length (now «work_ints»)) × (3 * nodes ≤ length (now «work_floats»))) ⌝ }
     requires { ⌜ «block_size» ≤ 8 ⌝ }
     ensures { λ _. ⌜ now («work_ints» .exit) ≡ padded 0 (length (now («work_ints» .entry))) (replicate base 0 ++ flatNeighbours aggregation (csr (nodes * «block_size») (nodes * «block_size») (now («row_ptr» .entry)) (now («col_idx» .entry)) (now (values .entry))) «block_size» nodes) ⌝ }

@@ -1,5 +1,6 @@
 // The checks after 1 to 8.
 use definitions::Answer;
+use definitions::MAX_BLOCK;
 use definitions::Refusal;
 ghost use mathlib.Core.Path.{_≡_};
 ghost use Prim.Native.Nat.{_≤_};
@@ -40,7 +41,7 @@ pub(crate) fn fits(
     if block_size < 1 {
         return Answer::Refused(Refusal::BlockSize);
     }
-    if 8 < block_size {
+    if MAX_BLOCK < block_size {
         return Answer::Refused(Refusal::BlockSize);
     }
     if rows % block_size != 0 {

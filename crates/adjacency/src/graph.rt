@@ -5,7 +5,7 @@ ghost use mathlib.Core.Path.{_≡_};
 ghost use Prim.Native.Nat.{_+_, _*_, _^_, _<_, _≤_};
 ghost use lib.ListN.{length, set, drop};
 ghost use Rattle.definitions.specs.Matrix.{csr};
-ghost use Rattle.adjacency.specs.Formed.{Formed};
+ghost use Rattle.adjacency.specs.WellFormed.{WellFormed};
 ghost use Rattle.adjacency.specs.Lined.{Lined};
 ghost use Rattle.adjacency.specs.Lists.{Between, listOf};
 
@@ -29,7 +29,7 @@ pub(crate) fn all_lists(
     floats: &mut [f64],
     table: &root::StartTable,
 ) -> usize
-    requires { ⌜ Formed nodes size (now «row_ptr») (now «col_idx») (now values) ⌝ }
+    requires { ⌜ WellFormed nodes size (now «row_ptr») (now «col_idx») (now values) ⌝ }
     requires { ⌜ Between strong (csr (nodes * size) (nodes * size) (now «row_ptr») (now «col_idx») (now values)) size nodes 0 (now work) (now floats) ⌝ }
     requires { ⌜ (2 * nodes ≤ base) × (base + nodes + 1 + length (now «col_idx») ≤ length (now work)) ⌝ }
     ensures { λ r. ⌜ Lined (listOf strong (csr (nodes * size) (nodes * size) (now («row_ptr» .entry)) (now («col_idx» .entry)) (now (values .entry))) size nodes) nodes nodes r (drop base (now (work .exit))) ⌝ }

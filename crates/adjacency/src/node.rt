@@ -10,7 +10,7 @@ ghost use lib.ListN.{length, getD, set, take, drop};
 ghost use Rattle.definitions.specs.Lists.{between};
 ghost use Rattle.definitions.specs.Matrix.{csr};
 ghost use Rattle.adjacency.specs.Collect.{marked, nodesIn, Inside};
-ghost use Rattle.adjacency.specs.Formed.{Formed};
+ghost use Rattle.adjacency.specs.WellFormed.{WellFormed};
 ghost use Rattle.adjacency.specs.Lists.{found, Between, Listed};
 ghost use Rattle.adjacency.specs.Order.{before, sortBy, Below};
 ghost use Rattle.adjacency.specs.Strengths.{AllPlain};
@@ -78,7 +78,7 @@ pub(crate) fn node_list(
     at: usize,
     table: &root::StartTable,
 ) -> usize
-    requires { ⌜ Formed nodes size (now «row_ptr») (now «col_idx») (now values) ⌝ }
+    requires { ⌜ WellFormed nodes size (now «row_ptr») (now «col_idx») (now values) ⌝ }
     requires { ⌜ Between strong (csr (nodes * size) (nodes * size) (now «row_ptr») (now «col_idx») (now values)) size nodes v (now work) (now floats) ⌝ }
     requires { ⌜ (v < nodes) × ((2 * nodes ≤ base) × (base + at + (getD (now «row_ptr») ((v + 1) * size) 0 - getD (now «row_ptr») (v * size) 0) ≤ length (now work))) ⌝ }
     ensures { λ r. ⌜ Listed strong (csr (nodes * size) (nodes * size) (now («row_ptr» .entry)) (now («col_idx» .entry)) (now (values .entry))) size nodes v at (at + r) (drop base (now (work .entry))) (drop base (now (work .exit))) (now (work .exit)) (now (floats .exit)) ⌝ }

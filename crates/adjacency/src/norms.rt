@@ -8,7 +8,7 @@ ghost use Prim.Native.Nat.{_*_, _<_, _≤_};
 ghost use lib.ListN.{length};
 ghost use Rattle.definitions.specs.Matrix.{csr};
 ghost use Rattle.definitions.specs.Neighbours.{normTowards};
-ghost use Rattle.adjacency.specs.Formed.{Formed};
+ghost use Rattle.adjacency.specs.WellFormed.{WellFormed};
 ghost use Rattle.adjacency.specs.Norms.{Normed};
 ghost use Rattle.adjacency.specs.Strengths.{AllPlain};
 
@@ -22,7 +22,7 @@ fn norm(
     nodes: usize,
     table: &root::StartTable,
 ) -> f64
-    requires { ⌜ Formed nodes size (now «row_ptr») (now «col_idx») (now values) ⌝ }
+    requires { ⌜ WellFormed nodes size (now «row_ptr») (now «col_idx») (now values) ⌝ }
     requires { ⌜ v < nodes ⌝ }
     ensures { λ r. ⌜ r ≡ normTowards (csr (nodes * size) (nodes * size) (now («row_ptr» .entry)) (now («col_idx» .entry)) (now (values .entry))) size v v ⌝ }
 {
@@ -40,7 +40,7 @@ pub(crate) fn norms(
     floats: &mut [f64],
     table: &root::StartTable,
 )
-    requires { ⌜ Formed nodes size (now «row_ptr») (now «col_idx») (now values) ⌝ }
+    requires { ⌜ WellFormed nodes size (now «row_ptr») (now «col_idx») (now values) ⌝ }
     requires { ⌜ 3 * nodes ≤ length (now floats) ⌝ }
     requires { ⌜ AllPlain (now floats) ⌝ }
     ensures { λ _. ⌜ Normed (csr (nodes * size) (nodes * size) (now («row_ptr» .entry)) (now («col_idx» .entry)) (now (values .entry))) size nodes nodes (now (floats .exit)) ⌝ }

@@ -24,7 +24,14 @@ pub(crate) fn clear(list: &[u32], sums: &mut [f64])
 }
 
 // Adds the squares of values[from..to] to the sums of the nodes that they stand towards.
-pub(crate) fn weigh(col_idx: &[u32], values: &[f64], from: usize, to: usize, size: u32, sums: &mut [f64])
+pub(crate) fn weigh(
+    col_idx: &[u32],
+    values: &[f64],
+    from: usize,
+    to: usize,
+    size: u32,
+    sums: &mut [f64],
+)
     requires { ⌜ (from ≤ to) × ((to ≤ length (now «col_idx»)) × ((to ≤ length (now values)) × (0 < size))) ⌝ }
     requires { ⌜ Inside (length (now sums)) size (now «col_idx») ⌝ }
     ensures { λ _. ⌜ now (sums .exit) ≡ weighed size (stored (now («col_idx» .entry)) (now (values .entry)) from to) (now (sums .entry)) ⌝ }

@@ -11,6 +11,9 @@ ghost use Rattle.definitions.specs.Matrix.{maxRows, maxEntries};
 ghost use Rattle.aggregates.specs.Stored.{roomFor};
 ghost use Rattle.aggregates.specs.Within.{listsCall, withinCall};
 use definitions::Answer;
+use definitions::MAX_ENTRIES;
+use definitions::MAX_GROUP;
+use definitions::MAX_ROWS;
 use definitions::Refusal;
 
 // Is some offset above the one after it?
@@ -67,16 +70,16 @@ fn offsets_fit(nodes: usize, offsets: &[u32], count: usize) -> bool
 fn check_lists(nodes: usize, size: usize, offsets: &[u32], neighbours: &[u32]) -> Answer
     ensures { λ r. ⌜ r ≡ answerOf (listsCall nodes size (now (offsets .entry)) (now (neighbours .entry))) ⌝ }
 {
-    if 1048576 < nodes {
+    if MAX_ROWS < nodes {
         return Answer::Refused(Refusal::TooLarge);
     }
-    if 16777216 < neighbours.len() {
+    if MAX_ENTRIES < neighbours.len() {
         return Answer::Refused(Refusal::TooLarge);
     }
     if size == 0 {
         return Answer::Refused(Refusal::GroupSize);
     }
-    if 1048576 < size {
+    if MAX_GROUP < size {
         return Answer::Refused(Refusal::GroupSize);
     }
     if offsets_fit(nodes, offsets, neighbours.len()) {} else {
@@ -135,7 +138,7 @@ fn lesser(a: usize, b: usize) -> usize
 pub(crate) fn check_within(nodes: usize, size: usize, base: usize, w: &[u32]) -> Answer
     ensures { λ r. ⌜ r ≡ answerOf (withinCall nodes size base (now (w .entry))) ⌝ }
 {
-    if 1048576 < nodes {
+    if MAX_ROWS < nodes {
         return Answer::Refused(Refusal::TooLarge);
     }
     let start = lesser(base, w.len());

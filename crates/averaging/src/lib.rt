@@ -1,4 +1,5 @@
 // A square matrix averaged with its transpose, in place: off the diagonal only.
+use definitions::MAX_COARSE;
 ghost use mathlib.Core.Path.{_≡_};
 ghost use Prim.Native.Nat.{_+_, _*_, _<_, _≤_};
 ghost use lib.ListN.{length};
@@ -62,7 +63,7 @@ fn average_rows(c: usize, m: &mut [f64])
 pub fn average(c: usize, m: &mut [f64])
     ensures { λ _. ⌜ now (m .exit) ≡ averagedIn c (now (m .entry)) ⌝ }
 {
-    if c <= 2048 {
+    if c <= MAX_COARSE {
         if c * c <= m.len() {
             average_rows(c, m);
         }

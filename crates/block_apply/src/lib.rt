@@ -1,5 +1,7 @@
 // The block Jacobi apply: each block's solve with its factor, from the residual into the correction.
 use definitions::Answer;
+use definitions::MAX_BLOCK;
+use definitions::MAX_ROWS;
 use definitions::Refusal;
 ghost use mathlib.Core.Path.{_≡_};
 ghost use mathlib.Core.Bool.{_&&_};
@@ -17,9 +19,9 @@ mod solve;
 fn fits(rows: usize, size: usize, room: usize) -> bool
     ensures { λ r. ⌜ r ≡ (leb rows maxRows && leb 1 size && leb size maxBlock && leb (rows * size) room) ⌝ }
 {
-    if rows <= 1_048_576 {
+    if rows <= MAX_ROWS {
         if 1 <= size {
-            if size <= 8 {
+            if size <= MAX_BLOCK {
                 return rows * size <= room;
             }
         }

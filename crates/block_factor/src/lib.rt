@@ -11,6 +11,7 @@ ghost use Rattle.definitions.specs.Answers.{answerOf};
 ghost use Rattle.csr32.specs.Rows.{Rows};
 ghost use Rattle.block_factor.specs.Held.{held, PairIn};
 use definitions::Answer;
+use definitions::MAX_BLOCK;
 use definitions::Refusal;
 
 mod cholesky;
@@ -226,7 +227,7 @@ pub fn blocks(
             if block_size < 1 {
                 return Answer::Refused(Refusal::BlockSize);
             }
-            if 8 < block_size {
+            if MAX_BLOCK < block_size {
                 return Answer::Refused(Refusal::BlockSize);
             }
             if factors.len() < rows * block_size {

@@ -1,6 +1,7 @@
 // What document 01's table tells of a cause of refusal, as numbers: its own, and what is returned with it.
 use definitions::Refusal;
 ghost use mathlib.Core.Path.{_≡_};
+ghost use Rattle.definitions.specs.Refusal.{numberOf};
 ghost use Rattle.causes.specs.Told.{toldOf};
 
 // A cause's number, and the first and second value returned with it, 0 where there is none.
@@ -155,4 +156,11 @@ pub fn told(cause: Refusal) -> Row
             second: 0,
         },
     }
+}
+
+pub fn number_of(cause: Refusal) -> u64
+    ensures { λ r. ⌜ r ≡ numberOf cause ⌝ }
+{
+    let row = told(cause);
+    row.number
 }

@@ -14,15 +14,15 @@ use Rattle.definitions.specs.Numbers.{_*ᶠ_, zeroᶠ, oneᶠ, pivotTol, larger
 use Rattle.definitions.specs.Refusal.{Outcome, refused, done, require, _>>=_, resultLeft, keepsAll, causeOf}
 use Rattle.definitions.specs.Factor.{factorRows, belowDiagonal, rest}
 use Rattle.definitions.specs.Coarse.{packed, packedLength, entryIn, coarseFactor, inverseOf, coarseSolve, coarseLength}
-use Rattle.definitions.specs.Answers.{answerOf}
+use Rattle.definitions.specs.Answers.{answerOf, factorAnswer}
 use Rattle.definitions.specs.declared.TwoLevelCoarseApplyPolicy.{TwoLevelCoarseApplyPolicy}
 use Rattle.definitions.specs.declared.Refusal.{Refusal}
 use Rattle.definitions.specs.declared.Refusal.the-variants.{CoarsePivot, CoarseScale, CoarseTooLarge, ListTooShort}
 use Rattle.definitions.specs.declared.Answer.{Answer}
 use Rattle.definitions.specs.declared.Answer.the-variants.{Accepted, Refused}
-use Rattle.coarse_factor.specs.declared.FactorAnswer.{FactorAnswer}
-use Rattle.coarse_factor.specs.declared.FactorAnswer.the-variants.{Factored, Refused as NoFactor}
-use Rattle.coarse_factor.specs.Calls.{outcomeOf, coarseFactorCall, factorAnswer, coarseInverseCall, coarseSolveCall}
+use Rattle.definitions.specs.declared.FactorAnswer.{FactorAnswer}
+use Rattle.definitions.specs.declared.FactorAnswer.the-variants.{Factored, Refused as NoFactor}
+use Rattle.coarse_factor.specs.Calls.{outcomeOf, coarseFactorCall, coarseInverseCall, coarseSolveCall}
 use Rattle.definitions.specs.Setup.{maxCoarse}
 
 -- ---- 23 and 24

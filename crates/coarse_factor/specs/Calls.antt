@@ -12,8 +12,8 @@ use Rattle.definitions.specs.declared.Refusal.the-variants.{CoarseTooLarge, Lis
 use Rattle.definitions.specs.declared.TwoLevelCoarseApplyPolicy.{TwoLevelCoarseApplyPolicy}
 use Rattle.definitions.specs.declared.Answer.{Answer}
 use Rattle.definitions.specs.declared.Answer.the-variants.{Accepted, Refused}
-use Rattle.coarse_factor.specs.declared.FactorAnswer.{FactorAnswer}
-use Rattle.coarse_factor.specs.declared.FactorAnswer.the-variants.{Factored, Refused as NoFactor}
+use Rattle.definitions.specs.declared.FactorAnswer.{FactorAnswer}
+use Rattle.definitions.specs.declared.FactorAnswer.the-variants.{Factored, Refused as NoFactor}
 
 -- an answer and the list that it stands for
 unfoldable pub outcomeOf : Answer → List Float → Outcome (List Float)
@@ -26,11 +26,6 @@ coarseFactorCall c m lent = do
   _ ← require (leb c maxCoarse) (CoarseTooLarge c)
   _ ← require (leb (c * c) (length m) && leb (packedLength c) lent) ListTooShort
   coarseFactor c (take (c * c) m)
-
--- the scale is returned with an accepted factor
-unfoldable pub factorAnswer : Float → Outcome (List Float) → FactorAnswer
-factorAnswer scale (done l) = Factored scale
-factorAnswer scale (refused r) = NoFactor r
 
 -- the inverse, from the packed factor in the first elements of lower: 17, then 13
 unfoldable pub coarseInverseCall : ℕ → List Float → ℕ → Outcome (List Float)

@@ -1,5 +1,7 @@
 // The packed Cholesky factor of the coarse matrix, the solves with it, and the inverse.
 use definitions::Answer;
+use definitions::FactorAnswer;
+use definitions::MAX_COARSE;
 use definitions::Refusal;
 use definitions::TwoLevelCoarseApplyPolicy;
 use numbers::larger;
@@ -11,8 +13,8 @@ ghost use lib.ListN.{length, take};
 ghost use Rattle.definitions.specs.Numbers.{zeroᶠ, largest};
 ghost use Rattle.definitions.specs.Refusal.{resultLeft};
 ghost use Rattle.definitions.specs.Coarse.{packedLength, coarseFactor};
-ghost use Rattle.coarse_factor.specs.Calls.{coarseFactorCall, factorAnswer, coarseInverseCall, coarseSolveCall};
-ghost use Rattle.definitions.specs.Answers.{answerOf};
+ghost use Rattle.definitions.specs.Answers.{factorAnswer, answerOf};
+ghost use Rattle.coarse_factor.specs.Calls.{coarseFactorCall, coarseInverseCall, coarseSolveCall};
 
 mod factor;
 mod inverse;
@@ -31,12 +33,6 @@ pub struct Four {
     pub b: f64,
     pub c: f64,
     pub d: f64,
-}
-
-// The scale of the matrix, its largest magnitude, where it has a factor.
-pub enum FactorAnswer {
-    Factored(f64),
-    Refused(Refusal),
 }
 
 // The factor of a matrix of c rows, into the front of a list that is long enough.
@@ -66,7 +62,7 @@ fn factor_fitting(c: usize, m: &[f64], lower: &mut [f64]) -> FactorAnswer
 pub fn coarse_factor(c: usize, m: &[f64], lower: &mut [f64]) -> FactorAnswer
     ensures { λ r. ⌜ (r ≡ factorAnswer (largest (take (c * c) (now (m .entry)))) (coarseFactorCall c (now (m .entry)) (length (now (lower .entry))))) × (now (lower .exit) ≡ resultLeft zeroᶠ (coarseFactorCall c (now (m .entry)) (length (now (lower .entry)))) (now (lower .entry))) ⌝ }
 {
-    if c <= 2048 {
+    if c <= MAX_COARSE {
         let square = c * c;
         if square <= m.len() {
             if c * (c + 1) / 2 <= lower.len() {
@@ -85,7 +81,7 @@ pub fn coarse_factor(c: usize, m: &[f64], lower: &mut [f64]) -> FactorAnswer
 pub fn coarse_inverse(c: usize, lower: &[f64], inverse: &mut [f64]) -> Answer
     ensures { λ r. ⌜ (r ≡ answerOf (coarseInverseCall c (now (lower .entry)) (length (now (inverse .entry))))) × (now (inverse .exit) ≡ resultLeft zeroᶠ (coarseInverseCall c (now (lower .entry)) (length (now (inverse .entry)))) (now (inverse .entry))) ⌝ }
 {
-    if c <= 2048 {
+    if c <= MAX_COARSE {
         let packed = c * (c + 1) / 2;
         if packed <= lower.len() {
             if c * c <= inverse.len() {
@@ -110,7 +106,7 @@ pub fn coarse_solve(
 ) -> Answer
     ensures { λ r. ⌜ (r ≡ answerOf (coarseSolveCall policy c (now (part .entry)) (now (work .entry)))) × (now (work .exit) ≡ resultLeft zeroᶠ (coarseSolveCall policy c (now (part .entry)) (now (work .entry))) (now (work .entry))) ⌝ }
 {
-    if c <= 2048 {
+    if c <= MAX_COARSE {
         let count = stored::stored_length(policy, c);
         if count <= part.len() {
             if 2 * c <= work.len() {

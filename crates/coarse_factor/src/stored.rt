@@ -77,7 +77,12 @@ fn by_inverse(c: usize, part: &[f64], work: &mut [f64])
     zero_floats(&mut work[c..]);
 }
 
-pub(crate) fn solve_stored(policy: TwoLevelCoarseApplyPolicy, c: usize, part: &[f64], work: &mut [f64])
+pub(crate) fn solve_stored(
+    policy: TwoLevelCoarseApplyPolicy,
+    c: usize,
+    part: &[f64],
+    work: &mut [f64],
+)
     requires { ⌜ (length (now part) ≡ coarseLength policy c) × (2 * c ≤ length (now work)) × (c ≤ 2048) ⌝ }
     ensures { λ _. ⌜ now (work .exit) ≡ padded zeroᶠ (length (now (work .entry))) (coarseSolve policy c (now (part .entry)) (take c (now (work .entry)))) ⌝ }
 {

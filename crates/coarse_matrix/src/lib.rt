@@ -3,6 +3,8 @@ use csr32::column_outside;
 use csr32::pointer_falls;
 use csr32::validate;
 use definitions::Answer;
+use definitions::MAX_BLOCK;
+use definitions::MAX_COARSE;
 use definitions::Refusal;
 ghost use mathlib.Core.Path.{_≡_};
 ghost use mathlib.Core.Bool.{true};
@@ -35,7 +37,7 @@ fn constant_checks(
     if size == 0 {
         return Answer::Refused(Refusal::BlockSize);
     }
-    if 8 < size {
+    if MAX_BLOCK < size {
         return Answer::Refused(Refusal::BlockSize);
     }
     if rows % size != 0 {
@@ -46,7 +48,7 @@ fn constant_checks(
         return Answer::Refused(Refusal::SetupMisfit);
     }
     let c = groups * size;
-    if 2048 < c {
+    if MAX_COARSE < c {
         return Answer::Refused(Refusal::CoarseTooLarge(c as u64));
     }
     if ids.len() != nodes {
@@ -145,7 +147,7 @@ fn galerkin_checks(
     if rows != cols {
         return Answer::Refused(Refusal::NotSquare);
     }
-    if 2048 < c {
+    if MAX_COARSE < c {
         return Answer::Refused(Refusal::CoarseTooLarge(c as u64));
     }
     if transfer_fits(rows, c, ptr, idx, count) {

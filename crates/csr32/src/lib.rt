@@ -1,5 +1,7 @@
 // A sparse matrix in compressed rows: the causes 1 to 8 that every call on a matrix checks first, and its diagonal.
 use definitions::Answer;
+use definitions::MAX_ENTRIES;
+use definitions::MAX_ROWS;
 use definitions::Refusal;
 ghost use mathlib.Core.Path.{_≡_};
 ghost use Prim.Native.Nat.{_≤_, _<_};
@@ -101,13 +103,13 @@ pub fn validate(
 ) -> Answer
     ensures { λ r. ⌜ r ≡ answerOf (validOf (csr rows cols (now («row_ptr» .entry)) (now («col_idx» .entry)) (now (values .entry)))) ⌝ }
 {
-    if 1_048_576 < rows {
+    if MAX_ROWS < rows {
         return Answer::Refused(Refusal::TooLarge);
     }
-    if 1_048_576 < cols {
+    if MAX_ROWS < cols {
         return Answer::Refused(Refusal::TooLarge);
     }
-    if 16_777_216 < values.len() {
+    if MAX_ENTRIES < values.len() {
         return Answer::Refused(Refusal::TooLarge);
     }
     if row_ptr.len() != rows + 1 {

@@ -1,6 +1,8 @@
 -- The worked examples, computed by antt beside what is expected. `proved` has document 01's cases marked ◆, in one table with the one theorem `proved-hold`;
 -- `tried` its other examples; `orders` orders and lengths that no example shows.
 use Prim.Native.Nat.{ℕ, zero, suc, _+_, _*_}
+use Prim.Native.Char.{code}
+use Prim.Native.String.{String}
 use mathlib.Core.Path.{_≡_, refl}
 use mathlib.Core.Bool.{true, false}
 use mathlib.Core.List.{List, [], _∷_, _++_, map, flatMap}
@@ -37,6 +39,11 @@ shown (done xs) = 0 ∷ map (λ x. toBits binary64 x) xs
 abbrev idsShown : Outcome Grouping → List ℕ
 idsShown (refused r) = numberOf r ∷ valuesOf r
 idsShown (done g) = 0 ∷ g .ids
+
+-- a text by its bytes
+bytes : String → List ℕ
+bytes Prim.Native.String.[] = []
+bytes (Prim.Native.String._∷_ c s) = code c ∷ bytes s
 
 abbrev floats : List ℕ → List Float
 floats ns = map (λ n. ofℕ n) ns
@@ -153,16 +160,16 @@ tried =
     ∷ is (shown (corrected empty (options Contiguous JacobiSmoothed 1) [])) (22 ∷ 1 ∷ [])
     ∷ is (shown (corrected empty (options Graph PiecewiseConstant 1) [])) (16 ∷ [])
     ∷ is (shown (corrected empty (options StrongGraph JacobiSmoothed 1) [])) (16 ∷ [])
-    -- the program: 5 2 1 1 2 0 2 2 1 3 2 2 4 1 3 prints groups 3, 0 0, 1 0, 2 1, 3 1, 4 2, one a line; and malformed texts
-    ∷ is (program (53 ∷ 32 ∷ 50 ∷ 32 ∷ 49 ∷ 32 ∷ 49 ∷ 32 ∷ 50 ∷ 32 ∷ 48 ∷ 32 ∷ 50 ∷ 32 ∷ 50 ∷ 32 ∷ 49 ∷ 32 ∷ 51 ∷ 32 ∷ 50 ∷ 32 ∷ 50 ∷ 32 ∷ 52 ∷ 32 ∷ 49 ∷ 32 ∷ 51 ∷ [])) (103 ∷ 114 ∷ 111 ∷ 117 ∷ 112 ∷ 115 ∷ 32 ∷ 51 ∷ 10 ∷ 48 ∷ 32 ∷ 48 ∷ 10 ∷ 49 ∷ 32 ∷ 48 ∷ 10 ∷ 50 ∷ 32 ∷ 49 ∷ 10 ∷ 51 ∷ 32 ∷ 49 ∷ 10 ∷ 52 ∷ 32 ∷ 50 ∷ 10 ∷ [])
-    ∷ is (program []) (114 ∷ 101 ∷ 102 ∷ 117 ∷ 115 ∷ 101 ∷ 100 ∷ 32 ∷ 50 ∷ 55 ∷ 10 ∷ [])
-    ∷ is (program (50 ∷ 53 ∷ 55 ∷ 32 ∷ 120 ∷ [])) (114 ∷ 101 ∷ 102 ∷ 117 ∷ 115 ∷ 101 ∷ 100 ∷ 32 ∷ 49 ∷ 10 ∷ [])
+    -- the program, and malformed texts
+    ∷ is (program (bytes "5 2 1 1 2 0 2 2 1 3 2 2 4 1 3")) (bytes "groups 3\n0 0\n1 0\n2 1\n3 1\n4 2\n")
+    ∷ is (program (bytes "")) (bytes "refused 27\n")
+    ∷ is (program (bytes "257 x")) (bytes "refused 1\n")
     -- three rounds of joining: of the groups as grown, 2 to 0 and 4 to 3; 3 to 0; 0 to 1
     ∷ is (grouped 20 ((0 ∷ []) ∷ (2 ∷ []) ∷ [] ∷ (0 ∷ []) ∷ [] ∷ (4 ∷ 3 ∷ 1 ∷ []) ∷ [])) (0 ∷ replicate 6 0)
     ∷ []
 
 pub tried-hold : map (λ c. c .computed) tried ≡ map (λ c. c .expected) tried
-unfolding all-open tried
+unfolding all-open tried bytes
 tried-hold = refl
 
 -- ---- orders and lengths

@@ -33,10 +33,7 @@ fn run(
 {
     let found = aggregates::group(nodes, size, offsets, neighbours, ids, work);
     match found {
-        GroupingAnswer::Refused(cause) => {
-            let told = causes::told(cause);
-            put_head(out, b"refused", told.number)
-        }
+        GroupingAnswer::Refused(cause) => put_head(out, b"refused", causes::number_of(cause)),
         GroupingAnswer::Groups(count) => put_groups(out, count, &ids[..]),
     }
 }

@@ -8,7 +8,12 @@ use crate::Asking;
 use crate::lists::nodes_of;
 
 // Nodes, size and the lists: offsets[0..nodes + 1], and as many neighbours as the answer says.
-pub(crate) fn ask(numbers: &[u32], whole: bool, offsets: &mut [u32], neighbours: &mut [u32]) -> Asking
+pub(crate) fn ask(
+    numbers: &[u32],
+    whole: bool,
+    offsets: &mut [u32],
+    neighbours: &mut [u32],
+) -> Asking
     requires { ⌜ (257 ≤ length (now offsets)) × (2048 ≤ length (now neighbours)) ⌝ }
     ensures { λ r. ⌜ askedOf (take (r .nodes + 1) (now (offsets .exit))) (take (r .count) (now (neighbours .exit))) r ≡ askedIn (now (numbers .entry)) whole ⌝ }
     ensures { λ r. ⌜ (r .nodes ≤ 256) × (r .count ≤ 2048) ⌝ }

@@ -1,4 +1,9 @@
 // Whether a setup's lists fit their record, cause 26: the record's own numbers, then the lists that it speaks of.
+use definitions::MAX_BLOCK;
+use definitions::MAX_COARSE;
+use definitions::MAX_ENTRIES;
+use definitions::MAX_GROUP;
+use definitions::MAX_ROWS;
 use definitions::Setup;
 use definitions::TwoLevelBasis;
 use definitions::TwoLevelCoarseApplyPolicy;
@@ -21,10 +26,10 @@ fn both(a: bool, b: bool) -> bool
 fn within_limits(s: Setup) -> bool
     ensures { λ r. ⌜ r ≡ withinLimits s ⌝ }
 {
-    let few = both(s.rows <= 1048576, s.entries <= 16777216);
-    let small = both(few, s.block <= 8);
-    let grouped = both(small, s.group <= 1048576);
-    both(grouped, s.coarse <= 2048)
+    let few = both(s.rows <= MAX_ROWS as u64, s.entries <= MAX_ENTRIES as u64);
+    let small = both(few, s.block <= MAX_BLOCK as u64);
+    let grouped = both(small, s.group <= MAX_GROUP as u64);
+    both(grouped, s.coarse <= MAX_COARSE as u64)
 }
 
 fn is_resolved(policy: TwoLevelCoarseApplyPolicy) -> bool
@@ -55,7 +60,7 @@ fn is_product(p: u64, n: u64, b: u64) -> bool
     if b == 0 {
         return p == 0;
     }
-    if 1048576 < n {
+    if (MAX_ROWS as u64) < n {
         return false;
     }
     p == n * b

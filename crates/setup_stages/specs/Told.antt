@@ -4,10 +4,10 @@ use Rattle.definitions.specs.declared.Answer.{Answer}
 use Rattle.definitions.specs.declared.Answer.the-variants.{Accepted, Refused}
 use Rattle.definitions.specs.declared.TwoLevelAggregation.{TwoLevelAggregation}
 use Rattle.definitions.specs.declared.TwoLevelAggregation.the-variants.{Graph, StrongGraph}
-use Rattle.transfer.specs.declared.TransferAnswer.{TransferAnswer}
-use Rattle.transfer.specs.declared.TransferAnswer.the-variants.{Count, Refused as NoTransfer}
-use Rattle.coarse_factor.specs.declared.FactorAnswer.{FactorAnswer}
-use Rattle.coarse_factor.specs.declared.FactorAnswer.the-variants.{Factored, Refused as NoFactor}
+use Rattle.definitions.specs.declared.TransferAnswer.{TransferAnswer}
+use Rattle.definitions.specs.declared.TransferAnswer.the-variants.{Count, Refused as NoTransfer}
+use Rattle.definitions.specs.declared.FactorAnswer.{FactorAnswer}
+use Rattle.definitions.specs.declared.FactorAnswer.the-variants.{Factored, Refused as NoFactor}
 
 -- a number that no cause has
 abbrev pub refusedStage : ℕ

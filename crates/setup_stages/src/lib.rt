@@ -1,19 +1,19 @@
 // The stages of setup that have no entry point of their own, exported for the benchmarks. Each answers 0 where it is accepted, else 253, which no cause has.
-use coarse_factor::FactorAnswer;
 use definitions::Answer;
+use definitions::FactorAnswer;
+use definitions::TransferAnswer;
 use definitions::TwoLevelAggregation;
-use transfer::TransferAnswer;
 ghost use mathlib.Core.Path.{_≡_};
 ghost use lib.ListN.{length, take};
 ghost use Prim.Native.Nat.{_*_};
 ghost use Rattle.definitions.specs.Numbers.{zeroᶠ, largest};
 ghost use Rattle.definitions.specs.Refusal.{resultLeft, workLeft};
 ghost use Rattle.definitions.specs.Matrix.{csr};
-ghost use Rattle.definitions.specs.Answers.{answerOf};
+ghost use Rattle.definitions.specs.Answers.{answerOf, transferAnswer, factorAnswer};
 ghost use Rattle.adjacency.specs.Within.{neighboursWithin};
-ghost use Rattle.transfer.specs.Call.{smoothedTransferCall, transferAnswer, transferInts, transferFloats};
+ghost use Rattle.transfer.specs.Call.{smoothedTransferCall, transferInts, transferFloats};
 ghost use Rattle.coarse_matrix.specs.Calls.{resultOrKept, workOrKept, constantCoarseCall, galerkinCoarseCall};
-ghost use Rattle.coarse_factor.specs.Calls.{coarseFactorCall, factorAnswer, coarseInverseCall};
+ghost use Rattle.coarse_factor.specs.Calls.{coarseFactorCall, coarseInverseCall};
 ghost use Rattle.setup_stages.specs.Told.{told as toldOf, toldTransfer, toldFactor, listsBy};
 
 fn told(answer: Answer) -> u64

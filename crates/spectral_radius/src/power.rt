@@ -117,7 +117,13 @@ fn quotient(rows: usize, w: &[f64]) -> f64
 }
 
 // rho and the damping factor, or the stage 3 or 4 at which they fail.
-pub(crate) fn finish(rows: usize, ptr: &[u32], idx: &[u32], vals: &[f64], w: &mut [f64]) -> EstimateAnswer
+pub(crate) fn finish(
+    rows: usize,
+    ptr: &[u32],
+    idx: &[u32],
+    vals: &[f64],
+    w: &mut [f64],
+) -> EstimateAnswer
     requires { ⌜ Rows (csr rows rows (now ptr) (now idx) (now vals)) ⌝ }
     requires { ⌜ rows + rows + rows ≤ length (now w) ⌝ }
     ensures { λ r. ⌜ r ≡ estimateAnswer (finishedOf (csr rows rows (now (ptr .entry)) (now (idx .entry)) (now (vals .entry))) (take rows (now (w .entry))) (vectorIn rows (now (w .entry)))) ⌝ }

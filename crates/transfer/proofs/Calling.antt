@@ -14,12 +14,12 @@ use borrow.Author.Tests.{leb-true}
 use Rattle.definitions.specs.Matrix.{Matrix, Entry}
 use Rattle.csr32.specs.Rows.{Rows, rows-of}
 use Rattle.transfer.specs.Touched.{Grouped}
-use Rattle.transfer.specs.Call.{transferChecked, roomChecked, smoothedTransferCall, transferAnswer, transferInts, transferFloats}
-use Rattle.transfer.specs.declared.TransferAnswer.{TransferAnswer}
-use Rattle.transfer.specs.declared.TransferAnswer.the-variants.{Count, Refused as NoTransfer}
+use Rattle.definitions.specs.Answers.{transferAnswer, answerOf}
+use Rattle.transfer.specs.Call.{transferChecked, roomChecked, smoothedTransferCall, transferInts, transferFloats}
+use Rattle.definitions.specs.declared.TransferAnswer.{TransferAnswer}
+use Rattle.definitions.specs.declared.TransferAnswer.the-variants.{Count, Refused as NoTransfer}
 use Rattle.definitions.specs.Transfer.{transferOf}
 use Rattle.transfer.proofs.Checking.{shape-facts, groups-facts}
-use Rattle.definitions.specs.Answers.{answerOf}
 use Rattle.definitions.specs.declared.Refusal.{Refusal}
 use Rattle.definitions.specs.declared.Answer.{Answer}
 use Rattle.definitions.specs.declared.Answer.the-variants.{Accepted, Refused}

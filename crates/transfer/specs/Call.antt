@@ -13,8 +13,8 @@ use Rattle.definitions.specs.Block.{maxBlock}
 use Rattle.definitions.specs.Setup.{maxCoarse}
 use Rattle.definitions.specs.Transfer.{transferOf}
 use Rattle.definitions.specs.declared.Refusal.the-variants.{NotSquare, BlockSize, NotMultiple, ListTooShort, CoarseTooLarge, WrongLength, SetupMisfit}
-use Rattle.transfer.specs.declared.TransferAnswer.{TransferAnswer}
-use Rattle.transfer.specs.declared.TransferAnswer.the-variants.{Count, Refused}
+use Rattle.definitions.specs.declared.TransferAnswer.{TransferAnswer}
+use Rattle.definitions.specs.declared.TransferAnswer.the-variants.{Count, Refused}
 
 -- 9, 10, 12, and 25 for the diagonal
 unfoldable pub shapeChecked : ℕ → ℕ → ℕ → ℕ → Checked
@@ -45,11 +45,6 @@ transferChecked a size ids groups diagonal ints floats = do
 
 unfoldable pub smoothedTransferCall : Matrix → ℕ → List ℕ → ℕ → List Float → Float → ℕ → ℕ → Outcome (List (List Entry))
 smoothedTransferCall a size ids groups d damping ints floats = transferChecked a size ids groups (length d) ints floats >>= (λ _. done (transferOf a d damping size ids (groups * size)))
-
--- the number of weights
-unfoldable pub transferAnswer : Outcome (List (List Entry)) → TransferAnswer
-transferAnswer (done t) = Count (length (joinedLists t))
-transferAnswer (refused r) = Refused r
 
 -- pointers, then columns, then zeros; a refused call leaves the list as it was
 unfoldable pub transferInts : Outcome (List (List Entry)) → List ℕ → List ℕ

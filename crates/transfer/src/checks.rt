@@ -1,6 +1,8 @@
 // The checks of the call that follow those of the matrix.
 use crate::touched::wide;
 use definitions::Answer;
+use definitions::MAX_BLOCK;
+use definitions::MAX_COARSE;
 use definitions::Refusal;
 ghost use mathlib.Core.Path.{_≡_};
 ghost use Prim.Native.Nat.{_≤_};
@@ -19,7 +21,7 @@ pub(crate) fn shape(rows: usize, cols: usize, size: usize, diagonal: usize) -> A
     if size < 1 {
         return Answer::Refused(Refusal::BlockSize);
     }
-    if 8 < size {
+    if MAX_BLOCK < size {
         return Answer::Refused(Refusal::BlockSize);
     }
     if rows % size != 0 {
@@ -55,7 +57,7 @@ pub(crate) fn groups(rows: usize, size: usize, ids: &[u32], count: usize) -> Ans
         return Answer::Refused(Refusal::SetupMisfit);
     }
     let c = count * size;
-    if 2_048 < c {
+    if MAX_COARSE < c {
         return Answer::Refused(Refusal::CoarseTooLarge(c as u64));
     }
     if ids.len() != rows / size {

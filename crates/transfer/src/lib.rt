@@ -8,22 +8,17 @@ mod weights;
 
 use definitions::Answer;
 use definitions::Refusal;
+use definitions::TransferAnswer;
 ghost use mathlib.Core.Path.{_≡_};
 ghost use Prim.Native.Nat.{_+_, _*_, _≤_};
 ghost use lib.ListN.{length};
 ghost use Rattle.definitions.specs.Matrix.{csr};
-ghost use Rattle.definitions.specs.Answers.{answerOf};
+ghost use Rattle.definitions.specs.Answers.{answerOf, transferAnswer};
 ghost use Rattle.definitions.specs.Transfer.{transferOf};
 ghost use Rattle.csr32.specs.Rows.{Rows};
 ghost use Rattle.transfer.specs.Touched.{Grouped};
 ghost use Rattle.transfer.specs.Weights.{Left};
-ghost use Rattle.transfer.specs.Call.{transferChecked, smoothedTransferCall, transferAnswer, transferInts, transferFloats};
-
-// How many weights the transfer has.
-pub enum TransferAnswer {
-    Count(u64),
-    Refused(Refusal),
-}
+ghost use Rattle.transfer.specs.Call.{transferChecked, smoothedTransferCall, transferInts, transferFloats};
 
 // All checks of the call, in their order.
 fn check(

@@ -1,6 +1,10 @@
 // The grouping of setup: causes 1 to 12, then the nodes' groups by the policy asked for.
 use definitions::Answer;
 use definitions::GroupingAnswer;
+use definitions::MAX_BLOCK;
+use definitions::MAX_ENTRIES;
+use definitions::MAX_GROUP;
+use definitions::MAX_ROWS;
 use definitions::Options;
 use definitions::Refusal;
 use definitions::TwoLevelAggregation;
@@ -24,13 +28,13 @@ fn shape(rows: usize, cols: usize, block: u64, group: u64) -> Answer
     if block == 0 {
         return Answer::Refused(Refusal::BlockSize);
     }
-    if 8 < block {
+    if (MAX_BLOCK as u64) < block {
         return Answer::Refused(Refusal::BlockSize);
     }
     if group == 0 {
         return Answer::Refused(Refusal::GroupSize);
     }
-    if 1_048_576 < group {
+    if (MAX_GROUP as u64) < group {
         return Answer::Refused(Refusal::GroupSize);
     }
     if rows as u64 % block != 0 {
@@ -84,13 +88,13 @@ fn sizes_fit(
 ) -> bool
     ensures { λ r. ⌜ r ≡ sizesFit rows cols entries block group room «work_room» «float_room» ⌝ }
 {
-    if 1_048_576 < rows {
+    if MAX_ROWS < rows {
         return false;
     }
-    if 1_048_576 < cols {
+    if MAX_ROWS < cols {
         return false;
     }
-    if 16_777_216 < entries {
+    if MAX_ENTRIES < entries {
         return false;
     }
     let shaped = shape(rows, cols, block, group);

@@ -19,7 +19,7 @@ use Rattle.definitions.specs.Groups.{Grouping}
 use Rattle.definitions.specs.Estimate.{Estimate, estimateOf, estimateCall, estimateWorkLeft}
 use Rattle.definitions.specs.Transfer.{weightAt, transferRow, transferOf}
 use Rattle.definitions.specs.Setup.{nodeCount, Lengths, Lent, transferInts, transferFloats}
-use Rattle.definitions.specs.Answers.{answerOf, estimateAnswer}
+use Rattle.definitions.specs.Answers.{answerOf, estimateAnswer, transferAnswer}
 use Rattle.definitions.specs.declared.Options.{Options}
 use Rattle.definitions.specs.declared.Answer.{Answer}
 use Rattle.definitions.specs.declared.Answer.the-variants.{Accepted, Refused}
@@ -38,9 +38,9 @@ use Rattle.csr32.specs.Calls.{goes-on, stops, passed, refused-is}
 use Rattle.numbers.specs.Copied.{copied}
 use Rattle.two_level_grouping.proofs.Kept.{put-tail, copied-zeros, front-cleared}
 use Rattle.two_level_grouping.specs.Front.{Front, front-rows}
-use Rattle.transfer.specs.Call.{shapeChecked, groupsChecked, roomChecked, transferChecked, smoothedTransferCall, transferAnswer, transferInts as intsLeft, transferFloats as floatsLeft}
-use Rattle.transfer.specs.declared.TransferAnswer.{TransferAnswer}
-use Rattle.transfer.specs.declared.TransferAnswer.the-variants.{Count, Refused as NoTransfer}
+use Rattle.transfer.specs.Call.{shapeChecked, groupsChecked, roomChecked, transferChecked, smoothedTransferCall, transferInts as intsLeft, transferFloats as floatsLeft}
+use Rattle.definitions.specs.declared.TransferAnswer.{TransferAnswer}
+use Rattle.definitions.specs.declared.TransferAnswer.the-variants.{Count, Refused as NoTransfer}
 use Rattle.two_level_setup.specs.Stages.{fromTransfer, fromDiagonal, fromRoom, smoothed-splits}
 use Rattle.two_level_setup.specs.Fit.{Wide, roomOf}
 use Rattle.two_level_setup.specs.Contracts.{lentOf, roomIn, Leaves, Floats, Ids, Clear, Weighted, MovedInts, MovedFloats, CoarseStage, KeptStage, SmoothStage, EstimateStage, RoomStage}

@@ -22,9 +22,10 @@ use Rattle.laws.proofs.Lists.{length-square}
 use Rattle.laws.proofs.Factor.{coarse-factor-length}
 use Rattle.csr32.specs.Calls.{goes-on, passed}
 use Rattle.numbers.specs.Copied.{copied}
-use Rattle.coarse_factor.specs.Calls.{coarseFactorCall, factorAnswer, coarseInverseCall}
-use Rattle.coarse_factor.specs.declared.FactorAnswer.{FactorAnswer}
-use Rattle.coarse_factor.specs.declared.FactorAnswer.the-variants.{Factored as HasFactor, Refused as NoFactor}
+use Rattle.definitions.specs.Answers.{factorAnswer}
+use Rattle.coarse_factor.specs.Calls.{coarseFactorCall, coarseInverseCall}
+use Rattle.definitions.specs.declared.FactorAnswer.{FactorAnswer}
+use Rattle.definitions.specs.declared.FactorAnswer.the-variants.{Factored as HasFactor, Refused as NoFactor}
 use Rattle.two_level_grouping.proofs.Kept.{put-tail}
 use Rattle.two_level_setup.specs.Stages.{recordOf}
 use Rattle.two_level_setup.specs.Contracts.{Inverted, Stored, Factored, factoredAnswer}

@@ -1,5 +1,6 @@
 // The coarse part: the factor or the inverse of the coarse matrix, and the record.
-use coarse_factor::FactorAnswer;
+use definitions::FactorAnswer;
+use definitions::INVERSE_FROM;
 use definitions::Options;
 use definitions::Setup;
 use definitions::SetupAnswer;
@@ -17,7 +18,7 @@ fn resolve(policy: TwoLevelCoarseApplyPolicy, c: u64) -> TwoLevelCoarseApplyPoli
 {
     match policy {
         TwoLevelCoarseApplyPolicy::Auto => {
-            if c < 1024 {
+            if c < INVERSE_FROM as u64 {
                 TwoLevelCoarseApplyPolicy::FactorSolve
             } else {
                 TwoLevelCoarseApplyPolicy::ExplicitInverse

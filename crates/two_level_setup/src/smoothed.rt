@@ -4,7 +4,7 @@ use definitions::Answer;
 use definitions::EstimateAnswer;
 use definitions::Options;
 use definitions::SetupAnswer;
-use transfer::TransferAnswer;
+use definitions::TransferAnswer;
 use transfer::smoothed_transfer;
 ghost use mathlib.Core.Path.{_≡_};
 ghost use Prim.Native.Nat.{_+_, _*_, _≤_, _/_};

@@ -3,6 +3,7 @@ use super::matrix::coarse_stage;
 use super::smoothed::diagonal_stage;
 use definitions::Answer;
 use definitions::GroupingAnswer;
+use definitions::MAX_COARSE;
 use definitions::Options;
 use definitions::Refusal;
 use definitions::SetupAnswer;
@@ -145,7 +146,7 @@ fn group_stage(
     ensures { λ r. ⌜ GroupStage (csr rows cols (now («row_ptr» .entry)) (now («col_idx» .entry)) (now (values .entry))) options groups (lentOf (now (ints .entry)) (now (floats .entry)) (now («work_ints» .entry)) (now («work_floats» .entry))) r (lentOf (now (ints .exit)) (now (floats .exit)) (now («work_ints» .exit)) (now («work_floats» .exit))) ⌝ }
 {
     let c = groups * options.block;
-    if 2048 < c {
+    if (MAX_COARSE as u64) < c {
         return SetupAnswer::Refused(Refusal::CoarseTooLarge(c));
     }
     let size = options.block as usize;

@@ -10,7 +10,8 @@ use Rattle.definitions.specs.Lists.{padded}
 use Rattle.definitions.specs.Refusal.{valuesOf, causeOf}
 use Rattle.definitions.specs.declared.Refusal.{Refusal}
 use Rattle.definitions.specs.declared.Refusal.the-variants.{TooLarge, RowListLength, ColumnListLength, FirstPointer, LastPointer, PointerFalls, ColumnOutside, ValueNotFinite, NotSquare, BlockSize, GroupSize, NotMultiple, ListTooShort, BlockNotSymmetric, BlockPivot, NoNode, CoarseTooLarge, CoarseListTooShort, MissingDiagonal, ZeroDiagonal, NegativeDiagonal, EstimateFailed, CoarseScale, CoarsePivot, WrongLength, SetupMisfit, NeighbourOffsets, NeighbourOutside}
-use Rattle.yelomawin.specs.Boundary.{received, firstOf, secondOf}
+use Rattle.causes.specs.Told.{toldOf}
+use Rattle.yelomawin.specs.Boundary.{received}
 
 -- the first n of some values with zeros after them
 pub cut : ℕ → List ℕ → List ℕ
@@ -72,8 +73,8 @@ pub one-told : (x : ℕ) (lent : List ℕ) → received (x ∷ 0 ∷ []) lent �
 one-told x lent = cut-of (x ∷ 0 ∷ []) lent ∙ more-zeros (x ∷ []) (length lent) ∙ sym (cut-of (x ∷ []) lent)
 
 -- the two values of a cause are all that it has
-pub told : (r : Refusal) (lent : List ℕ) → received (firstOf r ∷ secondOf r ∷ []) lent ≡ received (valuesOf r) lent
-unfolding firstOf secondOf valuesOf causeOf
+pub told : (r : Refusal) (lent : List ℕ) → received (toldOf r .first ∷ toldOf r .second ∷ []) lent ≡ received (valuesOf r) lent
+unfolding toldOf valuesOf causeOf
 told TooLarge l = none-told l
 told RowListLength l = none-told l
 told ColumnListLength l = none-told l

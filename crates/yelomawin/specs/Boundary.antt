@@ -24,4 +24,3 @@ optionsOf block group aggregation basis policy = record { block = block; group =
 unfoldable pub whether : {A : Type 0} → Bool → A → A → A
 whether true x y = x
 whether false x y = y
-

@@ -15,10 +15,7 @@ pub(crate) fn number(answer: Answer) -> u64
 {
     match answer {
         Answer::Accepted => 0,
-        Answer::Refused(cause) => {
-            let told = causes::told(cause);
-            told.number
-        }
+        Answer::Refused(cause) => causes::number_of(cause),
     }
 }
 

@@ -3,7 +3,7 @@ use Prim.Native.Nat.{_-_, _+_, _≤_}
 use mathlib.Core.Path.{_≡_, _∙_}
 use native.Mathlib.Omega.{arith}
 use lib.ListN.{length, take, drop, length-drop}
-use Rattle.adjacency.specs.Formed.{Spans}
+use Rattle.adjacency.specs.WellFormed.{Spans}
 use Rattle.adjacency.specs.Lists.{weights}
 use Rattle.adjacency.proofs.Parts.{part-behind}
 use Rattle.adjacency.proofs.Rows.{next-row, row-fits, span-rises, span-within}

@@ -2,7 +2,7 @@
 use mathlib.Core.Path.{ap, _∙_}
 use native.Mathlib.Omega.{arith}
 use Rattle.definitions.specs.Numbers.{rootᶠ}
-use Rattle.adjacency.specs.Formed.{Spans}
+use Rattle.adjacency.specs.WellFormed.{Spans}
 use Rattle.adjacency.proofs.Rows.{next-row, row-fits, span-rises, span-within}
 use Rattle.adjacency.proofs.Norming.{norm-is}
 use borrow.Author.Needs.{needs}

@@ -8,7 +8,7 @@ use lib.Ieee.{Float, nan}
 use lib.Ieee.Scale.{finite}
 use Rattle.adjacency.specs.Collect.{Inside}
 
-pub record Formed (nodes size : ℕ) (ptr cols : List ℕ) (vals : List Float) : Type 0 where
+pub record WellFormed (nodes size : ℕ) (ptr cols : List ℕ) (vals : List Float) : Type 0 where
   pub some : 0 < size
   pub few : nodes < 2 ^ 31
   pub short : length cols < 2 ^ 31
