@@ -12,7 +12,7 @@ quotient a d q s h D g = div-lt-iff-lt-mul (lt-of-lt-of-le D g) .1 (lt-of-lt-of-
 -- ---- Newton's steps: the first in 32 bits, in place, and the second
 
 abbrev pub first : ℕ → ℕ → ℕ
-first a t = t * 64 % 4294967296 + a / 4194304 / t
+first a t = t * 128 % 4294967296 + a / 8388608 / t
 
 abbrev pub placed : ℕ → ℕ → ℕ
 placed a t = first a t * 128 % 18446744073709551616
@@ -25,12 +25,12 @@ pub record Steps (a t : ℕ) : Type 0 where
 
 pub steps : (a t : ℕ) → a < 2 ^ 54 → 2 ^ 11 ≤ t → t < 2 ^ 14 → Steps a t
 steps a t A l h =
-    let q : a / 4194304 / t < 2 ^ 21 = quotient (a / 4194304) (2 ^ 11) (2 ^ 21) t (omega arith) (lit< tt) l in
+    let q : a / 8388608 / t < 2 ^ 20 = quotient (a / 8388608) (2 ^ 11) (2 ^ 20) t (omega arith) (lit< tt) l in
     let s = placed a t in
-    let lo : 2 ^ 24 ≤ s = omega arith in
+    let lo : 2 ^ 25 ≤ s = omega arith in
     let hi : s < 2 ^ 29 = omega arith in
-    let p : a / s < 2 ^ 30 = quotient a (2 ^ 24) (2 ^ 30) s A (lit< tt) lo in
-    record { first-lt = omega arith; placed-pos = lt-of-lt-of-le (lit< {m = 0} {n = 2 ^ 24} tt) lo; sum-lt = omega arith; last-lt = omega arith }
+    let p : a / s < 2 ^ 29 = quotient a (2 ^ 25) (2 ^ 29) s A (lit< tt) lo in
+    record { first-lt = omega arith; placed-pos = lt-of-lt-of-le (lit< {m = 0} {n = 2 ^ 25} tt) lo; sum-lt = omega arith; last-lt = omega arith }
 
 -- ---- squares
 

@@ -19,8 +19,8 @@ roots-at zero k i h = absurd (not-suc-le-zero h)
 roots-at (suc n) k zero h = ap (λ (x : ℕ). isqrt (65536 * x)) (sym (add-zero k))
 roots-at (suc n) k (suc i) h = roots-at n (suc k) i (le-of-suc-le-suc h) ∙ ap (λ (x : ℕ). isqrt (65536 * x)) (suc-add k i ∙ sym (add-suc k i))
 
--- THE RULE OF THE TABLE: for k from 256 to 1023 the largest t with t * t <= 65,536 k
-pub table-rule : (k : ℕ) → 256 ≤ k → k < 1024 → IsRoot (65536 * k) (getD (wholeRoots 768 256) (k - 256) 0)
+-- THE RULE OF THE TABLE: for k from 64 to 255 the largest t with t * t <= 65,536 k
+pub table-rule : (k : ℕ) → 64 ≤ k → k < 256 → IsRoot (65536 * k) (getD (wholeRoots 192 64) (k - 64) 0)
 table-rule k a b =
-    let e : 256 + (k - 256) ≡ k = omega arith in
-    subst (λ (g : ℕ). IsRoot (65536 * k) g) (sym (roots-at 768 256 (k - 256) (omega arith) ∙ ap (λ (x : ℕ). isqrt (65536 * x)) e)) (isqrt-root (65536 * k))
+    let e : 64 + (k - 64) ≡ k = omega arith in
+    subst (λ (g : ℕ). IsRoot (65536 * k) g) (sym (roots-at 192 64 (k - 64) (omega arith) ∙ ap (λ (x : ℕ). isqrt (65536 * x)) e)) (isqrt-root (65536 * k))

@@ -12,13 +12,13 @@ pub struct Rooted {
     pub rest: u64,
 }
 
-// Near the root of a: two of Newton's steps from t * 2^14, the first in 32 bits. How near t is makes no difference but to the time.
+// Near the root of a: two of Newton's steps from t * 2^15, the first in 32 bits. How near t is makes no difference but to the time.
 fn newton(a: u64, t: u32) -> u64
     requires { ⌜ (a < 2 ^ 54) × (2 ^ 11 ≤ t) × (t < 2 ^ 14) ⌝ }
     ensures { λ r. ⌜ r < 2 ^ 30 ⌝ }
 {
-    let q = (a >> 22) as u32 / t;
-    let s = (((t << 6) + q) as u64) << 7;
+    let q = (a >> 23) as u32 / t;
+    let s = (((t << 7) + q) as u64) << 7;
     (s + a / s) / 2
 }
 
@@ -42,7 +42,7 @@ pub fn with_rest(table: &StartTable, a: u64) -> Rooted
     requires { ⌜ (2 ^ 52 ≤ a) × (a < 2 ^ 54) ⌝ }
     ensures { λ r. ⌜ Rest (a * 2 ^ 52) (r .root) (r .rest) ⌝ }
 {
-    let t = start(table, (a >> 44) as usize) as u32;
+    let t = start(table, (a >> 46) as usize) as u32;
     let s = whole_root(a, newton(a, t));
     let n = (a - s * s) << 25;
     let q = n / s;
