@@ -2,8 +2,8 @@
 
 use crate::StartTable;
 ghost use mathlib.Core.Path.{_≡_};
-ghost use Prim.Native.Nat.{_≤_, _<_, _^_};
-ghost use Rattle.root.specs.Starts.{wholeRoots};
+ghost use Prim.Native.Nat.{_≤_, _<_};
+ghost use Rattle.root.specs.Starts.{wholeRoots, startOf};
 
 // for k from 64 to 255 the largest t with t * t <= 65,536 k
 const STARTS: [u16; 192] = [
@@ -208,17 +208,10 @@ pub fn starts() -> StartTable
     STARTS
 }
 
-// Where the search starts, by any table: what it holds makes no difference but to the time.
+// Where the search starts, by any table: an entry of the right one as it stands, and what any other holds makes no difference but to the time.
 pub fn start(table: &StartTable, k: usize) -> u16
     requires { ⌜ (64 ≤ k) × (k < 256) ⌝ }
-    ensures { λ r. ⌜ (2 ^ 11 ≤ r) × (r < 2 ^ 14) ⌝ }
+    ensures { λ r. ⌜ r ≡ startOf (now (table .entry)) k ⌝ }
 {
-    let t = table[k - 64];
-    if t < 2048 {
-        return 2048;
-    }
-    if 16383 < t {
-        return 16383;
-    }
-    t
+    table[k - 64] % 2048 + 2048
 }

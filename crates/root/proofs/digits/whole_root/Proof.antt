@@ -27,7 +27,7 @@ mul-loop : tie.Need-mul-loop Inv-loop μ-loop Inv-loop2 μ-loop2
 mul-loop c = record { fits = square-fits (c .loop .s) (omega arith) }
 
 sub-s : tie.Need-sub-s Inv-loop μ-loop Inv-loop2 μ-loop2
-sub-s c = square-pos (c .before .before .args .a) (c .before .loop .s) (omega arith) (search needs)
+sub-s c = square-pos (c .before .loop .s) (c .loop-test .taken)
 
 loop-less : tie.Need-loop-less Inv-loop μ-loop Inv-loop2 μ-loop2
 loop-less c = let p = sub-s c in omega arith
