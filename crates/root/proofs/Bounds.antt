@@ -2,7 +2,7 @@
 use Prim.Native.Nat.{ℕ, _+_, _*_, _/_, _%_, _^_, _≤_, _<_}
 use native.Mathlib.Nat.{le-refl, le-of-lt, lt-of-lt-of-le, lt-of-le-of-lt, mul-le-mul, div-lt-iff-lt-mul}
 use native.Mathlib.Omega.{arith}
-use lib.Dec.{lit≤, lit<}
+use lib.Dec.{lit<}
 use Rattle.laws.specs.RootSquares.{sq-lt}
 
 -- a quotient by d or more is at most what d itself would give

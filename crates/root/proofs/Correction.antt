@@ -72,13 +72,13 @@ step-most a r s S h R lo hi = go (leb s (suc (suc r))) (leb→le s (suc (suc r))
 -- ---- the start, and the first step from it
 
 -- u = t * 2 ^ 15 is at most r, and less than 2 ^ 20 below it
-pub record Started (a t r : ℕ) : Type 0 where
+pub record Started (t r : ℕ) : Type 0 where
   pub least : 2 ^ 11 ≤ t
   pub most : t < 2 ^ 12
   pub under : t * 32768 ≤ r
   pub close : r < t * 32768 + 2 ^ 20
 
-started : (a t r : ℕ) → 2 ^ 52 ≤ a → a < 2 ^ 54 → IsRoot (65536 * (a / 2 ^ 46)) t → IsRoot a r → Started a t r
+started : (a t r : ℕ) → 2 ^ 52 ≤ a → a < 2 ^ 54 → IsRoot (65536 * (a / 2 ^ 46)) t → IsRoot a r → Started t r
 started a t r A B I J =
     let k = a / 2 ^ 46 in
     let l : 2 ^ 11 < suc t = sq-lt (2 ^ 11) (suc t) (lt-of-le-of-lt (omega arith) (I .1)) in
@@ -91,18 +91,18 @@ started a t r A B I J =
     wide x = let c = mul-mul-mul-comm x 32768 x 32768 in simp (add-mul, mul-add) (omega arith)
 
 -- the first step without its places in the machine's words: half the sum of u = t * 2 ^ 15 and v = q * 2 ^ 8
-module _ (a t r q : ℕ) (S : Started a t r) (J : IsRoot a r) where
-  abbrev first : ℕ
-  first = (t * 128 + q) * 128
+module _ (a t r q : ℕ) (S : Started t r) (J : IsRoot a r) where
+  abbrev stepped : ℕ
+  stepped = (t * 128 + q) * 128
 
-  first-least : a / 8388608 < suc q * t → r < first + 2 ^ 7
-  first-least h =
+  stepped-least : a / 8388608 < suc q * t → r < stepped + 2 ^ 7
+  stepped-least h =
       let g : a < suc q * t * 8388608 = div-lt-iff-lt-mul {k = 8388608} (lit< tt) .0 h in
-      let p : t * 32768 * (suc q * 256) ≤ (first + 2 ^ 7) * (first + 2 ^ 7) = product (t * 32768) (suc q * 256) (first + 2 ^ 7) (omega arith) in
-      sq-lt r (first + 2 ^ 7) (lt-of-le-of-lt (J .0) (lt-of-lt-of-le g (omega (arith, p, mul-mul-mul-comm t 32768 (suc q) 256, mul-comm t (suc q)))))
+      let p : t * 32768 * (suc q * 256) ≤ (stepped + 2 ^ 7) * (stepped + 2 ^ 7) = product (t * 32768) (suc q * 256) (stepped + 2 ^ 7) (omega arith) in
+      sq-lt r (stepped + 2 ^ 7) (lt-of-le-of-lt (J .0) (lt-of-lt-of-le g (omega (arith, p, mul-mul-mul-comm t 32768 (suc q) 256, mul-comm t (suc q)))))
 
-  first-most : q * t ≤ a / 8388608 → first ≤ suc r + 2 ^ 13
-  first-most h = le-of-suc-le-suc (lt-of-not-le (λ (g : suc (suc r + 2 ^ 13) ≤ first). no g))
+  stepped-most : q * t ≤ a / 8388608 → stepped ≤ suc r + 2 ^ 13
+  stepped-most h = le-of-suc-le-suc (lt-of-not-le (λ (g : suc (suc r + 2 ^ 13) ≤ stepped). no g))
     where
       -- with r + 1 = u + e: u v is at most a, and (u + e)² above it
       far : (u e v : ℕ) → 2 ^ 26 ≤ u → e ≤ 2 ^ 20 → u + e + e + 2 ^ 14 ≤ v → u * v < (u + e) * (u + e) → ⊥
@@ -113,7 +113,7 @@ module _ (a t r q : ℕ) (S : Started a t r) (J : IsRoot a r) where
           let z : e * e ≤ 2 ^ 20 * 2 ^ 20 = mul-le-mul E E in
           omega arith
 
-      no : suc (suc r + 2 ^ 13) ≤ first → ⊥
+      no : suc (suc r + 2 ^ 13) ≤ stepped → ⊥
       no g =
           let u = t * 32768 in
           let e = suc r - u in
@@ -136,8 +136,8 @@ by-root a t r A B I J =
     let q = a / 8388608 / t in
     let T' : 0 < t = omega (arith, S .least) in
     let e = placed-is a t B (S .least) (S .most) in
-    let lo : r < (t * 128 + q) * 128 + 2 ^ 7 = first-least a t r q S J (div-lt-iff-lt-mul T' .0 (omega arith)) in
-    let hi : (t * 128 + q) * 128 ≤ suc r + 2 ^ 13 = first-most a t r q S J (div-mul-le-self (a / 8388608) t) in
+    let lo : r < (t * 128 + q) * 128 + 2 ^ 7 = stepped-least a t r q S J (div-lt-iff-lt-mul T' .0 (omega arith)) in
+    let hi : (t * 128 + q) * 128 ≤ suc r + 2 ^ 13 = stepped-most a t r q S J (div-mul-le-self (a / 8388608) t) in
     let R : 2 ^ 26 < suc r = sq-lt (2 ^ 26) (suc r) (lt-of-le-of-lt A (J .1)) in
     let p : 0 < placed a t = omega (arith, S .least, e) in
     (step-least a r (placed a t) p (J .0), step-most a r (placed a t) p (J .1) (le-of-suc-le-suc R) (omega arith) (omega arith))

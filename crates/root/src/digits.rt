@@ -30,11 +30,11 @@ fn whole_root(a: u64, near: u64) -> u64
     ensures { λ r. ⌜ IsRoot a r ⌝ }
 {
     let mut s = near;
-    while s * s > a {
-        s -= 1;
-    }
     while (s + 1) * (s + 1) <= a {
         s += 1;
+    }
+    while s * s > a {
+        s -= 1;
     }
     s
 }
