@@ -1,5 +1,5 @@
 -- Why one correction is enough. By the right table the search starts below the whole root r by less than 2^20; Newton's first step s is
--- then less than 128 below r and at most 2^13 above r + 1; and from an s that near the second step is r or r + 1.
+-- then less than 128 below r and at most 2^13 above r + 1; and a step from an s that near ends at r or r + 1.
 use mathlib.Core.Path.{_≡_, sym, ap, _∙_, subst}
 use mathlib.Core.Bool.{Bool, true, false, not}
 use Prim.Native.Nat.{ℕ, suc, _+_, _-_, _*_, _/_, _%_, _^_, _≤_, _<_}

@@ -22,9 +22,9 @@ fn newton(a: u64, t: u32) -> u64
     (s + a / s) / 2
 }
 
-// The whole root of a, from any start. By the right table one correction is enough, one step down and none up, since `newton` comes to the root or to
-// one more. That is the law `one-correction` (proofs/Correction.antt): the table starts less than 2^20 below the root, so the first step is within 2^13
-// of it, and from there the second is off by less than 2.
+// The whole root of a, from any start. By the right table one correction is enough, one step down: `newton` comes to the root or to one more. That is the
+// law `one-correction` (proofs/Correction.antt): the table starts less than 2^20 below the root, so the first of the two steps ends at most 2^13 + 1 from
+// it, and a step from there ends at the root or one above.
 fn whole_root(a: u64, near: u64) -> u64
     requires { ⌜ (2 ^ 52 ≤ a) × (a < 2 ^ 54) × (near < 2 ^ 30) ⌝ }
     ensures { λ r. ⌜ IsRoot a r ⌝ }
