@@ -1,0 +1,2 @@
+-- What antt computes with the definitions: checked, and nothing to believe.
+pub mod Instances
