@@ -44,8 +44,8 @@ Met x = Premises x × Conclusion x
 abbrev whole : List ℕ → List Float
 whole ns = map (λ n. ofℕ n) ns
 
-abbrev less : ℕ → Float
-less n = neg (ofℕ n)
+abbrev minus : ℕ → Float
+minus n = neg (ofℕ n)
 
 -- nodes 0 and 2 are linked, and so are 1 and 3; each is a group of its own, so that smoothing reaches from one into another. On row 1 of the part the loads are +0 and -0
 abbrev pub pairs : Instance
@@ -55,12 +55,12 @@ pairs = record {
     cols = 8;
     rowPtr = 0 ∷ 2 ∷ 5 ∷ 7 ∷ 10 ∷ 12 ∷ 13 ∷ 14 ∷ 16 ∷ [];
     colIdx = 0 ∷ 1 ∷ 0 ∷ 1 ∷ 4 ∷ 2 ∷ 3 ∷ 2 ∷ 3 ∷ 7 ∷ 1 ∷ 4 ∷ 5 ∷ 6 ∷ 3 ∷ 7 ∷ [];
-    values = ofℕ 8 ∷ ofℕ 1 ∷ ofℕ 1 ∷ ofℕ 9 ∷ less 2 ∷ ofℕ 9 ∷ less 2 ∷ less 2 ∷ ofℕ 6 ∷ less 1 ∷ less 2 ∷ ofℕ 5 ∷ ofℕ 7 ∷ ofℕ 4 ∷ less 1 ∷ ofℕ 6 ∷ [];
+    values = ofℕ 8 ∷ ofℕ 1 ∷ ofℕ 1 ∷ ofℕ 9 ∷ minus 2 ∷ ofℕ 9 ∷ minus 2 ∷ minus 2 ∷ ofℕ 6 ∷ minus 1 ∷ minus 2 ∷ ofℕ 5 ∷ ofℕ 7 ∷ ofℕ 4 ∷ minus 1 ∷ ofℕ 6 ∷ [];
   };
   options = record { block = 2; group = 1; aggregation = Graph; basis = JacobiSmoothed; policy = FactorSolve };
   part = λ v. eqb v 0 || eqb v 2;
   load = whole (1 ∷ 0 ∷ 3 ∷ 4 ∷ 5 ∷ 6 ∷ 7 ∷ 8 ∷ []);
-  load′ = ofℕ 1 ∷ less 0 ∷ less 30 ∷ whole (0 ∷ 5 ∷ 6 ∷ 70 ∷ 9 ∷ []);
+  load′ = ofℕ 1 ∷ minus 0 ∷ minus 30 ∷ whole (0 ∷ 5 ∷ 6 ∷ 70 ∷ 9 ∷ []);
 }
 
 -- node 0 is linked with 2 and, more strongly, with 3; the part is node 1
@@ -71,7 +71,7 @@ star = record {
     cols = 8;
     rowPtr = 0 ∷ 3 ∷ 6 ∷ 8 ∷ 10 ∷ 12 ∷ 13 ∷ 15 ∷ 16 ∷ [];
     colIdx = 0 ∷ 1 ∷ 6 ∷ 0 ∷ 1 ∷ 4 ∷ 2 ∷ 3 ∷ 2 ∷ 3 ∷ 1 ∷ 4 ∷ 5 ∷ 0 ∷ 6 ∷ 7 ∷ [];
-    values = ofℕ 16 ∷ ofℕ 1 ∷ less 4 ∷ ofℕ 1 ∷ ofℕ 9 ∷ less 1 ∷ ofℕ 9 ∷ less 2 ∷ less 2 ∷ ofℕ 6 ∷ less 1 ∷ ofℕ 5 ∷ ofℕ 7 ∷ less 4 ∷ ofℕ 12 ∷ ofℕ 6 ∷ [];
+    values = ofℕ 16 ∷ ofℕ 1 ∷ minus 4 ∷ ofℕ 1 ∷ ofℕ 9 ∷ minus 1 ∷ ofℕ 9 ∷ minus 2 ∷ minus 2 ∷ ofℕ 6 ∷ minus 1 ∷ ofℕ 5 ∷ ofℕ 7 ∷ minus 4 ∷ ofℕ 12 ∷ ofℕ 6 ∷ [];
   };
   options = record { block = 2; group = 2; aggregation = StrongGraph; basis = PiecewiseConstant; policy = ExplicitInverse };
   part = λ v. eqb v 1;
