@@ -9,10 +9,11 @@ use lib.Dec.{leb, ltb}
 use borrow.Author.Tests.{le-leb, lt-leb, lt-ltb, le-ltb}
 use lib.ListN.{length, replicate}
 use Rattle.definitions.specs.Lists.{padded}
-use Rattle.definitions.specs.Refusal.{Outcome, refused, done, resultLeft, workLeft, keepsAll, numberOf, causeOf}
+use Rattle.definitions.specs.Refusal.{Outcome, refused, done, Checked, _>>=_, resultLeft, workLeft, keepsAll, numberOf, causeOf}
 use Rattle.definitions.specs.Answers.{answerOf}
 use Rattle.definitions.specs.declared.Refusal.{Refusal}
 use Rattle.definitions.specs.declared.Refusal.the-variants.{TooLarge, RowListLength, ColumnListLength, FirstPointer, LastPointer, PointerFalls, ColumnOutside, ValueNotFinite, NotSquare, BlockSize, GroupSize, NotMultiple, ListTooShort, BlockNotSymmetric, BlockPivot, NoNode, CoarseTooLarge, CoarseListTooShort, MissingDiagonal, ZeroDiagonal, NegativeDiagonal, EstimateFailed, CoarseScale, CoarsePivot, WrongLength, SetupMisfit, NeighbourOffsets, NeighbourOutside}
+use Rattle.definitions.specs.declared.Answer.{Answer}
 use Rattle.definitions.specs.declared.Answer.the-variants.{Accepted, Refused}
 
 pub keeps-by-number : (r : Refusal) → keepsAll r ≡ not (leb 14 (numberOf r) && leb (numberOf r) 24)
@@ -79,6 +80,25 @@ module _ {A : Type 0} (z : A) (o : Outcome (List A)) (w : List A) where
 pub work-refused : {A B : Type 0} (z : A) (o : Outcome B) (w : List A) (r : Refusal) → o ≡ refused r → workLeft z o w ≡ resultLeft z (refused r) w
 unfolding workLeft resultLeft
 work-refused z o w r e = rw e
+
+-- ---- a call that is its checks, and then a result: by the answer to the checks
+
+module _ {B : Type 0} (k : Checked) (next : Outcome B) (v : Answer) (e : v ≡ answerOf k) where
+  pub checks-stop : (r : Refusal) → v ≡ Refused r → (k >>= (λ _. next)) ≡ refused r
+  unfolding answerOf _>>=_
+  checks-stop r h = stop k (sym e ∙ h)
+    where
+      stop : (o : Checked) → answerOf o ≡ Refused r → (o >>= (λ _. next)) ≡ refused r
+      stop (done tt) q = cc
+      stop (refused s) q = cc
+
+  pub checks-pass : v ≡ Accepted → (k >>= (λ _. next)) ≡ next
+  unfolding answerOf _>>=_
+  checks-pass h = pass k (sym e ∙ h)
+    where
+      pass : (o : Checked) → answerOf o ≡ Accepted → (o >>= (λ _. next)) ≡ next
+      pass (done tt) q = refl
+      pass (refused s) q = cc
 
 -- ---- with the answer: one whose list the call filled or cleared
 
