@@ -60,7 +60,7 @@ returns-2 c =
     let f = (c .before .before .before .before .before .before .before .before .before .galerkin-check .ensures .1 (c .before .before .before .before .before .before .before .enum-told .given .1)) .1 in
     let g = c .before .before .before .before .galerkin-into in
     let t = told-done zeroᶠ (galerkinChecked m (a .c) (a .transfer-ptr .now) (a .transfer-idx .now) (length (a .weights .now)) (length (a .ints .now)) (length (a .floats .now))) (averagedSquare (a .c) (square (a .c) (galerkinEntry m (rowOf (a .transfer-ptr .now) (a .transfer-idx .now) (a .weights .now))))) (a .floats .now) (galerkinCoarseCall m (a .c) (a .transfer-ptr .now) (a .transfer-idx .now) (a .weights .now) (length (a .ints .now)) (length (a .floats .now))) (c .before .before .before .before .before .before .before .before .before .galerkin-check .result) (galerkin-call m (a .c) (a .transfer-ptr .now) (a .transfer-idx .now) (a .weights .now) (length (a .ints .now)) (length (a .floats .now))) (c .before .before .before .before .before .before .before .before .before .galerkin-check .ensures .0) (g .last .1 .1 .1 .1 .1 .1 .1 .1 .1 .0) (c .before .before .before .before .before .before .before .enum-told .given .1)
-        (g .ensures .1 ∙ galerkin-square (a .rows) (a .cols) (a .row-ptr .now) (a .col-idx .now) (a .values .now) (a .c) (a .transfer-ptr .now) (a .transfer-idx .now) (a .weights .now) (length (a .floats .now)) (f .same)) in
+    (g .ensures .1 ∙ galerkin-square (a .rows) (a .cols) (a .row-ptr .now) (a .col-idx .now) (a .values .now) (a .c) (a .transfer-ptr .now) (a .transfer-idx .now) (a .weights .now) (length (a .floats .now)) (f .same)) in
     let w = work-done zeroᶠ (galerkinChecked m (a .c) (a .transfer-ptr .now) (a .transfer-idx .now) (length (a .weights .now)) (length (a .ints .now)) (length (a .floats .now))) (averagedSquare (a .c) (square (a .c) (galerkinEntry m (rowOf (a .transfer-ptr .now) (a .transfer-idx .now) (a .weights .now))))) (a .floats .now) (galerkinCoarseCall m (a .c) (a .transfer-ptr .now) (a .transfer-idx .now) (a .weights .now) (length (a .ints .now)) (length (a .floats .now))) (c .before .before .before .before .before .before .before .before .before .galerkin-check .result) (galerkin-call m (a .c) (a .transfer-ptr .now) (a .transfer-idx .now) (a .weights .now) (length (a .ints .now)) (length (a .floats .now))) (c .before .before .before .before .before .before .before .before .before .galerkin-check .ensures .0) 0 (a .ints .now) (g .last .1 .1 .1 .1 .1 .1 .1 .1 .0) (c .before .before .before .before .before .before .before .enum-told .given .1) (g .ensures .0) in
     (t .0, w, t .1)
 
