@@ -56,7 +56,8 @@ same-length-2 : tie.Need-same-length-2
 same-length-2 c = search needs
 
 returns : tie.Need-returns
-returns c = let a = c .before .before .before .before .before .before .before .before .before .before .before .before .before .before .args in
+returns c =
+    let a = c .before .before .before .before .before .before .before .before .before .before .before .before .before .before .args in
     let p = c .before .before .before .before .before .before .before .before .before .before .before .before .before .before .pre in
     inverted (a .c) (a .start) (a .floats .now) (a .work .now) (p .0) (p .1) (p .2) (c .before .before .before .before .before .before .before .before .coarse-inverse .last .1 .1 .0) (c .before .before .copy-floats .last .1 .0) (c .before .before .before .before .before .before .before .before .coarse-inverse .ensures .1) (c .before .before .copy-floats .ensures)
 

@@ -32,14 +32,16 @@ same-length : tie.Need-same-length
 same-length c = search needs
 
 returns : tie.Need-returns
-returns c = let a = c .before .before .before .before .before .before .before .before .args in
+returns c =
+    let a = c .before .before .before .before .before .before .before .before .args in
     kept-auto (a .policy) (a .c) (a .start) (a .floats .now) (a .work .now) (c .before .before .zero-floats .last .0) (c .before .before .zero-floats .ensures) (c .before .before .before .before .enum-told .given .1)
 
 same-length-2 : tie.Need-same-length-2
 same-length-2 c = search needs
 
 returns-2 : tie.Need-returns-2
-returns-2 c = let a = c .before .before .before .before .before .before .before .before .args in
+returns-2 c =
+    let a = c .before .before .before .before .before .before .before .before .args in
     kept-factor (a .policy) (a .c) (a .start) (a .floats .now) (a .work .now) (c .before .before .zero-floats2 .last .0) (c .before .before .zero-floats2 .ensures) (c .before .before .before .before .enum-told2 .given .1)
 
 same-length-3 : tie.Need-same-length-3
@@ -49,8 +51,11 @@ same-length-4 : tie.Need-same-length-4
 same-length-4 c = search needs
 
 returns-3 : tie.Need-returns-3
-returns-3 c = let a = c .before .before .before .before .before .before .before .before .before .before .before .before .before .before .before .args in
-    kept-inverse (a .policy) (a .c) (a .start) (a .floats .now) (a .work .now) (c .before .before .before .before .before .before .before .before .invert .last .1 .1 .0) (c .before .before .zero-floats3 .last .0) (c .before .before .before .before .before .before .before .before .before .before .before .enum-told3 .given .1) (c .before .before .before .before .before .before .before .before .invert .ensures) (c .before .before .zero-floats3 .ensures ∙ ap (λ n. replicate n zeroᶠ) (c .before .before .before .before .before .before .before .before .invert .kept .1 .1 .1 .0))
+returns-3 c =
+    let a = c .before .before .before .before .before .before .before .before .before .before .before .before .before .before .before .args in
+    let i = c .before .before .before .before .before .before .before .before .invert in
+    let z = c .before .before .zero-floats3 in
+    kept-inverse (a .policy) (a .c) (a .start) (a .floats .now) (a .work .now) (i .last .1 .1 .0) (z .last .0) (c .before .before .before .before .before .before .before .before .before .before .before .enum-told3 .given .1) (i .ensures) (z .ensures ∙ ap (λ n. replicate n zeroᶠ) (i .kept .1 .1 .1 .0))
 
 pub store-spec : {M : Type 1} → statement M
 store-spec =
