@@ -9,68 +9,46 @@ use borrow.Author.Needs.{needs}
 use Rattle.two_level_setup.proofs.basis.smoothed.Statement.{statement}
 use Rattle.two_level_setup.proofs.basis.smoothed.Tie as tie
 
-damping-requires : tie.Need-damping-requires
-damping-requires c κs = search needs
-
-enum-known-estimate : tie.Need-enum-known-estimate
-enum-known-estimate c = search needs
-
-enum-known-estimate-2 : tie.Need-enum-known-estimate-2
-enum-known-estimate-2 c = search needs
-
 weights-requires : tie.Need-weights-requires
 weights-requires c κs =
     let a = c .before .before .before .before .before .before .before .before .before .before .before .before .before .before .before .before .before .before .before .before .before .args in
+    let h = c .before .before .before .before .before .before .before .before .before .before .before .before .before .before .before .before .before .before .before .before .before .pre in
     let d = c .before .before .before .before .before .before .before .before .before .before .before .damping in
-    (ample-same (csr (a .rows) (a .cols) (a .row-ptr .now) (a .col-idx .now) (a .values .now)) (a .setup) (length (a .ints .now)) _ (length (a .floats .now)) _ (length (a .work-ints .now)) _ (length (a .work-floats .now)) _ refl (d .kept .1 .1 .1 .1 .1 .1 .0) refl (d .kept .1 .1 .1 .1 .1 .1 .1 .0) (c .before .before .before .before .before .before .before .before .before .before .before .before .before .before .before .before .before .before .before .before .before .pre .0), c .before .before .before .before .before .before .before .before .before .before .before .before .before .before .before .before .before .before .before .before .before .pre .1)
-
-same-length : tie.Need-same-length
-same-length c = search needs
-
-same-length-2 : tie.Need-same-length-2
-same-length-2 c = search needs
+    (ample-same (csr (a .rows) (a .cols) (a .row-ptr .now) (a .col-idx .now) (a .values .now)) (a .setup) (length (a .ints .now)) _ (length (a .floats .now)) _ (length (a .work-ints .now)) _ (length (a .work-floats .now)) _ refl (d .kept .1 .1 .1 .1 .1 .1 .0) refl (d .kept .1 .1 .1 .1 .1 .1 .1 .0) (h .0), h .1)
 
 returns : tie.Need-returns
 returns c =
     let a = c .before .before .before .before .before .before .before .before .before .before .before .before .before .before .before .before .before .args in
+    let m = (csr (a .rows) (a .cols) (a .row-ptr .now) (a .col-idx .now) (a .values .now)) in
     let d = c .before .before .before .before .before .before .before .damping in
-    (estimate-refused (csr (a .rows) (a .cols) (a .row-ptr .now) (a .col-idx .now) (a .values .now)) (a .setup) (a .ints .now) (a .floats .now) (a .work-ints .now) (a .work-floats .now) (c .before .before .before .before .before .before .before .before .before .before .before .before .before .before .before .before .before .pre .1) (d .result) (d .last .1 .1 .1 .1 .1 .1 .0) (d .last .1 .1 .1 .1 .1 .1 .1 .0) (d .ensures) _ _ (c .before .estimate .given .1), stays-refused (csr (a .rows) (a .cols) (a .row-ptr .now) (a .col-idx .now) (a .values .now)) (roomIn (a .ints .now) (a .floats .now) (a .work-ints .now) (a .work-floats .now)) _)
-
-same-length-3 : tie.Need-same-length-3
-same-length-3 c = search needs
-
-same-length-4 : tie.Need-same-length-4
-same-length-4 c = search needs
-
-same-length-5 : tie.Need-same-length-5
-same-length-5 c = search needs
-
-same-length-6 : tie.Need-same-length-6
-same-length-6 c = search needs
+    (estimate-refused m (a .setup) (a .ints .now) (a .floats .now) (a .work-ints .now) (a .work-floats .now) (c .before .before .before .before .before .before .before .before .before .before .before .before .before .before .before .before .before .pre .1) (d .result) (d .last .1 .1 .1 .1 .1 .1 .0) (d .last .1 .1 .1 .1 .1 .1 .1 .0) (d .ensures) _ _ (c .before .estimate .given .1), stays-refused m (roomIn (a .ints .now) (a .floats .now) (a .work-ints .now) (a .work-floats .now)) _)
 
 returns-2 : tie.Need-returns-2
 unfolding filled
 returns-2 c =
     let a = c .before .before .before .before .before .before .before .before .before .before .before .before .before .before .before .before .before .before .before .before .before .before .before .before .before .before .before .before .before .before .args in
+    let m = (csr (a .rows) (a .cols) (a .row-ptr .now) (a .col-idx .now) (a .values .now)) in
+    let room = roomIn (a .ints .now) (a .floats .now) (a .work-ints .now) (a .work-floats .now) in
+    let h = c .before .before .before .before .before .before .before .before .before .before .before .before .before .before .before .before .before .before .before .before .before .before .before .before .before .before .before .before .before .before .pre in
     let d = c .before .before .before .before .before .before .before .before .before .before .before .before .before .before .before .before .before .before .before .before .damping in
     let w = c .before .before .before .before .before .before .before .before .weights in (
-      smoothed-built (csr (a .rows) (a .cols) (a .row-ptr .now) (a .col-idx .now) (a .values .now)) (a .setup) (a .ints .now) (a .floats .now) (a .work-ints .now) (a .work-floats .now) (c .before .before .before .before .before .before .before .before .before .before .before .before .before .before .before .before .before .before .before .before .before .before .before .before .before .before .before .before .before .before .pre .1) (d .result) (d .last .1 .1 .1 .1 .1 .1 .0) (d .last .1 .1 .1 .1 .1 .1 .1 .0) (d .ensures) _ _ (c .before .before .before .before .before .before .before .before .before .before .before .before .before .before .estimate2 .given .1) (d .kept .1 .1 .1 .1 .1 .1 .0) (d .kept .1 .1 .1 .1 .1 .1 .1 .0) (w .result) _ (w .ensures) _ refl,
-      stays-built (csr (a .rows) (a .cols) (a .row-ptr .now) (a .col-idx .now) (a .values .now)) (roomIn (a .ints .now) (a .floats .now) (a .work-ints .now) (a .work-floats .now)) _ (ample-filled (csr (a .rows) (a .cols) (a .row-ptr .now) (a .col-idx .now) (a .values .now)) (a .setup) _ (roomIn (a .ints .now) (a .floats .now) (a .work-ints .now) (a .work-floats .now)) (w .result) _ (c .before .before .before .before .before .before .before .before .before .before .before .before .before .before .before .before .before .before .before .before .before .before .before .before .before .before .before .before .before .before .pre .0) (w .ensures .few) refl),
+      smoothed-built m (a .setup) (a .ints .now) (a .floats .now) (a .work-ints .now) (a .work-floats .now) (h .1) (d .result) (d .last .1 .1 .1 .1 .1 .1 .0) (d .last .1 .1 .1 .1 .1 .1 .1 .0) (d .ensures) _ _ (c .before .before .before .before .before .before .before .before .before .before .before .before .before .before .estimate2 .given .1) (d .kept .1 .1 .1 .1 .1 .1 .0) (d .kept .1 .1 .1 .1 .1 .1 .1 .0) (w .result) _ (w .ensures) _ refl,
+      stays-built m room _ (ample-filled m (a .setup) _ room (w .result) _ (h .0) (w .ensures .few) refl),
     )
 
 pub smoothed-spec : {M : Type 1} → statement M
 smoothed-spec =
     tie.close
     (tie.spec
-    damping-requires
-    enum-known-estimate
-    enum-known-estimate-2
+    (λ c κs. search needs)
+    (λ c. search needs)
+    (λ c. search needs)
     weights-requires
-    same-length
-    same-length-2
+    (λ c. search needs)
+    (λ c. search needs)
     returns
-    same-length-3
-    same-length-4
-    same-length-5
-    same-length-6
+    (λ c. search needs)
+    (λ c. search needs)
+    (λ c. search needs)
+    (λ c. search needs)
     returns-2)

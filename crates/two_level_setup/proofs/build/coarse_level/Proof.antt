@@ -16,22 +16,12 @@ room-requires c κs =
     let a = c .before .before .before .before .before .before .before .args in
     bounds (csr (a .rows) (a .cols) (a .row-ptr .now) (a .col-idx .now) (a .values .now)) (optionsOf (a .setup)) (c .before .before .before .before .before .before .before .pre .0 .front)
 
-enum-known-checked : tie.Need-enum-known-checked
-enum-known-checked c = search needs
-
-enum-told : tie.Need-enum-told
-enum-told c = search needs
-
 transfer-requires : tie.Need-transfer-requires
 transfer-requires c κs =
     let a = c .before .before .before .before .before .before .before .before .before .before .before .before .before .before .args in
-    ample-of (csr (a .rows) (a .cols) (a .row-ptr .now) (a .col-idx .now) (a .values .now)) (a .setup) (roomIn (a .ints .now) (a .floats .now) (a .work-ints .now) (a .work-floats .now)) (c .before .before .before .before .before .before .before .before .before .before .before .before .before .before .pre .0) (c .before .before .before .before .before .before .before .before .before .before .before .before .before .before .pre .1) (sym (c .before .before .before .before .enum-told .given .1) ∙ c .before .before .before .before .before .before .room .ensures (csr (a .rows) (a .cols) (a .row-ptr .now) (a .col-idx .now) (a .values .now)) refl refl)
-
-enum-known-answer : tie.Need-enum-known-answer
-enum-known-answer c = search needs
-
-enum-known-answer-2 : tie.Need-enum-known-answer-2
-enum-known-answer-2 c = search needs
+    let m = (csr (a .rows) (a .cols) (a .row-ptr .now) (a .col-idx .now) (a .values .now)) in
+    let h = c .before .before .before .before .before .before .before .before .before .before .before .before .before .before .pre in
+    ample-of m (a .setup) (roomIn (a .ints .now) (a .floats .now) (a .work-ints .now) (a .work-floats .now)) (h .0) (h .1) (sym (c .before .before .before .before .enum-told .given .1) ∙ c .before .before .before .before .before .before .room .ensures m refl refl)
 
 coarse-requires : tie.Need-coarse-requires
 coarse-requires c κs =
@@ -42,63 +32,45 @@ coarse-requires c κs =
 returns : tie.Need-returns
 returns c =
     let a = c .before .before .before .before .before .before .before .before .before .before .before .args in
-    room-refused (csr (a .rows) (a .cols) (a .row-ptr .now) (a .col-idx .now) (a .values .now)) (a .setup) (roomIn (a .ints .now) (a .floats .now) (a .work-ints .now) (a .work-floats .now)) (lentOf (a .ints .now) (a .floats .now) (a .work-ints .now) (a .work-floats .now)) (c .before .before .before .room .result) (c .before .before .before .room .ensures (csr (a .rows) (a .cols) (a .row-ptr .now) (a .col-idx .now) (a .values .now)) refl refl) _ _ (c .before .checked .given .1)
-
-same-length : tie.Need-same-length
-same-length c = search needs
-
-same-length-2 : tie.Need-same-length-2
-same-length-2 c = search needs
-
-same-length-3 : tie.Need-same-length-3
-same-length-3 c = search needs
-
-same-length-4 : tie.Need-same-length-4
-same-length-4 c = search needs
+    let m = (csr (a .rows) (a .cols) (a .row-ptr .now) (a .col-idx .now) (a .values .now)) in
+    let w = c .before .before .before .room in
+    room-refused m (a .setup) (roomIn (a .ints .now) (a .floats .now) (a .work-ints .now) (a .work-floats .now)) (lentOf (a .ints .now) (a .floats .now) (a .work-ints .now) (a .work-floats .now)) (w .result) (w .ensures m refl refl) _ _ (c .before .checked .given .1)
 
 returns-2 : tie.Need-returns-2
 returns-2 c =
     let a = c .before .before .before .before .before .before .before .before .before .before .before .before .before .before .before .before .before .before .before .before .before .before .before .before .before .before .args in
+    let m = (csr (a .rows) (a .cols) (a .row-ptr .now) (a .col-idx .now) (a .values .now)) in
+    let w = c .before .before .before .before .before .before .before .before .before .before .before .before .before .before .before .before .before .before .room in
     let t = c .before .before .before .before .before .before .before .before .before .before .before .transfer in
-    level-refused (csr (a .rows) (a .cols) (a .row-ptr .now) (a .col-idx .now) (a .values .now)) (a .setup) (roomIn (a .ints .now) (a .floats .now) (a .work-ints .now) (a .work-floats .now)) (lentOf (a .ints .now) (a .floats .now) (a .work-ints .now) (a .work-floats .now)) (c .before .before .before .before .before .before .before .before .before .before .before .before .before .before .before .before .before .before .room .result) (c .before .before .before .before .before .before .before .before .before .before .before .before .before .before .before .before .before .before .room .ensures (csr (a .rows) (a .cols) (a .row-ptr .now) (a .col-idx .now) (a .values .now)) refl refl) (c .before .before .before .before .before .before .before .before .before .before .before .before .before .before .before .before .enum-told .given .1) (t .result) _ (t .ensures .0) _ _ (c .before .answer .given .1)
-
-same-length-5 : tie.Need-same-length-5
-same-length-5 c = search needs
-
-same-length-6 : tie.Need-same-length-6
-same-length-6 c = search needs
-
-same-length-7 : tie.Need-same-length-7
-same-length-7 c = search needs
-
-same-length-8 : tie.Need-same-length-8
-same-length-8 c = search needs
+    level-refused m (a .setup) (roomIn (a .ints .now) (a .floats .now) (a .work-ints .now) (a .work-floats .now)) (lentOf (a .ints .now) (a .floats .now) (a .work-ints .now) (a .work-floats .now)) (w .result) (w .ensures m refl refl) (c .before .before .before .before .before .before .before .before .before .before .before .before .before .before .before .before .enum-told .given .1) (t .result) _ (t .ensures .0) _ _ (c .before .answer .given .1)
 
 returns-3 : tie.Need-returns-3
 returns-3 c =
     let a = c .before .before .before .before .before .before .before .before .before .before .before .before .before .before .before .before .before .before .before .before .before .before .before .before .before .before .before .before .before .before .before .before .before .before .before .before .before .before .before .args in
+    let m = (csr (a .rows) (a .cols) (a .row-ptr .now) (a .col-idx .now) (a .values .now)) in
+    let w = c .before .before .before .before .before .before .before .before .before .before .before .before .before .before .before .before .before .before .before .before .before .before .before .before .before .before .before .before .before .before .before .room in
     let t = c .before .before .before .before .before .before .before .before .before .before .before .before .before .before .before .before .before .before .before .before .before .before .before .before .transfer in
-    level-built (csr (a .rows) (a .cols) (a .row-ptr .now) (a .col-idx .now) (a .values .now)) (a .setup) (roomIn (a .ints .now) (a .floats .now) (a .work-ints .now) (a .work-floats .now)) (lentOf (a .ints .now) (a .floats .now) (a .work-ints .now) (a .work-floats .now)) (c .before .before .before .before .before .before .before .before .before .before .before .before .before .before .before .before .before .before .before .before .before .before .before .before .before .before .before .before .before .before .before .room .result) (c .before .before .before .before .before .before .before .before .before .before .before .before .before .before .before .before .before .before .before .before .before .before .before .before .before .before .before .before .before .before .before .room .ensures (csr (a .rows) (a .cols) (a .row-ptr .now) (a .col-idx .now) (a .values .now)) refl refl) (c .before .before .before .before .before .before .before .before .before .before .before .before .before .before .before .before .before .before .before .before .before .before .before .before .before .before .before .before .before .enum-told .given .1) (t .result) _ (t .ensures .0) _ _ _ (c .before .before .before .before .before .before .before .before .before .before .before .before .before .before .answer2 .given .1) (c .before .before .before .before .before .before .before .before .coarse .ensures)
+    level-built m (a .setup) (roomIn (a .ints .now) (a .floats .now) (a .work-ints .now) (a .work-floats .now)) (lentOf (a .ints .now) (a .floats .now) (a .work-ints .now) (a .work-floats .now)) (w .result) (w .ensures m refl refl) (c .before .before .before .before .before .before .before .before .before .before .before .before .before .before .before .before .before .before .before .before .before .before .before .before .before .before .before .before .before .enum-told .given .1) (t .result) _ (t .ensures .0) _ _ _ (c .before .before .before .before .before .before .before .before .before .before .before .before .before .before .answer2 .given .1) (c .before .before .before .before .before .before .before .before .coarse .ensures)
 
 pub coarse-level-spec : {M : Type 1} → statement M
 coarse-level-spec =
     tie.close
     (tie.spec
     room-requires
-    enum-known-checked
-    enum-told
+    (λ c. search needs)
+    (λ c. search needs)
     transfer-requires
-    enum-known-answer
-    enum-known-answer-2
+    (λ c. search needs)
+    (λ c. search needs)
     coarse-requires
     returns
-    same-length
-    same-length-2
-    same-length-3
-    same-length-4
+    (λ c. search needs)
+    (λ c. search needs)
+    (λ c. search needs)
+    (λ c. search needs)
     returns-2
-    same-length-5
-    same-length-6
-    same-length-7
-    same-length-8
+    (λ c. search needs)
+    (λ c. search needs)
+    (λ c. search needs)
+    (λ c. search needs)
     returns-3)

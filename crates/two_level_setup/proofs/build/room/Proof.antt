@@ -10,75 +10,6 @@ returns : tie.Need-returns
 returns c =
     λ m er ev. too-large m (c .before .before .args .setup) _ (c .if1 .taken)
 
-square-requires : tie.Need-square-requires
-square-requires c κs = search needs
-
-div-long-enough : tie.Need-div-long-enough
-div-long-enough c = search needs
-
-mul-long-enough : tie.Need-mul-long-enough
-mul-long-enough c = search needs
-
-add-long-enough : tie.Need-add-long-enough
-add-long-enough c = search needs
-
-add-long-enough-2 : tie.Need-add-long-enough-2
-add-long-enough-2 c = search needs
-
-add-long-enough-3 : tie.Need-add-long-enough-3
-add-long-enough-3 c = search needs
-
-mul-long-enough-2 : tie.Need-mul-long-enough-2
-mul-long-enough-2 c = search needs
-
-add-long-enough-4 : tie.Need-add-long-enough-4
-add-long-enough-4 c = search needs
-
-add-long-enough-5 : tie.Need-add-long-enough-5
-add-long-enough-5 c = search needs
-
-add-long-enough-6 : tie.Need-add-long-enough-6
-add-long-enough-6 c = search needs
-
-mul-long-enough-3 : tie.Need-mul-long-enough-3
-mul-long-enough-3 c = search needs
-
-mul-long-enough-4 : tie.Need-mul-long-enough-4
-mul-long-enough-4 c = search needs
-
-add-long-enough-7 : tie.Need-add-long-enough-7
-add-long-enough-7 c = search needs
-
-add-long-enough-8 : tie.Need-add-long-enough-8
-add-long-enough-8 c = search needs
-
-mul-long-enough-5 : tie.Need-mul-long-enough-5
-mul-long-enough-5 c = search needs
-
-add-long-enough-9 : tie.Need-add-long-enough-9
-add-long-enough-9 c = search needs
-
-mul-long-enough-6 : tie.Need-mul-long-enough-6
-mul-long-enough-6 c = search needs
-
-mul-long-enough-7 : tie.Need-mul-long-enough-7
-mul-long-enough-7 c = search needs
-
-add-long-enough-10 : tie.Need-add-long-enough-10
-add-long-enough-10 c = search needs
-
-mul-long-enough-8 : tie.Need-mul-long-enough-8
-mul-long-enough-8 c = search needs
-
-add-long-enough-11 : tie.Need-add-long-enough-11
-add-long-enough-11 c = search needs
-
-add-long-enough-12 : tie.Need-add-long-enough-12
-add-long-enough-12 c = search needs
-
-long-enough-requires : tie.Need-long-enough-requires
-long-enough-requires c κs = search needs
-
 returns-2 : tie.Need-returns-2
 unfolding entryNeeds coarseNeeds
 returns-2 c =
@@ -96,28 +27,28 @@ room-spec =
     tie.close
     (tie.spec
     returns
-    square-requires
-    div-long-enough
-    mul-long-enough
-    add-long-enough
-    add-long-enough-2
-    add-long-enough-3
-    mul-long-enough-2
-    add-long-enough-4
-    add-long-enough-5
-    add-long-enough-6
-    mul-long-enough-3
-    mul-long-enough-4
-    add-long-enough-7
-    add-long-enough-8
-    mul-long-enough-5
-    add-long-enough-9
-    mul-long-enough-6
-    mul-long-enough-7
-    add-long-enough-10
-    mul-long-enough-8
-    add-long-enough-11
-    add-long-enough-12
-    long-enough-requires
+    (λ c κs. search needs)
+    (λ c. search needs)
+    (λ c. search needs)
+    (λ c. search needs)
+    (λ c. search needs)
+    (λ c. search needs)
+    (λ c. search needs)
+    (λ c. search needs)
+    (λ c. search needs)
+    (λ c. search needs)
+    (λ c. search needs)
+    (λ c. search needs)
+    (λ c. search needs)
+    (λ c. search needs)
+    (λ c. search needs)
+    (λ c. search needs)
+    (λ c. search needs)
+    (λ c. search needs)
+    (λ c. search needs)
+    (λ c. search needs)
+    (λ c. search needs)
+    (λ c. search needs)
+    (λ c κs. search needs)
     returns-2
     returns-3)

@@ -4,15 +4,6 @@ use borrow.Author.Needs.{needs}
 use Rattle.two_level_setup.proofs.fine.resolve.Statement.{statement}
 use Rattle.two_level_setup.proofs.fine.resolve.Tie as tie
 
-enum-told : tie.Need-enum-told
-enum-told c = search needs
-
-enum-told-2 : tie.Need-enum-told-2
-enum-told-2 c = search needs
-
-enum-told-3 : tie.Need-enum-told-3
-enum-told-3 c = search needs
-
 returns : tie.Need-returns
 returns c =
     auto-factor (c .before .before .before .args .policy) (c .before .before .before .args .c) (c .before .enum-told .given .1) (c .if1 .taken)
@@ -31,4 +22,4 @@ returns-4 c =
 
 pub resolve-spec : {M : Type 1} → statement M
 resolve-spec =
-    tie.close (tie.spec enum-told enum-told-2 enum-told-3 returns returns-2 returns-3 returns-4)
+    tie.close (tie.spec (λ c. search needs) (λ c. search needs) (λ c. search needs) returns returns-2 returns-3 returns-4)

@@ -7,15 +7,6 @@ use borrow.Author.Needs.{needs}
 use Rattle.two_level_setup.proofs.fine.start.Statement.{statement}
 use Rattle.two_level_setup.proofs.fine.start.Tie as tie
 
-mul-c : tie.Need-mul-c
-mul-c c = search needs
-
-resolve-requires : tie.Need-resolve-requires
-resolve-requires c κs = search needs
-
-div-t13 : tie.Need-div-t13
-div-t13 c = search needs
-
 mul-t15 : tie.Need-mul-t15
 mul-t15 c =
     let a = c .before .before .before .args in
@@ -36,4 +27,4 @@ returns c =
     rw (c .before .resolve .ensures)
 
 pub start-spec : {M : Type 1} → statement M
-start-spec = tie.close (tie.spec mul-c resolve-requires div-t13 mul-t15 add-t16 returns)
+start-spec = tie.close (tie.spec (λ c. search needs) (λ c κs. search needs) (λ c. search needs) mul-t15 add-t16 returns)
