@@ -21,7 +21,7 @@ use Rattle.definitions.specs.declared.TwoLevelAggregation.{TwoLevelAggregation}
 use Rattle.definitions.specs.declared.TwoLevelAggregation.the-variants.{Contiguous, Graph, StrongGraph}
 use Rattle.definitions.specs.declared.TwoLevelBasis.{TwoLevelBasis}
 use Rattle.definitions.specs.declared.TwoLevelBasis.the-variants.{PiecewiseConstant, JacobiSmoothed}
-use Rattle.two_level_setup.specs.Stages.{fromTransfer, fromRoom, fromGroups, fromFactors, fromBlocks}
+use Rattle.two_level_setup.specs.Stages.{fineOf, roomChecked, transferStage, matrixOf, coarseStage, coarseLevelOf, buildOf}
 
 unfoldable pub Clears : {A : Type 0} → Outcome A → Type 0
 Clears (done x) = Unit {0}
@@ -140,12 +140,10 @@ clears-coarse : (c : ℕ) (m : List Float) → Clears (coarseFactor c m)
 unfolding coarseFactor keepsAll causeOf
 clears-coarse c m = clears-then _ _ (clears-require _ _ refl) (λ _. clears-factor _ (λ i. CoarsePivot i) _ _ (λ i. refl) c 0 _)
 
-pub clears-all : (a : Matrix) (o : Options) (room : Lengths) → Clears (fromBlocks a o room)
-unfolding fromBlocks fromFactors fromGroups fromRoom fromTransfer keepsAll causeOf
+pub clears-all : (a : Matrix) (o : Options) (room : Lengths) → Clears (buildOf a o room)
+unfolding buildOf fineOf coarseLevelOf roomChecked transferStage coarseStage keepsAll causeOf
 clears-all a o room =
-    clears-then _ _ (clears-factors a (o .block)) (λ factors.
-    clears-then _ _ (clears-groups (o .aggregation) a o) (λ g.
-    clears-then _ _ (clears-require _ _ refl) (λ _.
-    clears-then _ _ (clears-require _ _ refl) (λ _.
-    clears-then _ _ (clears-transfer (o .basis) a (o .block) (g .ids) (g .count * o .block)) (λ t.
-    clears-then _ _ (clears-coarse (g .count * o .block) _) (λ l. clears-done _))))))
+    clears-then _ _ (clears-then _ _ (clears-factors a (o .block)) (λ factors. clears-then _ _ (clears-groups (o .aggregation) a o) (λ g. clears-done _))) (λ p.
+    clears-then _ _ (clears-then _ _ (clears-require _ _ refl) (λ _. clears-require _ _ refl)) (λ _.
+    clears-then _ _ (clears-then _ _ (clears-transfer (p .setup .basis) a (p .setup .block) (p .ids) (p .setup .coarse)) (λ t. clears-done _)) (λ q.
+    clears-then _ _ (clears-coarse (q .setup .coarse) (matrixOf a q)) (λ l. clears-done _))))

@@ -10,8 +10,7 @@ use borrow.Rule.Slice.PartMut.{putMid}
 use Rattle.definitions.specs.Lists.{padded, between, upTo}
 use Rattle.definitions.specs.Numbers.{zeroᶠ, largest}
 use Rattle.definitions.specs.Refusal.{Outcome, refused, done, resultLeft}
-use Rattle.definitions.specs.Coarse.{packedLength, coarseFactor, resolved, coarsePart, inverseOf, averagedSquare, averaged, entryIn, packedSolve, unit}
-use Rattle.definitions.specs.declared.Options.{Options}
+use Rattle.definitions.specs.Coarse.{packedLength, coarseFactor, coarsePart, inverseOf, averagedSquare, averaged, entryIn, packedSolve, unit}
 use Rattle.definitions.specs.declared.Refusal.{Refusal}
 use Rattle.definitions.specs.declared.Refusal.the-variants.{CoarseTooLarge, CoarseListTooShort}
 use Rattle.definitions.specs.declared.SetupAnswer.the-variants.{Built as BuiltSetup, Refused as NoSetup}
@@ -27,7 +26,7 @@ use Rattle.coarse_factor.specs.Calls.{coarseFactorCall, coarseInverseCall}
 use Rattle.definitions.specs.declared.FactorAnswer.{FactorAnswer}
 use Rattle.definitions.specs.declared.FactorAnswer.the-variants.{Factored as HasFactor, Refused as NoFactor}
 use Rattle.two_level_grouping.proofs.Kept.{put-tail}
-use Rattle.two_level_setup.specs.Stages.{recordOf}
+use Rattle.two_level_setup.specs.Stages.{filled}
 use Rattle.two_level_setup.specs.Contracts.{Inverted, Stored, Factored, factoredAnswer}
 use Rattle.two_level_setup.proofs.Padding.{padded-all, copied-longer, tail-is, tail-put}
 
@@ -91,9 +90,9 @@ kept-inverse policy c start floats work floats' work' e i w = record { part = λ
 
 -- ---- the factor
 
-module _ (rows entries : ℕ) (o : Options) (groups transfers : ℕ) (damping : Float) (start : ℕ) (floats work : List Float) where
+module _ (s : Setup) (start : ℕ) (floats work : List Float) where
   abbrev dim : ℕ
-  dim = groups * o .block
+  dim = s .coarse
 
   abbrev matrix : List Float
   matrix = take (dim * dim) work
@@ -122,7 +121,7 @@ module _ (rows entries : ℕ) (o : Options) (groups transfers : ℕ) (damping : 
       has-factor (done l) s e = (cc, (l, refl))
       has-factor (refused q) s e = (cc, ([], cc))
 
-      pub unfactored : (r : Refusal) (floats' work' : List Float) → x ≡ NoFactor r → Factored rows entries o groups transfers damping start floats work (NoSetup r) floats' work'
+      pub unfactored : (r : Refusal) (floats' work' : List Float) → x ≡ NoFactor r → Factored s start floats work (NoSetup r) floats' work'
       unfolding factoredAnswer
       unfactored r floats' work' e =
           let f : coarseFactor dim matrix ≡ refused r = no-factor (coarseFactor dim matrix) r (sym e ∙ answered) in
@@ -135,14 +134,14 @@ module _ (rows entries : ℕ) (o : Options) (groups transfers : ℕ) (damping : 
         abbrev after : List Float
         after = putMid start (length floats - start) floats more
 
-        pub factored : (s : Setup) (floats' work' : List Float) → length after ≡ length floats → s ≡ recordOf rows entries o groups transfers damping scale → Stored (resolved (o .policy) dim) dim start after work floats' work'
-            → Factored rows entries o groups transfers damping start floats work (BuiltSetup s) floats' work'
+        pub factored : (t : Setup) (floats' work' : List Float) → length after ≡ length floats → t ≡ filled s (s .transfers) (s .damping) scale → Stored (s .policy) dim start after work floats' work'
+            → Factored s start floats work (BuiltSetup t) floats' work'
         unfolding factoredAnswer resultLeft
-        factored s floats' work' la es st =
+        factored t floats' work' la et st =
             let h = has-factor (coarseFactor dim matrix) scale (sym e ∙ answered) in
             let f : coarseFactor dim matrix ≡ done (h .1 .0) = h .1 .1 in
             record {
-              answer = rw (f, es, h .0);
+              answer = rw (f, et, h .0);
               part = λ l k.
                   let m : more ≡ padded zeroᶠ (length floats - start) l = em ∙ ap (λ y. resultLeft zeroᶠ y (take (length floats - start) (drop start floats))) (call-is ∙ k) ∙ rw tail-long in
                   let p = tail-put start floats more (omega arith) in

@@ -1,4 +1,4 @@
--- what the checks leave, the stages as continuations of setup's definition, and what each promises
-pub mod Fit
+-- what is built so far and the stages on it, what the checks leave, and what each stage promises
 pub mod Stages
+pub mod Fit
 pub mod Contracts

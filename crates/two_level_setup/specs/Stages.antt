@@ -1,27 +1,28 @@
--- Setup stage by stage: what is left to do once a stage has passed, from the last to the first.
+-- What setup has built so far, and its stages on that, in setup's own order: blocks and groups, room for the coarse part, transfer, coarse part.
 use Prim.Native.Nat.{ℕ, _+_, _*_, _/_}
-use mathlib.Core.Path.{_≡_, refl, ap, _∙_}
-use mathlib.Core.List.{List, []}
+use mathlib.Core.List.{List, [], _++_}
 use lib.Dec.{leb}
 use lib.Ieee.{Float}
-use Rattle.definitions.specs.Numbers.{zeroᶠ}
-use Rattle.definitions.specs.Refusal.{Outcome, refused, done, require, _>>=_}
-use Rattle.definitions.specs.Matrix.{Matrix}
-use Rattle.definitions.specs.Diagonal.{diagonalOf}
+use Rattle.definitions.specs.Lists.{square}
+use Rattle.definitions.specs.Numbers.{zeroᶠ, largest}
+use Rattle.definitions.specs.Refusal.{Outcome, Checked, refused, done, require, _>>=_}
+use Rattle.definitions.specs.Matrix.{Matrix, Entry}
 use Rattle.definitions.specs.Block.{factorsOf}
 use Rattle.definitions.specs.Groups.{Grouping}
-use Rattle.definitions.specs.Estimate.{Estimate, estimateOf}
-use Rattle.definitions.specs.Transfer.{transferOf}
-use Rattle.definitions.specs.Coarse.{averagedSquare, coarseFactor, resolved}
-use Rattle.definitions.specs.Setup.{Lengths, entryNeeds, coarseNeeds, covers, frontOf, groupingOf, maxCoarse, Transfer, transferFor, coarseMatrix, Built, builtFrom, setupOf}
+use Rattle.definitions.specs.Coarse.{averagedSquare, coarseFactor, resolved, coarsePart}
+use Rattle.definitions.specs.Setup.{Lengths, entryNeeds, coarseNeeds, covers, groupingOf, maxCoarse, Transfer, transferFor, coarseEntry, transferInts, transferFloats, Built}
 use Rattle.definitions.specs.declared.Setup.{Setup}
+use Rattle.definitions.specs.declared.SetupAnswer.{SetupAnswer}
+use Rattle.definitions.specs.declared.SetupAnswer.the-variants.{Built as BuiltSetup, Refused as NoSetup}
 use Rattle.definitions.specs.declared.Options.{Options}
-use Rattle.definitions.specs.declared.TwoLevelBasis.the-variants.{PiecewiseConstant, JacobiSmoothed}
-use Rattle.definitions.specs.declared.Refusal.the-variants.{ListTooShort, CoarseTooLarge, CoarseListTooShort}
+use Rattle.definitions.specs.declared.Refusal.the-variants.{CoarseTooLarge, CoarseListTooShort}
+use lib.ListN.{length}
 
--- the record, from its own numbers
-unfoldable pub recordOf : ℕ → ℕ → Options → ℕ → ℕ → Float → Float → Setup
-recordOf rows entries o groups transfers damping scale =
+-- ---- the record, which fills up
+
+-- once the groups are known: no transfer yet, and no coarse scale
+unfoldable pub started : ℕ → ℕ → Options → ℕ → Setup
+started rows entries o groups =
     let c = groups * o .block in
     record {
       rows = rows;
@@ -31,74 +32,108 @@ recordOf rows entries o groups transfers damping scale =
       nodes = rows / o .block;
       groups = groups;
       coarse = c;
-      transfers = transfers;
+      transfers = 0;
       aggregation = o .aggregation;
       basis = o .basis;
       policy = resolved (o .policy) c;
-      damping = damping;
-      scale = scale;
+      damping = zeroᶠ;
+      scale = zeroᶠ;
       complexity = entries + c * c;
       baseline = entries;
     }
 
--- from the coarse matrix on: 23 and 24
-unfoldable pub fromTransfer : Matrix → Options → List Float → Grouping → Transfer → Outcome Built
-fromTransfer a o factors g t =
-    let c = g .count * o .block in
-    let m = averagedSquare c (coarseMatrix a o g t) in
-    coarseFactor c m >>= (λ factor. done (builtFrom a o factors g t m factor))
+-- with the transfer's two numbers and the coarse scale
+unfoldable pub filled : Setup → ℕ → Float → Float → Setup
+filled s transfers damping scale = record {
+  rows = s .rows;
+  entries = s .entries;
+  block = s .block;
+  group = s .group;
+  nodes = s .nodes;
+  groups = s .groups;
+  coarse = s .coarse;
+  transfers = transfers;
+  aggregation = s .aggregation;
+  basis = s .basis;
+  policy = s .policy;
+  damping = damping;
+  scale = scale;
+  complexity = s .complexity;
+  baseline = s .baseline;
+}
 
--- from the estimate on: 20 to 22
-unfoldable pub fromDiagonal : Matrix → Options → List Float → Grouping → List Float → Outcome Built
-fromDiagonal a o factors g d =
-    estimateOf a d >>= (λ e. fromTransfer a o factors g (record { damping = e .damping; weights = transferOf a d (e .damping) (o .block) (g .ids) (g .count * o .block) }))
+-- the options that a record keeps; its policy is resolved
+abbrev pub optionsOf : Setup → Options
+optionsOf s = record { block = s .block; group = s .group; aggregation = s .aggregation; basis = s .basis; policy = s .policy }
 
--- from the transfer on: 19 to 22 where the basis is smoothed
-unfoldable pub fromRoom : Matrix → Options → List Float → Grouping → Outcome Built
-fromRoom a o factors g = transferFor (o .basis) a (o .block) (g .ids) (g .count * o .block) >>= (λ t. fromTransfer a o factors g t)
+-- ---- what is built so far
 
--- from the groups on: 17 and 18
-unfoldable pub fromGroups : Matrix → Options → Lengths → List Float → Grouping → Outcome Built
-fromGroups a o room factors g =
-    let c = g .count * o .block in
-    require (leb c maxCoarse) (CoarseTooLarge c)
-    >>= (λ _. require (covers room (coarseNeeds c (entryNeeds a o))) (CoarseListTooShort c) >>= (λ _. fromRoom a o factors g))
+pub record Parts : Type 0 where
+  pub setup : Setup
+  pub factors : List Float
+  pub ids : List ℕ
+  pub weights : List (List Entry)
+  pub coarse : List Float
 
--- from the block factors on: 16
-unfoldable pub fromFactors : Matrix → Options → Lengths → List Float → Outcome Built
-fromFactors a o room factors = groupingOf (o .aggregation) a o >>= (λ g. fromGroups a o room factors g)
+-- what the two setup lists hold of it
+abbrev pub intsOf : Parts → List ℕ
+intsOf p = p .ids ++ transferInts (p .setup .basis) (p .weights)
 
--- from the blocks on: 14 and 15
-unfoldable pub fromBlocks : Matrix → Options → Lengths → Outcome Built
-fromBlocks a o room = factorsOf a (o .block) >>= (λ factors. fromFactors a o room factors)
+abbrev pub floatsOf : Parts → List Float
+floatsOf p = p .factors ++ transferFloats (p .weights) ++ p .coarse
 
--- SETUP is these after 1 to 13
-pub setup-splits : (a : Matrix) (o : Options) (room : Lengths)
-    → setupOf a o room ≡ (frontOf a o >>= (λ _. require (covers room (entryNeeds a o)) ListTooShort >>= (λ _. fromBlocks a o room)))
-unfolding setupOf fromBlocks fromFactors fromGroups fromRoom fromTransfer _>>=_
-setup-splits a o room = refl
+unfoldable pub builtOf : Parts → Built
+builtOf p = record { setup = p .setup; ints = intsOf p; floats = floatsOf p }
 
--- ---- the two bases
+unfoldable pub partsAnswer : Outcome Parts → SetupAnswer
+partsAnswer (done p) = BuiltSetup (p .setup)
+partsAnswer (refused r) = NoSetup r
 
-pub constant-splits : (a : Matrix) (o : Options) (factors : List Float) (g : Grouping) → o .basis ≡ PiecewiseConstant
-    → fromRoom a o factors g ≡ fromTransfer a o factors g (record { damping = zeroᶠ; weights = [] })
-unfolding fromRoom transferFor _>>=_
-constant-splits a o factors g e = rw e
+-- ---- the stages
 
-module _ {A B C D : Type 0} (make : A → B → C) (next : C → Outcome D) where
-  inner : (x : A) (p : Outcome B) → (p >>= (λ y. done (make x y)) >>= next) ≡ (p >>= (λ y. next (make x y)))
-  unfolding _>>=_
-  inner x (done y) = refl
-  inner x (refused r) = refl
+-- block factors and groups: 14 to 16
+unfoldable pub grouped : Matrix → Options → List Float → Grouping → Parts
+grouped a o factors g = record { setup = started (a .rows) (length (a .values)) o (g .count); factors = factors; ids = g .ids; weights = []; coarse = [] }
 
-  outer : (o : Outcome A) (f : A → Outcome B) → (o >>= (λ x. f x >>= (λ y. done (make x y))) >>= next) ≡ (o >>= (λ x. f x >>= (λ y. next (make x y))))
-  unfolding _>>=_
-  outer (done x) f = inner x (f x)
-  outer (refused r) f = refl
+unfoldable pub fineOf : Matrix → Options → Outcome Parts
+fineOf a o = factorsOf a (o .block) >>= (λ factors. groupingOf (o .aggregation) a o >>= (λ g. done (grouped a o factors g)))
 
-pub smoothed-splits : (a : Matrix) (o : Options) (factors : List Float) (g : Grouping) → o .basis ≡ JacobiSmoothed
-    → fromRoom a o factors g ≡ (diagonalOf a >>= (λ d. fromDiagonal a o factors g d))
-unfolding fromRoom transferFor fromDiagonal
-smoothed-splits a o factors g e =
-    ap (λ basis. transferFor basis a (o .block) (g .ids) (g .count * o .block) >>= (λ t. fromTransfer a o factors g t)) e
-    ∙ outer (λ d (x : Estimate). record { damping = x .damping; weights = transferOf a d (x .damping) (o .block) (g .ids) (g .count * o .block) }) (λ t. fromTransfer a o factors g t) (diagonalOf a) (λ d. estimateOf a d)
+-- room for the coarse part: 17 and 18
+unfoldable pub roomChecked : Matrix → Setup → Lengths → Checked
+roomChecked a s room =
+    require (leb (s .coarse) maxCoarse) (CoarseTooLarge (s .coarse)) >>= (λ _. require (covers room (coarseNeeds (s .coarse) (entryNeeds a (optionsOf s)))) (CoarseListTooShort (s .coarse)))
+
+-- the transfer: 19 to 22
+unfoldable pub transferred : Parts → Transfer → Parts
+transferred p t = record { setup = filled (p .setup) (length (transferFloats (t .weights))) (t .damping) (p .setup .scale); factors = p .factors; ids = p .ids; weights = t .weights; coarse = p .coarse }
+
+unfoldable pub transferStage : Matrix → Parts → Outcome Parts
+transferStage a p = transferFor (p .setup .basis) a (p .setup .block) (p .ids) (p .setup .coarse) >>= (λ t. done (transferred p t))
+
+-- the coarse part: 23 and 24
+unfoldable pub matrixOf : Matrix → Parts → List Float
+matrixOf a p = averagedSquare (p .setup .coarse) (square (p .setup .coarse) (coarseEntry (p .setup .basis) a (p .setup .block) (p .ids) (p .weights)))
+
+unfoldable pub stored : Parts → List Float → List Float → Parts
+stored p m factor = record {
+  setup = filled (p .setup) (p .setup .transfers) (p .setup .damping) (largest m);
+  factors = p .factors;
+  ids = p .ids;
+  weights = p .weights;
+  coarse = coarsePart (p .setup .policy) (p .setup .coarse) factor;
+}
+
+unfoldable pub coarseStage : Matrix → Parts → Outcome Parts
+coarseStage a p = coarseFactor (p .setup .coarse) (matrixOf a p) >>= (λ factor. done (stored p (matrixOf a p) factor))
+
+-- ---- put together
+
+unfoldable pub coarseLevelOf : Matrix → Lengths → Parts → Outcome Parts
+coarseLevelOf a room p = roomChecked a (p .setup) room >>= (λ _. transferStage a p >>= (λ q. coarseStage a q))
+
+unfoldable pub buildOf : Matrix → Options → Lengths → Outcome Parts
+buildOf a o room = fineOf a o >>= (λ p. coarseLevelOf a room p)
+
+-- what setup is behind 1 to 13
+unfoldable pub builtFor : Matrix → Options → Lengths → Outcome Built
+builtFor a o room = buildOf a o room >>= (λ p. done (builtOf p))

@@ -1,68 +1,72 @@
-// The coarse part: the factor or the inverse of the coarse matrix, and the record.
+// The coarse part: the coarse matrix by the basis asked for, and its factor or inverse.
+use coarse_matrix::constant_coarse;
+use coarse_matrix::galerkin_coarse;
 use definitions::FactorAnswer;
-use definitions::INVERSE_FROM;
-use definitions::Options;
 use definitions::Setup;
 use definitions::SetupAnswer;
+use definitions::TwoLevelBasis;
 use definitions::TwoLevelCoarseApplyPolicy;
 ghost use mathlib.Core.Path.{_≡_};
 ghost use Prim.Native.Nat.{_+_, _*_, _≤_};
 ghost use lib.ListN.{length};
-ghost use Rattle.definitions.specs.Coarse.{resolved};
-ghost use Rattle.two_level_setup.specs.Stages.{recordOf};
-ghost use Rattle.two_level_setup.specs.Contracts.{Inverted, Stored, Factored};
+ghost use Rattle.definitions.specs.Matrix.{csr};
+ghost use Rattle.two_level_setup.specs.Stages.{coarseStage};
+ghost use Rattle.two_level_setup.specs.Fit.{Ample, MatrixFit, roomOf};
+ghost use Rattle.two_level_setup.specs.Contracts.{lentOf, MatrixStage, Inverted, Stored, Factored, Weighed, Simulates};
 
-// Auto takes the inverse from a coarse dimension of 1,024 on.
-fn resolve(policy: TwoLevelCoarseApplyPolicy, c: u64) -> TwoLevelCoarseApplyPolicy
-    ensures { λ r. ⌜ r ≡ resolved policy c ⌝ }
-{
-    match policy {
-        TwoLevelCoarseApplyPolicy::Auto => {
-            if c < INVERSE_FROM as u64 {
-                TwoLevelCoarseApplyPolicy::FactorSolve
-            } else {
-                TwoLevelCoarseApplyPolicy::ExplicitInverse
-            }
-        }
-        TwoLevelCoarseApplyPolicy::FactorSolve => TwoLevelCoarseApplyPolicy::FactorSolve,
-        TwoLevelCoarseApplyPolicy::ExplicitInverse => TwoLevelCoarseApplyPolicy::ExplicitInverse,
-    }
-}
-
-// The setup record.
-fn record_of(
+// The coarse matrix, to the front of the work floats.
+fn matrix(
     rows: usize,
-    entries: usize,
-    options: Options,
-    groups: u64,
-    transfers: usize,
-    damping: f64,
-    scale: f64,
-) -> Setup
-    requires { ⌜ (groups * (options .block) ≤ 2048) × (entries ≤ 16_777_216) × (1 ≤ options .block) ⌝ }
-    ensures { λ r. ⌜ r ≡ recordOf rows entries options groups transfers damping scale ⌝ }
+    cols: usize,
+    row_ptr: &[u32],
+    col_idx: &[u32],
+    values: &[f64],
+    setup: Setup,
+    ints: &[u32],
+    floats: &[f64],
+    work_ints: &mut [u32],
+    work_floats: &mut [f64],
+)
+    requires { ⌜ MatrixFit (csr rows cols (now «row_ptr») (now «col_idx») (now values)) setup (roomOf (length (now ints)) (length (now floats)) (length (now «work_ints»)) (length (now «work_floats»))) ⌝ }
+    ensures { λ _. ⌜ MatrixStage (csr rows cols (now («row_ptr» .entry)) (now («col_idx» .entry)) (now (values .entry))) setup (now (ints .entry)) (now (floats .entry)) (now («work_ints» .entry)) (now («work_floats» .entry)) (now («work_ints» .exit)) (now («work_floats» .exit)) ⌝ }
 {
-    let c = groups * options.block;
-    let asked = options.policy;
-    let policy = resolve(asked, c);
-    let aggregation = options.aggregation;
-    let basis = options.basis;
-    Setup {
-        rows: rows as u64,
-        entries: entries as u64,
-        block: options.block,
-        group: options.group,
-        nodes: rows as u64 / options.block,
-        groups: groups,
-        coarse: c,
-        transfers: transfers as u64,
-        aggregation: aggregation,
-        basis: basis,
-        policy: policy,
-        damping: damping,
-        scale: scale,
-        complexity: entries as u64 + c * c,
-        baseline: entries as u64,
+    let size = setup.block as usize;
+    let nodes = setup.nodes as usize;
+    let basis = setup.basis;
+    match basis {
+        TwoLevelBasis::PiecewiseConstant => {
+            let zero = 0;
+            constant_coarse(
+                rows,
+                cols,
+                row_ptr,
+                col_idx,
+                values,
+                size,
+                &ints[zero..nodes],
+                setup.groups as usize,
+                work_floats,
+            );
+        }
+        TwoLevelBasis::JacobiSmoothed => {
+            let first = nodes + rows + 1;
+            let end = first + setup.transfers as usize;
+            let used = rows * size;
+            let stop = used + setup.transfers as usize;
+            galerkin_coarse(
+                rows,
+                cols,
+                row_ptr,
+                col_idx,
+                values,
+                setup.coarse as usize,
+                &ints[nodes..first],
+                &ints[first..end],
+                &floats[used..stop],
+                work_ints,
+                work_floats,
+            );
+        }
     }
 }
 
@@ -98,31 +102,57 @@ fn store(
     }
 }
 
-// The factor of the coarse matrix at the front of the work list: causes 23 and 24, then the record.
-pub(crate) fn factor_stage(
-    rows: usize,
-    entries: usize,
-    options: Options,
-    groups: u64,
-    transfers: usize,
-    damping: f64,
-    start: usize,
-    floats: &mut [f64],
-    work: &mut [f64],
-) -> SetupAnswer
-    requires { ⌜ (groups * (options .block) ≤ 2048) × (entries ≤ 16_777_216) × (1 ≤ options .block) ⌝ }
-    requires { ⌜ (start + groups * (options .block) * (groups * (options .block)) ≤ length (now floats)) × (groups * (options .block) * (groups * (options .block)) ≤ length (now work)) ⌝ }
-    ensures { λ r. ⌜ Factored rows entries options groups transfers damping start (now (floats .entry)) (now (work .entry)) r (now (floats .exit)) (now (work .exit)) ⌝ }
+// The factor of the coarse matrix at the front of the work list, from `start` on: causes 23 and 24.
+fn factor(setup: Setup, start: usize, floats: &mut [f64], work: &mut [f64]) -> SetupAnswer
+    requires { ⌜ (setup .coarse ≤ 2048) × (start + setup .coarse * (setup .coarse) ≤ length (now floats)) × (setup .coarse * (setup .coarse) ≤ length (now work)) ⌝ }
+    ensures { λ r. ⌜ Factored setup start (now (floats .entry)) (now (work .entry)) r (now (floats .exit)) (now (work .exit)) ⌝ }
 {
-    let c = (groups * options.block) as usize;
+    let c = setup.coarse as usize;
     let answer = coarse_factor::coarse_factor(c, &work[..], &mut floats[start..]);
     match answer {
         FactorAnswer::Refused(cause) => SetupAnswer::Refused(cause),
         FactorAnswer::Factored(scale) => {
-            let asked = options.policy;
-            let policy = resolve(asked, groups * options.block);
+            let policy = setup.policy;
             store(policy, c, start, floats, work);
-            SetupAnswer::Built(record_of(rows, entries, options, groups, transfers, damping, scale))
+            let mut filled = setup;
+            filled.scale = scale;
+            SetupAnswer::Built(filled)
         }
     }
+}
+
+// Coarse matrix, then factor. Each is lent only the fronts that it needs, since a stage clears what it is lent; behind them stand zeros already.
+pub(crate) fn coarse(
+    rows: usize,
+    cols: usize,
+    row_ptr: &[u32],
+    col_idx: &[u32],
+    values: &[f64],
+    setup: Setup,
+    ints: &mut [u32],
+    floats: &mut [f64],
+    work_ints: &mut [u32],
+    work_floats: &mut [f64],
+) -> SetupAnswer
+    requires { ⌜ Ample (csr rows cols (now «row_ptr») (now «col_idx») (now values)) setup (roomOf (length (now ints)) (length (now floats)) (length (now «work_ints»)) (length (now «work_floats»))) ⌝ }
+    ensures { λ r. ⌜ Simulates (Weighed (csr rows cols (now («row_ptr» .entry)) (now («col_idx» .entry)) (now (values .entry)))) (coarseStage (csr rows cols (now («row_ptr» .entry)) (now («col_idx» .entry)) (now (values .entry)))) setup (lentOf (now (ints .entry)) (now (floats .entry)) (now («work_ints» .entry)) (now («work_floats» .entry))) r (lentOf (now (ints .exit)) (now (floats .exit)) (now («work_ints» .exit)) (now («work_floats» .exit))) ⌝ }
+{
+    let c = setup.coarse as usize;
+    let few = 2 * c;
+    let part = c * c + c;
+    matrix(
+        rows,
+        cols,
+        row_ptr,
+        col_idx,
+        values,
+        setup,
+        &ints[..],
+        &floats[..],
+        &mut work_ints[..few],
+        &mut work_floats[..part],
+    );
+    let start = rows * setup.block as usize + setup.transfers as usize;
+    let stop = start + c * c;
+    factor(setup, start, &mut floats[..stop], &mut work_floats[..part])
 }

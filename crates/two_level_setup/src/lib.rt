@@ -1,8 +1,8 @@
 // Setup of the two-level preconditioner: the record, and the four lists that hold what it made.
-mod coarse; // coarse.rt: the factor or the inverse of the coarse matrix, and the record
-mod matrix; // matrix.rt: the coarse matrix by the basis asked for, and what follows it
-mod smoothed; // smoothed.rt: diagonal, estimate and transfer
-mod stages; // stages.rt: blocks, groups, and room for the coarse part
+mod basis; // basis.rt: the transfer, constant or smoothed
+mod build; // build.rt: the stages put together, and room for the coarse part
+mod coarse; // coarse.rt: the coarse matrix, its factor or inverse
+mod fine; // fine.rt: block factors, groups, and the record
 
 use definitions::Answer;
 use definitions::Options;
@@ -14,8 +14,8 @@ ghost use Rattle.definitions.specs.Matrix.{csr};
 ghost use Rattle.definitions.specs.Setup.{setupOf, setupLeft, lengthsOf};
 ghost use Rattle.definitions.specs.Answers.{setupAnswer};
 ghost use Rattle.two_level_setup.specs.Fit.{Fit, roomOf};
-ghost use Rattle.two_level_setup.specs.Stages.{fromBlocks};
-ghost use Rattle.two_level_setup.specs.Contracts.{lentOf, roomIn, Zeroed, Settled};
+ghost use Rattle.two_level_setup.specs.Stages.{buildOf, builtFor};
+ghost use Rattle.two_level_setup.specs.Contracts.{lentOf, Zeroed};
 
 fn zero_all(ints: &mut [u32], floats: &mut [f64], work_ints: &mut [u32], work_floats: &mut [f64])
     ensures { λ _. ⌜ Zeroed (lentOf (now (ints .entry)) (now (floats .entry)) (now («work_ints» .entry)) (now («work_floats» .entry))) (lentOf (now (ints .exit)) (now (floats .exit)) (now («work_ints» .exit)) (now («work_floats» .exit))) ⌝ }
@@ -27,7 +27,7 @@ fn zero_all(ints: &mut [u32], floats: &mut [f64], work_ints: &mut [u32], work_fl
 }
 
 // Builds, and clears all four lists where that is refused.
-fn settle(
+fn build_or_clear(
     rows: usize,
     cols: usize,
     row_ptr: &[u32],
@@ -40,9 +40,13 @@ fn settle(
     work_floats: &mut [f64],
 ) -> SetupAnswer
     requires { ⌜ Fit (csr rows cols (now «row_ptr») (now «col_idx») (now values)) options (roomOf (length (now ints)) (length (now floats)) (length (now «work_ints»)) (length (now «work_floats»))) ⌝ }
-    ensures { λ r. ⌜ Settled (fromBlocks (csr rows cols (now («row_ptr» .entry)) (now («col_idx» .entry)) (now (values .entry))) options (roomIn (now (ints .entry)) (now (floats .entry)) (now («work_ints» .entry)) (now («work_floats» .entry)))) (lentOf (now (ints .entry)) (now (floats .entry)) (now («work_ints» .entry)) (now («work_floats» .entry))) r (lentOf (now (ints .exit)) (now (floats .exit)) (now («work_ints» .exit)) (now («work_floats» .exit))) ⌝ }
+    ensures { λ r. ⌜ (
+        let x = lentOf (now (ints .entry)) (now (floats .entry)) (now («work_ints» .entry)) (now («work_floats» .entry)) in
+        let built = builtFor (csr rows cols (now («row_ptr» .entry)) (now («col_idx» .entry)) (now (values .entry))) options (lengthsOf x) in
+        (r ≡ setupAnswer built) × (lentOf (now (ints .exit)) (now (floats .exit)) (now («work_ints» .exit)) (now («work_floats» .exit)) ≡ setupLeft built x)
+        ) ⌝ }
 {
-    let answer = stages::build(
+    let answer = build::build(
         rows,
         cols,
         row_ptr,
@@ -76,26 +80,26 @@ pub fn setup(
     work_ints: &mut [u32],
     work_floats: &mut [f64],
 ) -> SetupAnswer
-    ensures { λ r. ⌜ r ≡ setupAnswer (setupOf (csr rows cols (now («row_ptr» .entry)) (now («col_idx» .entry)) (now (values .entry))) options (lengthsOf (lentOf (now (ints .entry)) (now (floats .entry)) (now («work_ints» .entry)) (now («work_floats» .entry))))) ⌝ }
-    ensures { λ _. ⌜ lentOf (now (ints .exit)) (now (floats .exit)) (now («work_ints» .exit)) (now («work_floats» .exit)) ≡ setupLeft (setupOf (csr rows cols (now («row_ptr» .entry)) (now («col_idx» .entry)) (now (values .entry))) options (lengthsOf (lentOf (now (ints .entry)) (now (floats .entry)) (now («work_ints» .entry)) (now («work_floats» .entry))))) (lentOf (now (ints .entry)) (now (floats .entry)) (now («work_ints» .entry)) (now («work_floats» .entry))) ⌝ }
+    ensures { λ r. ⌜ (
+        let x = lentOf (now (ints .entry)) (now (floats .entry)) (now («work_ints» .entry)) (now («work_floats» .entry)) in
+        let call = setupOf (csr rows cols (now («row_ptr» .entry)) (now («col_idx» .entry)) (now (values .entry))) options (lengthsOf x) in
+        (r ≡ setupAnswer call) × (lentOf (now (ints .exit)) (now (floats .exit)) (now («work_ints» .exit)) (now («work_floats» .exit)) ≡ setupLeft call x)
+        ) ⌝ }
 {
     let checked = two_level_grouping::front(rows, cols, row_ptr, col_idx, values, options);
     match checked {
         Answer::Refused(cause) => SetupAnswer::Refused(cause),
         Answer::Accepted => {
-            let size = options.block as usize;
-            let entries = values.len();
-            if stages::long_enough(
-                rows / size + 2 * rows + entries + 1,
-                rows * size + rows + entries,
-                8 * rows + 4 * entries + 16,
-                8 * rows + 2 * entries,
+            if build::entry_fits(
+                rows,
+                values.len(),
+                options.block,
                 ints.len(),
                 floats.len(),
                 work_ints.len(),
                 work_floats.len(),
             ) {
-                settle(
+                build_or_clear(
                     rows,
                     cols,
                     row_ptr,

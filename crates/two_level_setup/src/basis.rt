@@ -1,0 +1,216 @@
+// The transfer: constant over each group, or smoothed by the diagonal and the damping factor.
+use definitions::Answer;
+use definitions::EstimateAnswer;
+use definitions::Setup;
+use definitions::SetupAnswer;
+use definitions::TransferAnswer;
+use definitions::TwoLevelBasis;
+use transfer::smoothed_transfer;
+ghost use mathlib.Core.Path.{_≡_};
+ghost use Prim.Native.Nat.{_+_, _*_, _≤_};
+ghost use lib.ListN.{length};
+ghost use Rattle.definitions.specs.Matrix.{csr};
+ghost use Rattle.definitions.specs.declared.TwoLevelBasis.the-variants.{JacobiSmoothed};
+ghost use Rattle.two_level_setup.specs.Stages.{transferStage};
+ghost use Rattle.two_level_setup.specs.Fit.{Ample, DampingFit, roomOf};
+ghost use Rattle.two_level_setup.specs.Contracts.{lentOf, roomIn, Damped, MovedInts, MovedFloats, WeightsStage, Begun, Simulates, StaysAmple};
+
+fn at_most(x: u64, most: usize) -> usize
+    ensures { λ r. ⌜ (r ≤ most) × (x ≤ most → r ≡ x) ⌝ }
+{
+    if x < most as u64 { x as usize } else { most }
+}
+
+// Pointers and columns go from the front of the work list behind the groups, and are cleared there.
+fn keep_columns(nodes: usize, count: usize, ints: &mut [u32], work: &mut [u32])
+    requires { ⌜ (nodes ≤ length (now ints)) × (count ≤ length (now work)) ⌝ }
+    ensures { λ _. ⌜ MovedInts nodes count (now (ints .entry)) (now (work .entry)) (now (ints .exit)) (now (work .exit)) ⌝ }
+{
+    let zero = 0;
+    numbers::copy_ints(&work[zero..count], &mut ints[nodes..]);
+    numbers::zero_ints(&mut work[zero..count]);
+}
+
+// Weights go from the front of the work list behind the block factors, where the diagonal stood up to `end`, and are cleared there.
+fn keep_weights(used: usize, end: usize, count: usize, floats: &mut [f64], work: &mut [f64])
+    requires { ⌜ (used ≤ end) × ((end ≤ length (now floats)) × (count ≤ length (now work))) ⌝ }
+    ensures { λ _. ⌜ MovedFloats used end count (now (floats .entry)) (now (work .entry)) (now (floats .exit)) (now (work .exit)) ⌝ }
+{
+    numbers::zero_floats(&mut floats[used..end]);
+    let zero = 0;
+    numbers::copy_floats(&work[zero..count], &mut floats[used..]);
+    numbers::zero_floats(&mut work[zero..count]);
+}
+
+// The diagonal, behind the block factors, and the estimate from it: causes 19 to 22. The work floats that it is lent are cleared again.
+fn damping(
+    rows: usize,
+    cols: usize,
+    row_ptr: &[u32],
+    col_idx: &[u32],
+    values: &[f64],
+    setup: Setup,
+    floats: &mut [f64],
+    work: &mut [f64],
+) -> EstimateAnswer
+    requires { ⌜ DampingFit (csr rows cols (now «row_ptr») (now «col_idx») (now values)) setup (length (now floats)) (length (now work)) ⌝ }
+    ensures { λ r. ⌜ Damped (csr rows cols (now («row_ptr» .entry)) (now («col_idx» .entry)) (now (values .entry))) (rows * (setup .block)) (now (floats .entry)) (now (work .entry)) r (now (floats .exit)) (now (work .exit)) ⌝ }
+{
+    let used = rows * setup.block as usize;
+    let end = used + rows;
+    let answer = csr32::diagonal(rows, cols, row_ptr, col_idx, values, &mut floats[used..end]);
+    match answer {
+        Answer::Refused(cause) => EstimateAnswer::Refused(cause),
+        Answer::Accepted => {
+            let need = 3 * rows;
+            spectral_radius::estimate(
+                rows,
+                cols,
+                row_ptr,
+                col_idx,
+                values,
+                &floats[used..end],
+                &mut work[..need],
+            )
+        }
+    }
+}
+
+// The weights for a damping factor, in the fronts of the work lists, and from there to their places; how many they are.
+fn weights(
+    rows: usize,
+    cols: usize,
+    row_ptr: &[u32],
+    col_idx: &[u32],
+    values: &[f64],
+    setup: Setup,
+    damping: f64,
+    ints: &mut [u32],
+    floats: &mut [f64],
+    work_ints: &mut [u32],
+    work_floats: &mut [f64],
+) -> usize
+    requires { ⌜ Ample (csr rows cols (now «row_ptr») (now «col_idx») (now values)) setup (roomOf (length (now ints)) (length (now floats)) (length (now «work_ints»)) (length (now «work_floats»))) ⌝ }
+    requires { ⌜ setup .basis ≡ JacobiSmoothed ⌝ }
+    ensures { λ r. ⌜ WeightsStage (csr rows cols (now («row_ptr» .entry)) (now («col_idx» .entry)) (now (values .entry))) setup damping (lentOf (now (ints .entry)) (now (floats .entry)) (now («work_ints» .entry)) (now («work_floats» .entry))) r (lentOf (now (ints .exit)) (now (floats .exit)) (now («work_ints» .exit)) (now («work_floats» .exit))) ⌝ }
+{
+    let size = setup.block as usize;
+    let nodes = setup.nodes as usize;
+    let zero = 0;
+    let used = rows * size;
+    let end = used + rows;
+    let c = setup.coarse as usize;
+    let most = rows + values.len();
+    let few = rows + most + 1 + 2 * c;
+    let part = most + c;
+    let answer = smoothed_transfer(
+        rows,
+        cols,
+        row_ptr,
+        col_idx,
+        values,
+        size,
+        &ints[zero..nodes],
+        setup.groups as usize,
+        &floats[used..end],
+        damping,
+        &mut work_ints[..few],
+        &mut work_floats[..part],
+    );
+    match answer {
+        TransferAnswer::Refused(_) => 0,
+        TransferAnswer::Count(count) => {
+            let transfers = at_most(count, most);
+            keep_columns(nodes, rows + 1 + transfers, ints, work_ints);
+            keep_weights(used, end, transfers, floats, work_floats);
+            transfers
+        }
+    }
+}
+
+// The smoothed basis: damping factor, then weights.
+fn smoothed(
+    rows: usize,
+    cols: usize,
+    row_ptr: &[u32],
+    col_idx: &[u32],
+    values: &[f64],
+    setup: Setup,
+    ints: &mut [u32],
+    floats: &mut [f64],
+    work_ints: &mut [u32],
+    work_floats: &mut [f64],
+) -> SetupAnswer
+    requires { ⌜ Ample (csr rows cols (now «row_ptr») (now «col_idx») (now values)) setup (roomOf (length (now ints)) (length (now floats)) (length (now «work_ints»)) (length (now «work_floats»))) ⌝ }
+    requires { ⌜ setup .basis ≡ JacobiSmoothed ⌝ }
+    ensures { λ r. ⌜ Simulates (Begun (csr rows cols (now («row_ptr» .entry)) (now («col_idx» .entry)) (now (values .entry)))) (transferStage (csr rows cols (now («row_ptr» .entry)) (now («col_idx» .entry)) (now (values .entry)))) setup (lentOf (now (ints .entry)) (now (floats .entry)) (now («work_ints» .entry)) (now («work_floats» .entry))) r (lentOf (now (ints .exit)) (now (floats .exit)) (now («work_ints» .exit)) (now («work_floats» .exit))) ⌝ }
+    ensures { λ r. ⌜ StaysAmple (csr rows cols (now («row_ptr» .entry)) (now («col_idx» .entry)) (now (values .entry))) (roomIn (now (ints .entry)) (now (floats .entry)) (now («work_ints» .entry)) (now («work_floats» .entry))) r ⌝ }
+{
+    let estimate = damping(
+        rows,
+        cols,
+        row_ptr,
+        col_idx,
+        values,
+        setup,
+        floats,
+        work_floats,
+    );
+    match estimate {
+        EstimateAnswer::Refused(cause) => SetupAnswer::Refused(cause),
+        EstimateAnswer::Estimated { rho: _, damping } => {
+            let count = weights(
+                rows,
+                cols,
+                row_ptr,
+                col_idx,
+                values,
+                setup,
+                damping,
+                ints,
+                floats,
+                work_ints,
+                work_floats,
+            );
+            let mut filled = setup;
+            filled.transfers = count as u64;
+            filled.damping = damping;
+            SetupAnswer::Built(filled)
+        }
+    }
+}
+
+// The transfer by the basis asked for.
+pub(crate) fn transfer(
+    rows: usize,
+    cols: usize,
+    row_ptr: &[u32],
+    col_idx: &[u32],
+    values: &[f64],
+    setup: Setup,
+    ints: &mut [u32],
+    floats: &mut [f64],
+    work_ints: &mut [u32],
+    work_floats: &mut [f64],
+) -> SetupAnswer
+    requires { ⌜ Ample (csr rows cols (now «row_ptr») (now «col_idx») (now values)) setup (roomOf (length (now ints)) (length (now floats)) (length (now «work_ints»)) (length (now «work_floats»))) ⌝ }
+    ensures { λ r. ⌜ Simulates (Begun (csr rows cols (now («row_ptr» .entry)) (now («col_idx» .entry)) (now (values .entry)))) (transferStage (csr rows cols (now («row_ptr» .entry)) (now («col_idx» .entry)) (now (values .entry)))) setup (lentOf (now (ints .entry)) (now (floats .entry)) (now («work_ints» .entry)) (now («work_floats» .entry))) r (lentOf (now (ints .exit)) (now (floats .exit)) (now («work_ints» .exit)) (now («work_floats» .exit))) ⌝ }
+    ensures { λ r. ⌜ StaysAmple (csr rows cols (now («row_ptr» .entry)) (now («col_idx» .entry)) (now (values .entry))) (roomIn (now (ints .entry)) (now (floats .entry)) (now («work_ints» .entry)) (now («work_floats» .entry))) r ⌝ }
+{
+    let basis = setup.basis;
+    match basis {
+        TwoLevelBasis::PiecewiseConstant => SetupAnswer::Built(setup),
+        TwoLevelBasis::JacobiSmoothed => smoothed(
+            rows,
+            cols,
+            row_ptr,
+            col_idx,
+            values,
+            setup,
+            ints,
+            floats,
+            work_ints,
+            work_floats,
+        ),
+    }
+}

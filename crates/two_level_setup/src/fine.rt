@@ -1,0 +1,104 @@
+// The fine level: block factors, groups, and the record that starts with them.
+use definitions::Answer;
+use definitions::GroupingAnswer;
+use definitions::INVERSE_FROM;
+use definitions::Options;
+use definitions::Setup;
+use definitions::SetupAnswer;
+use definitions::TwoLevelCoarseApplyPolicy;
+ghost use mathlib.Core.Path.{_≡_};
+ghost use Prim.Native.Nat.{_*_, _≤_};
+ghost use lib.ListN.{length};
+ghost use Rattle.definitions.specs.Matrix.{csr};
+ghost use Rattle.definitions.specs.Coarse.{resolved};
+ghost use Rattle.two_level_setup.specs.Stages.{started, fineOf};
+ghost use Rattle.two_level_setup.specs.Fit.{Fit, roomOf};
+ghost use Rattle.two_level_setup.specs.Contracts.{lentOf, Leaves};
+
+// Auto takes the inverse from a coarse dimension of 1,024 on.
+fn resolve(policy: TwoLevelCoarseApplyPolicy, c: u64) -> TwoLevelCoarseApplyPolicy
+    ensures { λ r. ⌜ r ≡ resolved policy c ⌝ }
+{
+    match policy {
+        TwoLevelCoarseApplyPolicy::Auto => {
+            if c < INVERSE_FROM as u64 {
+                TwoLevelCoarseApplyPolicy::FactorSolve
+            } else {
+                TwoLevelCoarseApplyPolicy::ExplicitInverse
+            }
+        }
+        TwoLevelCoarseApplyPolicy::FactorSolve => TwoLevelCoarseApplyPolicy::FactorSolve,
+        TwoLevelCoarseApplyPolicy::ExplicitInverse => TwoLevelCoarseApplyPolicy::ExplicitInverse,
+    }
+}
+
+// The record once the groups are known.
+fn start(rows: usize, entries: usize, options: Options, groups: u64) -> Setup
+    requires { ⌜ (groups * (options .block) ≤ 8_388_608) × (entries ≤ 16_777_216) × (1 ≤ options .block) ⌝ }
+    ensures { λ r. ⌜ r ≡ started rows entries options groups ⌝ }
+{
+    let c = groups * options.block;
+    let asked = options.policy;
+    let policy = resolve(asked, c);
+    let aggregation = options.aggregation;
+    let basis = options.basis;
+    Setup {
+        rows: rows as u64,
+        entries: entries as u64,
+        block: options.block,
+        group: options.group,
+        nodes: rows as u64 / options.block,
+        groups: groups,
+        coarse: c,
+        transfers: 0,
+        aggregation: aggregation,
+        basis: basis,
+        policy: policy,
+        damping: 0.0,
+        scale: 0.0,
+        complexity: entries as u64 + c * c,
+        baseline: entries as u64,
+    }
+}
+
+// Block factors, then groups: causes 14 to 16.
+pub(crate) fn fine(
+    rows: usize,
+    cols: usize,
+    row_ptr: &[u32],
+    col_idx: &[u32],
+    values: &[f64],
+    options: Options,
+    ints: &mut [u32],
+    floats: &mut [f64],
+    work_ints: &mut [u32],
+    work_floats: &mut [f64],
+) -> SetupAnswer
+    requires { ⌜ Fit (csr rows cols (now «row_ptr») (now «col_idx») (now values)) options (roomOf (length (now ints)) (length (now floats)) (length (now «work_ints»)) (length (now «work_floats»))) ⌝ }
+    ensures { λ r. ⌜ Leaves (fineOf (csr rows cols (now («row_ptr» .entry)) (now («col_idx» .entry)) (now (values .entry))) options) r (lentOf (now (ints .exit)) (now (floats .exit)) (now («work_ints» .exit)) (now («work_floats» .exit))) ⌝ }
+{
+    let size = options.block as usize;
+    let answer = block_factor::blocks(rows, cols, row_ptr, col_idx, values, size, floats);
+    match answer {
+        Answer::Refused(cause) => SetupAnswer::Refused(cause),
+        Answer::Accepted => {
+            let found = two_level_grouping::aggregate(
+                rows,
+                cols,
+                row_ptr,
+                col_idx,
+                values,
+                options,
+                ints,
+                work_ints,
+                work_floats,
+            );
+            match found {
+                GroupingAnswer::Refused(cause) => SetupAnswer::Refused(cause),
+                GroupingAnswer::Groups(groups) => {
+                    SetupAnswer::Built(start(rows, values.len(), options, groups))
+                }
+            }
+        }
+    }
+}
