@@ -161,6 +161,9 @@ pub record Lent : Type 0 where
   pub workInts : List ℕ
   pub workFloats : List Float
 
+abbrev pub lentOf : List ℕ → List Float → List ℕ → List Float → Lent
+lentOf ints floats workInts workFloats = record { ints = ints; floats = floats; workInts = workInts; workFloats = workFloats }
+
 unfoldable pub lengthsOf : Lent → Lengths
 lengthsOf x = record { ints = length (x .ints); floats = length (x .floats); workInts = length (x .workInts); workFloats = length (x .workFloats) }
 

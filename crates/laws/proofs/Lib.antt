@@ -27,3 +27,8 @@ pub mod FactorExamples
 -- diagonal sums behind accepted blocks, and the causes that setup never is
 pub mod Diagonals
 pub mod SetupCauses
+-- the groups of setup: new numbers by first appearance, how many ids and groups; the lists of a setup, and the rows of the transfer
+pub mod Renumbered
+pub mod GroupIds
+pub mod SetupLists
+pub mod TransferRows

@@ -4,8 +4,8 @@ use mathlib.Core.Path.{_≡_, refl, sym, ap, _∙_, subst}
 use mathlib.Core.Logic.{_⊎_, inl, inr}
 use mathlib.Core.Bool.{Bool, not}
 use mathlib.Core.List.{List, [], map, flatMap}
-use Prim.Native.Nat.{ℕ, suc, _+_, _-_, _*_, _/_, _%_, _≤_, _<_, min}
-use native.Mathlib.Nat.{le-trans, le-of-lt, mod-lt, div-lt-iff-lt-mul, div-add-mod', div-eq-of-lt, mul-add-div-right, add-zero, mul-le-mul-right}
+use Prim.Native.Nat.{ℕ, _+_, _-_, _*_, _/_, _%_, _≤_, _<_}
+use native.Mathlib.Nat.{le-trans, le-of-lt, mod-lt, div-lt-iff-lt-mul, div-add-mod'}
 use native.Mathlib.Omega.{arith}
 use lib.Dec.{T, eqb, eqb→eq}
 use lib.ListN.{length, getD, drop}
@@ -18,7 +18,7 @@ use Rattle.definitions.specs.Matrix.{Matrix, Entry, entriesOf, valuesWhere}
 use Rattle.definitions.specs.Links.{unconnected}
 use Rattle.definitions.specs.Diagonal.{diagonalOf}
 use Rattle.definitions.specs.Estimate.{estimateOf}
-use Rattle.definitions.specs.Block.{blockCount, widthOf, blockPart, blockSolve, blockApplied}
+use Rattle.definitions.specs.Block.{widthOf, blockPart, blockSolve, blockApplied}
 use Rattle.definitions.specs.Transfer.{coarseColumn, transferRow, transferOf}
 use Rattle.definitions.specs.Coarse.{weightsAt, coarsePart, coarseSolve, resolved, packedEntry}
 use Rattle.definitions.specs.Setup.{nodeCount, Transfer, transferFor, coarseEntry, coarseMatrix}
@@ -34,29 +34,13 @@ use Rattle.laws.proofs.Outcomes.{done-inj, bind-done}
 use Rattle.separation.proofs.SolveApart.{Parted, split, differ-back, coarse-near, block-near, block-length}
 use Rattle.separation.proofs.FactorApart.{coarse-factor-vanish}
 use Rattle.separation.proofs.Parts.{entries-apart, row-of-node, node-of-row}
-use Rattle.separation.proofs.Columns.{ids-length, ids-below, nodes-apart, column-below, columnSide, column-side}
+use Rattle.laws.proofs.GroupIds.{ids-length, ids-below}
+use Rattle.laws.proofs.SetupLists.{blocks-are-nodes, width-is-size}
+use Rattle.separation.proofs.Columns.{nodes-apart, column-below, columnSide, column-side}
 use Rattle.separation.proofs.CoarseApart.{entries-inside, weights-apart, weights-none, entry-vanish, average-vanish}
 use Rattle.separation.proofs.Stages.{Stages, dimension, coarseAveraged, sound}
 
 -- ---- the blocks: one for each node, each as wide as the block size
-
-pub blocks-are-nodes : (rows size : ℕ) → 1 ≤ size → rows / size * size ≡ rows → blockCount rows size ≡ rows / size
-unfolding blockCount
-blocks-are-nodes rows size p w =
-    ap (λ (x : ℕ). (x + (size - 1)) / size) (sym w) ∙ mul-add-div-right p (rows / size) (size - 1) ∙ ap (λ (x : ℕ). rows / size + x) (div-eq-of-lt (low size p)) ∙ add-zero (rows / size)
-  where
-    low : (x : ℕ) → 1 ≤ x → x - 1 < x
-    low x h = omega arith
-
-pub width-is-size : (rows size k : ℕ) → rows / size * size ≡ rows → k < rows / size → widthOf rows size k ≡ size
-unfolding widthOf
-width-is-size rows size k w h = narrow rows size (k * size) (le-trans (step k size) (subst (λ (x : ℕ). suc k * size ≤ x) w (mul-le-mul-right size h)))
-  where
-    step : (x y : ℕ) → x * y + y ≤ suc x * y
-    step x y = omega arith
-
-    narrow : (n x y : ℕ) → y + x ≤ n → min x (n - y) ≡ x
-    narrow n x y g = omega arith
 
 part-at : (r : List Float) (s w j : ℕ) → j < w → getD (between s (s + w) r) j nan ≡ getD r (s + j) nan
 part-at r s w j h = getD-take (s + w - s) (drop s r) j nan (subst (λ (x : ℕ). j < x) (sym (back s w)) h) ∙ getD-drop s r j nan
@@ -168,7 +152,7 @@ module _ {a : Matrix} {o : Options} (s : Stages a o) (part : ℕ → Bool) (grap
   in-range : (i : ℕ) → i < a .rows → columnBy s i < dimension s
   in-range =
       column-below (a .rows) (o .block) (s .groups .count) (s .groups .ids) (sound s .block-some) (sound s .whole)
-      (ids-length a o (s .groups) (o .aggregation) (sound s .group-some) (s .grouped)) (ids-below a o (s .groups) (o .aggregation) (sound s .group-some) (s .grouped))
+      (ids-length a o (s .groups) (o .aggregation) (s .grouped)) (ids-below a o (s .groups) (o .aggregation) (sound s .group-some) (s .grouped))
 
   linked : (i : ℕ) → i < a .rows → Each (λ e. (e .col < a .rows) × (rowSide i ≡ rowSide (e .col))) (entriesOf a i)
   unfolding rowSide

@@ -2,22 +2,23 @@
 -- dropped. So between columns of different sides the coarse matrix is a sum of no terms, and its average and its factor vanish there.
 use mathlib.Core.Path.{_≡_, refl, sym, ap, _∙_, subst}
 use mathlib.Core.Logic.{_⊎_, inl, inr}
-use mathlib.Core.Bool.{Bool, true, false, not, cond}
+use mathlib.Core.Bool.{Bool, true, false, not}
 use mathlib.Core.List.{List, [], map, flatMap}
 use Prim.Native.Nat.{ℕ, suc, _<_}
 use lib.Dec.{T, eqb, leb, eqb→eq, nleb→lt, not-T}
 use lib.ListN.{getD}
-use lib.Ieee.{Float, nan, unlike, ne, eq, ofBits}
+use lib.Ieee.{Float, nan, unlike, ne}
 use Rattle.definitions.specs.Lists.{square, any}
-use Rattle.definitions.specs.Numbers.{_*ᶠ_, _/ᶠ_, zeroᶠ, oneᶠ, reduced}
+use Rattle.definitions.specs.Numbers.{_*ᶠ_, zeroᶠ}
 use Rattle.definitions.specs.Matrix.{Matrix, Entry, rowOf, entriesOf, valuesWhere}
-use Rattle.definitions.specs.Transfer.{coarseColumn, tentative, smoothingTerms, weightAt, transferRow}
+use Rattle.definitions.specs.Transfer.{coarseColumn, weightAt, transferRow}
 use Rattle.definitions.specs.Coarse.{constantTerms, constantEntry, weightedSum, weightsAt, productTerms, galerkinTerms, galerkinEntry, averaged, averagedSquare, entryIn}
 use Rattle.definitions.specs.Setup.{coarseEntry}
 use Rattle.definitions.specs.declared.TwoLevelBasis.{TwoLevelBasis}
 use Rattle.definitions.specs.declared.TwoLevelBasis.the-variants.{PiecewiseConstant, JacobiSmoothed}
-use Rattle.laws.proofs.Lists.{Each, each-imp, each-any, each-keep, each-upTo, each-tab, each-take, each-drop, each-zipWith, any-none, keep-none, flatMap-none, getD-square}
+use Rattle.laws.proofs.Lists.{Each, each-imp, each-any, each-keep, each-upTo, each-tab, each-take, each-drop, each-zipWith, any-none, flatMap-none, getD-square}
 use Rattle.laws.proofs.Near.{Vanishing, total-none}
+use Rattle.laws.proofs.TransferRows.{none-where, zero-not-kept, weight-zero}
 use Rattle.separation.proofs.SolveApart.{averaged-vanish}
 
 -- ---- columns of a valid matrix are below its rows
@@ -31,10 +32,6 @@ entries-inside a t i =
     (each-drop s (each-take e (each-imp (λ c u. nleb→lt (a .rows) c u) (any-none (λ c. leb (a .rows) c) (a .colIdx) t))))
 
 -- ---- what has no element
-
-none-where : (p : ℕ → Bool) (row : List Entry) → Each (λ e. T (not (p (e .col)))) row → valuesWhere p row ≡ []
-unfolding valuesWhere
-none-where p row h = ap (λ (es : List Entry). map (λ e. e .value) es) (keep-none (λ e. p (e .col)) h)
 
 unlike-not : (p q : Bool) → p ≡ q → T (unlike p q) → ⊥
 unlike-not p q e u = same p (subst (λ (x : Bool). T (unlike p x)) (sym e) u)
@@ -55,22 +52,6 @@ third true q true u = inr refl
 third true q false u = inl tt
 third false q true u = inl tt
 third false q false u = inr refl
-
-pub zero-not-kept : T (ne zeroᶠ zeroᶠ) → ⊥
-unfolding ne eq ofBits
-zero-not-kept t = t
-
--- a weight that starts at 0 and has nothing taken off
-pub weight-zero : (a : Matrix) (size : ℕ) (ids : List ℕ) (d : List Float) (damping : Float) (i j : ℕ) → Each (λ e. T (not (eqb (coarseColumn size ids (e .col)) j))) (entriesOf a i)
-    → T (not (eqb j (coarseColumn size ids i))) → weightAt a d damping size ids i j ≡ zeroᶠ
-unfolding weightAt reduced tentative smoothingTerms
-weight-zero a size ids d damping i j h n =
-    ap (λ (vs : List Float). reduced (tentative size ids i j) (map (λ v. damping *ᶠ v *ᶠ (oneᶠ /ᶠ getD d i nan)) vs)) (none-where (λ c. eqb (coarseColumn size ids c) j) (entriesOf a i) h)
-    ∙ elsewhere (eqb j (coarseColumn size ids i)) n
-  where
-    elsewhere : (b : Bool) → T (not b) → cond b oneᶠ zeroᶠ ≡ zeroᶠ
-    elsewhere true k = absurd k
-    elsewhere false k = refl
 
 -- ---- with a side P for each row and a side Q for each coarse column
 

@@ -1,9 +1,9 @@
 -- The side of a coarse column: that of the nodes of its group, which are all on one side. Every row's own coarse column is on the row's side.
-use mathlib.Core.Path.{_≡_, refl, sym, ap, _∙_, subst}
+use mathlib.Core.Path.{_≡_, refl, sym, _∙_, subst}
 use mathlib.Core.Bool.{Bool, true, false, _&&_}
 use mathlib.Core.List.{List, []}
 use Prim.Native.Nat.{ℕ, suc, _+_, _-_, _*_, _/_, _%_, _≤_, _<_}
-use native.Mathlib.Nat.{mod-lt, div-lt-iff-lt-mul, lt-div-mul-add, le-trans, mul-le-mul-right}
+use native.Mathlib.Nat.{mod-lt, div-lt-iff-lt-mul, le-trans, mul-le-mul-right}
 use native.Mathlib.Omega.{arith}
 use lib.Dec.{T, eqb, eqb→eq}
 use lib.ListN.{length, getD}
@@ -13,39 +13,15 @@ use Rattle.definitions.specs.Refusal.{done}
 use Rattle.definitions.specs.Matrix.{Matrix}
 use Rattle.definitions.specs.Links.{unconnected}
 use Rattle.definitions.specs.Neighbours.{neighbourLists}
-use Rattle.definitions.specs.Groups.{Grouping, noAnchor, contiguousGrouping}
+use Rattle.definitions.specs.Groups.{Grouping, noAnchor}
 use Rattle.definitions.specs.Transfer.{coarseColumn}
 use Rattle.definitions.specs.Setup.{nodeCount, groupingOf}
 use Rattle.definitions.specs.Separation.{followsGraph}
 use Rattle.definitions.specs.declared.Options.{Options}
-use Rattle.definitions.specs.declared.TwoLevelAggregation.{TwoLevelAggregation}
-use Rattle.definitions.specs.declared.TwoLevelAggregation.the-variants.{Contiguous, Graph, StrongGraph}
-use Rattle.laws.proofs.Lists.{Each, each-at, each-tab, any-tab, tab-any, length-tab}
-use Rattle.laws.proofs.Outcomes.{done-inj}
-use Rattle.separation.proofs.GroupsApart.{grouping-length, grouping-below, groups-apart}
-use Rattle.separation.proofs.Parts.{lists-apart, graph-grouping, node-of-row}
-
--- ---- the groups that setup makes: a number for each node, below the count
-
-contiguous-below : (nodes size v : ℕ) → 1 ≤ size → v < nodes → v / size < (nodes + (size - 1)) / size
-contiguous-below nodes size v p h = div-lt-iff-lt-mul p .1 (low (lt-div-mul-add p))
-  where
-    low : nodes + (size - 1) < (nodes + (size - 1)) / size * size + size → v < (nodes + (size - 1)) / size * size
-    low l = omega arith
-
-pub ids-length : (a : Matrix) (o : Options) (g : Grouping) (k : TwoLevelAggregation) → 1 ≤ o .group → groupingOf k a o ≡ done g → length (g .ids) ≡ nodeCount a o
-unfolding groupingOf contiguousGrouping followsGraph
-ids-length a o g Contiguous p e = ap (λ (x : Grouping). length (x .ids)) (sym (done-inj e)) ∙ length-tab (λ v. v / o .group) (nodeCount a o)
-ids-length a o g Graph p e = ap (λ (x : Grouping). length (x .ids)) (sym (graph-grouping a o g Graph tt e)) ∙ grouping-length _ noAnchor (nodeCount a o) (o .group) p
-ids-length a o g StrongGraph p e = ap (λ (x : Grouping). length (x .ids)) (sym (graph-grouping a o g StrongGraph tt e)) ∙ grouping-length _ noAnchor (nodeCount a o) (o .group) p
-
-pub ids-below : (a : Matrix) (o : Options) (g : Grouping) (k : TwoLevelAggregation) → 1 ≤ o .group → groupingOf k a o ≡ done g → Each (λ x. x < g .count) (g .ids)
-unfolding groupingOf contiguousGrouping followsGraph
-ids-below a o g Contiguous p e =
-    subst (λ (x : Grouping). Each (λ y. y < x .count) (x .ids)) (done-inj e)
-    (each-tab (λ v. v / o .group) (nodeCount a o) (λ v h. contiguous-below (nodeCount a o) (o .group) v p h))
-ids-below a o g Graph p e = subst (λ (x : Grouping). Each (λ y. y < x .count) (x .ids)) (graph-grouping a o g Graph tt e) (grouping-below _ noAnchor (nodeCount a o) (o .group) p)
-ids-below a o g StrongGraph p e = subst (λ (x : Grouping). Each (λ y. y < x .count) (x .ids)) (graph-grouping a o g StrongGraph tt e) (grouping-below _ noAnchor (nodeCount a o) (o .group) p)
+use Rattle.laws.proofs.Lists.{Each, each-at, any-tab, tab-any}
+use Rattle.laws.proofs.GroupIds.{graph-grouping}
+use Rattle.separation.proofs.GroupsApart.{groups-apart}
+use Rattle.separation.proofs.Parts.{lists-apart, node-of-row}
 
 -- THE GROUPS OF AN UNCONNECTED PART, under Graph and StrongGraph: nodes with the same number are on the same side
 pub nodes-apart : (a : Matrix) (o : Options) (g : Grouping) (part : ℕ → Bool) → T (followsGraph (o .aggregation)) → T (unconnected a (o .block) [] part) → 1 ≤ o .group

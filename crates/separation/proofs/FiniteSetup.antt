@@ -23,7 +23,7 @@ use Rattle.definitions.specs.declared.TwoLevelCoarseApplyPolicy.the-variants.{F
 use Rattle.laws.proofs.Lists.{getD-square}
 use Rattle.laws.proofs.FiniteFactor.{FiniteFactor, total-fits, factors-finite, coarse-finite}
 use Rattle.separation.proofs.Stages.{Stages, dimension, coarseAveraged, built, sound, stages-of}
-use Rattle.separation.proofs.ApplyApart.{blocks-are-nodes, width-is-size}
+use Rattle.laws.proofs.SetupLists.{blocks-are-nodes, width-is-size}
 use Rattle.separation.proofs.Places.{factors-read, coarse-read}
 
 -- of a record and a list that goes on behind what it uses

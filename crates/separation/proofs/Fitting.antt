@@ -2,22 +2,21 @@
 -- that is not zero stands at the row's own coarse column or at that of an entry.
 use mathlib.Core.Path.{_≡_, sym, ap, _∙_, subst}
 use mathlib.Core.Bool.{Bool, true, false, not, _&&_}
-use mathlib.Core.List.{List, [], _∷_, _++_, map, flatMap, zipWith, append-nil}
-use Prim.Native.Nat.{ℕ, suc, _+_, _-_, _*_, _^_, _≤_, _<_, min}
-use native.Mathlib.Nat.{le-trans, le-refl, div-le-self, mul-le-mul}
+use mathlib.Core.List.{List, [], _++_, map, flatMap, append-nil}
+use Prim.Native.Nat.{ℕ, suc, _+_, _-_, _*_, _^_, _≤_, _<_}
+use native.Mathlib.Nat.{le-trans, div-le-self, mul-le-mul}
 use native.Mathlib.Omega.{arith}
-use lib.Dec.{T, leb, ltb, eqb, leb→le, le→leb, lt→ltb, eqb→eq, not-T}
-use lib.ListN.{length, getD, take, length-append, length-map, length-take, length-drop}
-use lib.Seq.{slice}
+use lib.Dec.{T, leb, ltb, eqb, leb→le, le→leb, lt→ltb}
+use lib.ListN.{length, getD, length-append}
 use lib.Ieee.{Float, ne}
 use lib.Ieee.Fits.{and-i, and-l, and-r, eq→eqb}
-use Rattle.definitions.specs.Lists.{tab, keep, any, all, falls, pointersFrom}
+use Rattle.definitions.specs.Lists.{all, falls, pointersFrom}
 use Rattle.definitions.specs.Numbers.{zeroᶠ}
 use Rattle.definitions.specs.Refusal.{done}
-use Rattle.definitions.specs.Matrix.{Matrix, Entry, rowOf, entriesOf, maxRows, maxEntries}
+use Rattle.definitions.specs.Matrix.{Matrix, Entry, maxRows, maxEntries}
 use Rattle.definitions.specs.Block.{maxBlock}
 use Rattle.definitions.specs.Groups.{maxGroup}
-use Rattle.definitions.specs.Transfer.{coarseColumn, weightAt, transferRow, transferOf}
+use Rattle.definitions.specs.Transfer.{weightAt, transferRow, transferOf}
 use Rattle.definitions.specs.Coarse.{resolved, coarsePart, coarseLength}
 use Rattle.definitions.specs.Setup.{nodeCount, maxCoarse, entryNeeds, coarseNeeds, covers, Transfer, transferFor, transferInts, transferFloats, builtFrom, setupOf}
 use Rattle.definitions.specs.Fits.{idsIn, columnsIn, usedInts, usedFloats, withinLimits, isResolved, transfersFit, transferFits, setupFits}
@@ -27,55 +26,17 @@ use Rattle.definitions.specs.declared.TwoLevelBasis.{TwoLevelBasis}
 use Rattle.definitions.specs.declared.TwoLevelBasis.the-variants.{PiecewiseConstant, JacobiSmoothed}
 use Rattle.definitions.specs.declared.TwoLevelCoarseApplyPolicy.{TwoLevelCoarseApplyPolicy}
 use Rattle.definitions.specs.declared.TwoLevelCoarseApplyPolicy.the-variants.{Auto, FactorSolve, ExplicitInverse}
-use Rattle.laws.proofs.Lists.{Each, each-head, each-tail, each-imp, each-map, each-unmap, each-flatMap, each-keep, each-tab, any-none, all-each}
+use Rattle.laws.proofs.Lists.{Each, each-imp, each-map, each-flatMap, each-keep, each-tab, all-each}
 use Rattle.laws.proofs.Csr.{columnsOf, numbersOf, columns-length, values-length, pointers-length, pointers-first, pointers-last, pointers-rise}
-use Rattle.laws.proofs.Counting.{keep-count, rises-at, rows-within}
-use Rattle.separation.proofs.Columns.{ids-below}
-use Rattle.separation.proofs.CoarseApart.{weight-zero, zero-not-kept}
+use Rattle.laws.proofs.Counting.{rises-at, rows-within}
+use Rattle.laws.proofs.GroupIds.{ids-below}
+use Rattle.laws.proofs.SetupLists.{pointers-read, columns-read}
+use Rattle.laws.proofs.TransferRows.{row-short, entries-short}
 use Rattle.separation.proofs.Stages.{Sound, Stages, dimension, built, sound, accepts}
 use Rattle.separation.proofs.ApplyApart.{constant-weights, smoothed-weights, policyBy}
-use Rattle.separation.proofs.Places.{weights-count, pointers-read, columns-read, ids-read, ids-many, factors-many, coarse-many}
+use Rattle.separation.proofs.Places.{weights-count, ids-read, ids-many, factors-many, coarse-many}
 
 -- ---- how many weights
-
-pub row-short : (a : Matrix) (size : ℕ) (ids : List ℕ) (d : List Float) (damping : Float) (c i : ℕ) → length (transferRow a d damping size ids c i) ≤ suc (length (entriesOf a i))
-unfolding transferRow
-row-short a size ids d damping c i =
-    subst (λ (n : ℕ). length {A = Entry} (keep (λ e. ne (e .value) zeroᶠ) (tab (λ j. record { col = j; value = weightAt a d damping size ids i j }) c)) ≤ suc n) (length-map (entriesOf a i) (λ e. coarseColumn size ids (e .col)))
-    (keep-count (λ e. ne (e .value) zeroᶠ) (λ j. record { col = j; value = weightAt a d damping size ids i j }) c (coarseColumn size ids i ∷ map (λ e. coarseColumn size ids (e .col)) (entriesOf a i)) (λ j l t. named j t))
-  where
-    columns : List ℕ
-    columns = coarseColumn size ids i ∷ map (λ e. coarseColumn size ids (e .col)) (entriesOf a i)
-
-    named : (j : ℕ) → T (ne (weightAt a d damping size ids i j) zeroᶠ) → T (any (λ x. eqb x j) columns)
-    named j t = go (any (λ x. eqb x j) columns) (any-none (λ x. eqb x j) columns)
-      where
-        go : (b : Bool) → (T (not b) → Each (λ x. T (not (eqb x j))) columns) → T b
-        go true f = tt
-        go false f =
-            let k = f tt in
-            zero-not-kept (subst (λ (x : Float). T (ne x zeroᶠ))
-            (weight-zero a size ids d damping i j (each-unmap (λ e. coarseColumn size ids (e .col)) (entriesOf a i) (each-tail k))
-            (not-T (eqb j (coarseColumn size ids i)) (λ u. lib.Dec.T-not (eqb (coarseColumn size ids i) j) (each-head k) (eq→eqb (sym (eqb→eq j (coarseColumn size ids i) u)))))) t)
-
-zip-short : {A B C : Type 0} (f : A → B → C) (xs : List A) (ys : List B) → length (zipWith f xs ys) ≤ length xs
-unfolding zipWith
-zip-short f [] ys = le-refl 0
-zip-short f (x ∷ xs) [] = omega arith
-zip-short f (x ∷ xs) (y ∷ ys) = native.Mathlib.Nat.suc-le-suc-iff .1 (zip-short f xs ys)
-
-slice-short : {A : Type 0} (s e : ℕ) (xs : List A) → length (slice s e xs) ≤ e - s
-slice-short s e xs = subst (λ (n : ℕ). n ≤ e - s) (sym (length-drop s (take e xs) ∙ ap (λ (n : ℕ). n - s) (length-take e xs))) (low e (length xs) s)
-  where
-    low : (x y z : ℕ) → min x y - z ≤ x - z
-    low x y z = omega arith
-
-pub entries-short : (a : Matrix) (i : ℕ) → length (entriesOf a i) ≤ getD (a .rowPtr) (suc i) 0 - getD (a .rowPtr) i 0
-unfolding entriesOf rowOf
-entries-short a i =
-    let s = getD (a .rowPtr) i 0 in
-    let e = getD (a .rowPtr) (suc i) 0 in
-    le-trans (zip-short (λ c v. record { col = c; value = v }) (slice s e (a .colIdx)) (slice s e (a .values))) (slice-short s e (a .colIdx))
 
 weights-bound : (a : Matrix) (o : Options) → Sound a o → (ids : List ℕ) (c : ℕ) (t : Transfer) → transferFor JacobiSmoothed a (o .block) ids c ≡ done t
     → length (transferFloats (t .weights)) ≤ a .rows + length (a .values)

@@ -10,10 +10,10 @@ use lib.Dec.{T, eqb, eqb→eq}
 use lib.ListN.{length, getD, replicate, length-replicate}
 use Rattle.definitions.specs.Lists.{tab}
 use Rattle.definitions.specs.Groups.{Groups, replay, floorOf, nodesOf, groupsOf, grown, joinings, graphGrouping}
-use Rattle.laws.proofs.Lists.{Each, none, more, up-lt, each-any, tab-reads}
+use Rattle.laws.proofs.Lists.{Each, none, more, up-lt, tab-reads}
 use Rattle.separation.proofs.GrowthApart.{Growing, growFrom-inv}
 use Rattle.separation.proofs.JoiningApart.{Joinable, joinings-inv}
-use Rattle.separation.proofs.Renumbered.{renumbered-length, renumbered-below, renumbered-same}
+use Rattle.laws.proofs.Renumbered.{renumbered-same}
 
 getD-zeros : (n u : ℕ) → _≡_ {A = ℕ} (getD (replicate n 0) u 0) 0
 getD-zeros zero u = refl
@@ -74,14 +74,6 @@ module _ (lists : ℕ → List ℕ) (anchor : ℕ → Bool) (part : ℕ → Bool
       let count = grown lists anchor n (suc size) .1 in
       joinings-inv lists anchor part closed side n (floorOf (suc size)) count (suc count) first first-inv
 
-  length-at : length (graphGrouping lists anchor n (suc size) .ids) ≡ n
-  unfolding graphGrouping last first
-  length-at = renumbered-length (last .of) ∙ last-inv .long
-
-  below-at : Each (λ g. g < graphGrouping lists anchor n (suc size) .count) (graphGrouping lists anchor n (suc size) .ids)
-  unfolding graphGrouping last first
-  below-at = renumbered-below (last .of)
-
   apart-at : (u v : ℕ) → u < n → v < n → getD (graphGrouping lists anchor n (suc size) .ids) u 0 ≡ getD (graphGrouping lists anchor n (suc size) .ids) v 0 → part u ≡ part v
   unfolding graphGrouping last first
   apart-at u v h g e =
@@ -92,14 +84,6 @@ module _ (lists : ℕ → List ℕ) (anchor : ℕ → Bool) (part : ℕ → Bool
 -- ---- for every group size but 0
 
 module _ (lists : ℕ → List ℕ) (anchor : ℕ → Bool) (n : ℕ) where
-  pub grouping-length : (size : ℕ) → 1 ≤ size → length (graphGrouping lists anchor n size .ids) ≡ n
-  grouping-length zero h = absurd (not-suc-le-zero h)
-  grouping-length (suc size) h = length-at lists anchor (λ v. true) (λ v. each-any (lists v) (λ w. refl)) n size
-
-  pub grouping-below : (size : ℕ) → 1 ≤ size → Each (λ g. g < graphGrouping lists anchor n size .count) (graphGrouping lists anchor n size .ids)
-  grouping-below zero h = absurd (not-suc-le-zero h)
-  grouping-below (suc size) h = below-at lists anchor (λ v. true) (λ v. each-any (lists v) (λ w. refl)) n size
-
   -- NODES WITH THE SAME NUMBER ARE ON THE SAME SIDE of every part that the lists do not leave
   pub groups-apart : (part : ℕ → Bool) → ((v : ℕ) → Each (λ w. part w ≡ part v) (lists v)) → (size : ℕ) → 1 ≤ size
       → (u v : ℕ) → u < n → v < n → getD (graphGrouping lists anchor n size .ids) u 0 ≡ getD (graphGrouping lists anchor n size .ids) v 0 → part u ≡ part v

@@ -9,7 +9,6 @@ pub mod FactorApart
 pub mod Sides
 pub mod GrowthApart
 pub mod JoiningApart
-pub mod Renumbered
 pub mod GroupsApart
 pub mod Parts
 pub mod Unions

@@ -5,23 +5,16 @@ use mathlib.Core.List.{List, [], _∷_}
 use Prim.Native.Nat.{ℕ, suc, _+_, _*_, _/_, _<_}
 use native.Mathlib.Nat.{le-trans, div-mul-le-self, mul-add-div-right, div-eq-of-lt, add-zero, mul-le-mul-right}
 use native.Mathlib.Omega.{arith}
-use lib.Dec.{T, eqb, ltb, eqb→eq}
+use lib.Dec.{T, eqb, eqb→eq}
 use lib.ListN.{getD}
 use lib.Ieee.Fits.{and-l, and-r}
 use Rattle.definitions.specs.Lists.{upTo, any, all}
-use Rattle.definitions.specs.Refusal.{done}
 use Rattle.definitions.specs.Matrix.{Matrix, entriesOf}
 use Rattle.definitions.specs.Links.{nodeEntries, unconnected}
 use Rattle.definitions.specs.Neighbours.{neighboursOf, strength, Neighbour, stronger, inserted, sorted, strongNeighboursOf, listFor, neighbourLists}
-use Rattle.definitions.specs.Groups.{Grouping, graphGrouping, noAnchor}
-use Rattle.definitions.specs.Setup.{nodeCount, graphOf, groupingOf}
-use Rattle.definitions.specs.Separation.{followsGraph}
-use Rattle.definitions.specs.declared.Options.{Options}
-use Rattle.definitions.specs.declared.Refusal.the-variants.{NoNode}
 use Rattle.definitions.specs.declared.TwoLevelAggregation.{TwoLevelAggregation}
 use Rattle.definitions.specs.declared.TwoLevelAggregation.the-variants.{Contiguous, Graph, StrongGraph}
 use Rattle.laws.proofs.Lists.{Each, none, more, each-imp, each-any, each-all, each-keep, each-map, each-flatMap, each-upTo, all-upTo, any-each, tab-reads}
-use Rattle.laws.proofs.Outcomes.{done-inj, test-passed}
 
 beq-is : (s t : Bool) → T (Bool·beq s t) → s ≡ t
 beq-is true true h = refl
@@ -98,12 +91,3 @@ pub lists-apart : (g : TwoLevelAggregation) (a : Matrix) (size : ℕ) (part : �
 unfolding neighbourLists
 lists-apart g a size part u v =
     tab-reads (Each (λ w. part w ≡ part v)) (listFor g a size (a .rows / size)) (a .rows / size) v [] (λ h. listed-apart a size part u v h g (a .rows / size)) none
-
--- ---- the grouping that setup makes, as the grouping by its lists
-
-pub graph-grouping : (a : Matrix) (o : Options) (g : Grouping) (k : TwoLevelAggregation) → T (followsGraph k) → groupingOf k a o ≡ done g
-    → graphGrouping (λ v. getD (neighbourLists k a (o .block) (nodeCount a o)) v []) noAnchor (nodeCount a o) (o .group) ≡ g
-unfolding groupingOf graphOf followsGraph
-graph-grouping a o g Contiguous t e = absurd t
-graph-grouping a o g Graph t e = done-inj (test-passed (ltb 0 (nodeCount a o)) NoNode _ g e .1)
-graph-grouping a o g StrongGraph t e = done-inj (test-passed (ltb 0 (nodeCount a o)) NoNode _ g e .1)

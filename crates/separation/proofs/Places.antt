@@ -1,9 +1,7 @@
 -- The two lists of a setup read back as what was stored, whatever stands behind them: each part is as long as its record says.
 use mathlib.Core.Path.{_≡_, refl, sym, ap, _∙_, subst}
-use mathlib.Core.List.{List, [], _++_, map, flatMap, append-assoc}
-use Prim.Native.Nat.{ℕ, zero, suc, _+_, _*_, _/_, _≤_, _<_}
-use native.Mathlib.Nat.{mul-assoc}
-use native.Mathlib.Omega.{arith}
+use mathlib.Core.List.{List, _++_, map, flatMap, append-assoc}
+use Prim.Native.Nat.{ℕ, _+_, _*_, _<_}
 use lib.Dec.{eqb}
 use lib.ListN.{length, getD, take, length-append}
 use lib.Seq.{take-at}
@@ -12,7 +10,7 @@ use Rattle.definitions.specs.Lists.{tab, upTo, between, pointersFrom}
 use Rattle.definitions.specs.Numbers.{_+ᶠ_, _*ᶠ_, total, summed}
 use Rattle.definitions.specs.Refusal.{done}
 use Rattle.definitions.specs.Matrix.{Matrix, Entry, rowOf, valuesWhere}
-use Rattle.definitions.specs.Block.{blockCount, widthOf, blockFactor, factorsFrom, factorsOf, blockApplied}
+use Rattle.definitions.specs.Block.{blockApplied}
 use Rattle.definitions.specs.Transfer.{coarseColumn, transferRow, transferOf}
 use Rattle.definitions.specs.Coarse.{packedLength, averagedSquare, averaged, entryIn, coarseLength, coarsePart, coarseSolve, inverseOf, packedSolve, unit}
 use Rattle.definitions.specs.Setup.{nodeCount, Transfer, transferFor, transferInts, transferFloats, builtFrom}
@@ -24,50 +22,12 @@ use Rattle.definitions.specs.declared.TwoLevelBasis.the-variants.{PiecewiseCons
 use Rattle.definitions.specs.declared.TwoLevelCoarseApplyPolicy.{TwoLevelCoarseApplyPolicy}
 use Rattle.definitions.specs.declared.TwoLevelCoarseApplyPolicy.the-variants.{Auto, FactorSolve, ExplicitInverse}
 use Rattle.laws.proofs.Lists.{each-upTo, flatMap-cong, tab-cong, length-tab, length-square, part-mid}
-use Rattle.laws.proofs.Csr.{pointers-length, row-back, columnsOf, numbersOf, columns-length, values-length}
-use Rattle.laws.proofs.Outcomes.{done-inj, bind-done}
+use Rattle.laws.proofs.Csr.{row-back, numbersOf}
 use Rattle.laws.proofs.Factor.{coarse-factor-length}
-use Rattle.laws.proofs.BlockFactors.{block-factor-length}
-use Rattle.separation.proofs.Columns.{ids-length}
+use Rattle.laws.proofs.GroupIds.{ids-length}
+use Rattle.laws.proofs.SetupLists.{factors-length, pointers-read, columns-read}
 use Rattle.separation.proofs.Stages.{Stages, dimension, coarseAveraged, built, sound}
-use Rattle.separation.proofs.ApplyApart.{blocks-are-nodes, width-is-size, smoothed-weights, policyBy, weightsBy, partsBy, restrictedBy, solutionBy, gainedBy, appliedBy}
-
--- ---- lengths: the block factors
-
-factors-from-length : (a : Matrix) (size left k : ℕ) → ((j : ℕ) → j < k + left → widthOf (a .rows) size j ≡ size) → (done-so-far out : List Float)
-    → factorsFrom a size left k done-so-far ≡ done out → length out ≡ length done-so-far + left * (size * size)
-unfolding factorsFrom
-factors-from-length a size zero k W fs out e = ap length (sym (done-inj e)) ∙ flat (length fs) (size * size)
-  where
-    flat : (x y : ℕ) → x ≡ x + 0 * y
-    flat x y = omega arith
-factors-from-length a size (suc left) k W fs out e =
-    let r = bind-done (blockFactor a (k * size) (widthOf (a .rows) size k)) _ out e in
-    let w : widthOf (a .rows) size k ≡ size = W k (here k left) in
-    let one : length (r .0) ≡ size * size = block-factor-length a (k * size) (widthOf (a .rows) size k) (r .0) (r .1) ∙ ap (λ (x : ℕ). x * x) w in
-    factors-from-length a size left (suc k) (λ j l. W j (shift j k left l)) (fs ++ r .0) out (r .2)
-    ∙ ap (λ (x : ℕ). x + left * (size * size)) (length-append fs (r .0) ∙ ap (λ (x : ℕ). length fs + x) one) ∙ sum (length fs) (size * size) left
-  where
-    here : (x y : ℕ) → x < x + suc y
-    here x y = omega arith
-
-    shift : (j x y : ℕ) → j < suc x + y → j < x + suc y
-    shift j x y l = omega arith
-
-    sum : (x y z : ℕ) → x + y + z * y ≡ x + suc z * y
-    sum x y z = omega arith
-
-pub factors-length : (a : Matrix) (size : ℕ) (factors : List Float) → 1 ≤ size → a .rows / size * size ≡ a .rows → factorsOf a size ≡ done factors
-    → length factors ≡ a .rows * size
-unfolding factorsOf
-factors-length a size factors p w e =
-    factors-from-length a size (blockCount (a .rows) size) 0
-    (λ j l. width-is-size (a .rows) size j w (subst (λ (x : ℕ). j < x) (plain (blockCount (a .rows) size) ∙ blocks-are-nodes (a .rows) size p w) l)) [] factors e
-    ∙ plain (blockCount (a .rows) size * (size * size)) ∙ ap (λ (x : ℕ). x * (size * size)) (blocks-are-nodes (a .rows) size p w)
-    ∙ sym (mul-assoc (a .rows / size) size size) ∙ ap (λ (x : ℕ). x * size) w
-  where
-    plain : (x : ℕ) → 0 + x ≡ x
-    plain x = omega arith
+use Rattle.separation.proofs.ApplyApart.{smoothed-weights, policyBy, weightsBy, partsBy, restrictedBy, solutionBy, gainedBy, appliedBy}
 
 -- ---- the coarse part
 
@@ -90,33 +50,6 @@ weights-count a size ids c t e =
     let w = smoothed-weights a size ids c t e in
     ap length (w .2) ∙ length-tab (transferRow a (w .0) (w .1) size ids c) (a .rows)
 
-module _ (ids zs : List ℕ) (ws : List (List Entry)) (nodes rows : ℕ) (p : length ids ≡ nodes) (q : length ws ≡ rows) where
-  stored : (ids ++ transferInts JacobiSmoothed ws) ++ zs ≡ ids ++ (pointersFrom 0 ws ++ (columnsOf ws ++ zs))
-  unfolding transferInts
-  stored = append-assoc ids (pointersFrom 0 ws ++ columnsOf ws) zs ∙ ap (λ (l : List ℕ). ids ++ l) (append-assoc (pointersFrom 0 ws) (columnsOf ws) zs)
-
-  many : length (pointersFrom 0 ws) ≡ suc rows
-  many = pointers-length 0 ws ∙ ap suc q
-
-  pub pointers-read : between nodes (nodes + rows + 1) ((ids ++ transferInts JacobiSmoothed ws) ++ zs) ≡ pointersFrom 0 ws
-  pointers-read =
-      ap (λ (l : List ℕ). between nodes (nodes + rows + 1) l) stored
-      ∙ part-mid ids (pointersFrom 0 ws) (columnsOf ws ++ zs) nodes (nodes + rows + 1) p (ap (λ (x : ℕ). nodes + x) many ∙ next nodes rows)
-    where
-      next : (x y : ℕ) → x + suc y ≡ x + y + 1
-      next x y = omega arith
-
-  pub columns-read : between (nodes + rows + 1) (nodes + rows + 1 + length (transferFloats ws)) ((ids ++ transferInts JacobiSmoothed ws) ++ zs) ≡ columnsOf ws
-  unfolding transferFloats
-  columns-read =
-      ap (λ (l : List ℕ). between (nodes + rows + 1) (nodes + rows + 1 + length (numbersOf ws)) l) (stored ∙ sym (append-assoc ids (pointersFrom 0 ws) (columnsOf ws ++ zs)))
-      ∙ part-mid (ids ++ pointersFrom 0 ws) (columnsOf ws) zs (nodes + rows + 1) (nodes + rows + 1 + length (numbersOf ws))
-      (length-append ids (pointersFrom 0 ws) ∙ ap (λ (x : ℕ). x + length (pointersFrom 0 ws)) p ∙ ap (λ (x : ℕ). nodes + x) many ∙ next nodes rows)
-      (ap (λ (x : ℕ). nodes + rows + 1 + x) (columns-length ws ∙ sym (values-length ws)))
-    where
-      next : (x y : ℕ) → x + suc y ≡ x + y + 1
-      next x y = omega arith
-
 -- ---- the parts of what a setup built
 
 module _ {a : Matrix} {o : Options} (s : Stages a o) (zs : List ℕ) (fs : List Float) where
@@ -127,7 +60,7 @@ module _ {a : Matrix} {o : Options} (s : Stages a o) (zs : List ℕ) (fs : List 
   values = transferFloats (s .transfer .weights)
 
   pub ids-many : length (s .groups .ids) ≡ nodeCount a o
-  ids-many = ids-length a o (s .groups) (o .aggregation) (sound s .group-some) (s .grouped)
+  ids-many = ids-length a o (s .groups) (o .aggregation) (s .grouped)
 
   pub factors-many : length (s .factors) ≡ a .rows * o .block
   factors-many = factors-length a (o .block) (s .factors) (sound s .block-some) (sound s .whole) (s .factored)

@@ -29,7 +29,7 @@ use Rattle.definitions.specs.declared.Refusal.{Refusal}
 use Rattle.definitions.specs.declared.Refusal.the-variants.{NotSquare, BlockSize, NotMultiple, ListTooShort}
 use Rattle.laws.proofs.Lists.{length-tab}
 use Rattle.laws.proofs.Csr.{pointers-length}
-use Rattle.separation.proofs.GroupsApart.{grouping-length}
+use Rattle.laws.proofs.GroupIds.{grouping-length}
 use Rattle.csr32.specs.Calls.{goes-on, stops, passed, keeps-refused, result-kept, work-kept}
 use Rattle.csr32.specs.Valid.{valid-keeps}
 use Rattle.adjacency.specs.Within.{neighboursWithin}
@@ -66,7 +66,7 @@ module _ (a : Matrix) (o : Options) where
     unfolding graphOf require _>>=_ groupingAnswer idsLeft resultLeft workLeft
     grouped h after ids' work' floats' r p la e g ef =
         let b : ltb 0 n ≡ true = lt-ltb 0 n h in
-        let l = grouping-length (λ v. getD (neighbourLists k a (o .block) n) v []) noAnchor n (o .group) p in
+        let l = grouping-length (λ v. getD (neighbourLists k a (o .block) n) v []) noAnchor n (o .group) in
         record { answer = rw b (g .answer ∙ ap groupingAnswer e); groups = rw b (g .ids _ e l); ints = rw (b, ← la) (g .zeros _ e l); floats = rw b ef }
 
   -- ---- the first stage's checks

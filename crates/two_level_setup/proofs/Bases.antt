@@ -12,21 +12,19 @@ use Rattle.definitions.specs.Matrix.{Matrix}
 use Rattle.definitions.specs.Diagonal.{diagonalOf}
 use Rattle.definitions.specs.Estimate.{Estimate, estimateOf}
 use Rattle.definitions.specs.Transfer.{transferOf}
-use Rattle.definitions.specs.Setup.{Lengths, Lent, Transfer, transferFor, transferFloats}
+use Rattle.definitions.specs.Setup.{Lengths, Lent, Transfer, transferFor, transferFloats, lentOf}
 use Rattle.definitions.specs.Answers.{estimateAnswer}
 use Rattle.definitions.specs.declared.Setup.{Setup}
 use Rattle.definitions.specs.declared.EstimateAnswer.{EstimateAnswer}
 use Rattle.definitions.specs.declared.EstimateAnswer.the-variants.{Estimated, Refused as NoEstimate}
-use Rattle.definitions.specs.declared.SetupAnswer.{SetupAnswer}
 use Rattle.definitions.specs.declared.SetupAnswer.the-variants.{Built as BuiltSetup, Refused as NoSetup}
-use Rattle.definitions.specs.declared.TwoLevelBasis.{TwoLevelBasis}
 use Rattle.definitions.specs.declared.TwoLevelBasis.the-variants.{PiecewiseConstant, JacobiSmoothed}
 use Rattle.definitions.specs.declared.Refusal.{Refusal}
 use Rattle.laws.proofs.Outcomes.{bind-done, done-inj}
 use Rattle.csr32.specs.Calls.{goes-on, stops}
-use Rattle.two_level_setup.specs.Stages.{Parts, optionsOf, filled, transferred, transferStage}
+use Rattle.two_level_setup.specs.Stages.{Parts, filled, transferred, transferStage}
 use Rattle.two_level_setup.specs.Fit.{Ample, DampingFit, roomOf}
-use Rattle.two_level_setup.specs.Contracts.{lentOf, roomIn, Holds, Leaves, Simulates, StaysAmple, Sound, Begun, Weighted, Weighed, Damped, beside, WeightsStage}
+use Rattle.two_level_setup.specs.Contracts.{Holds, Leaves, Simulates, StaysAmple, Begun, Weighted, Weighed, Damped, beside, WeightsStage}
 use Rattle.two_level_setup.proofs.Composition.{leaves-refused, leaves-done}
 use Rattle.two_level_setup.proofs.FineParts.{no-weights}
 use Rattle.two_level_setup.proofs.Damping.{diagonal-length}

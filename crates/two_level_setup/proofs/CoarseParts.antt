@@ -1,6 +1,6 @@
 -- The coarse part: the matrix in the front of the work floats, its factor in the front of the setup floats, and zeros behind both, before and after.
 use mathlib.Core.Path.{_≡_, refl, ap, sym, _∙_, subst}
-use mathlib.Core.List.{List, [], _++_, append-nil}
+use mathlib.Core.List.{List, _++_, append-nil}
 use Prim.Native.Nat.{ℕ, _+_, _-_, _*_, _≤_}
 use native.Mathlib.Omega.{arith}
 use lib.ListN.{length, take, drop, replicate, length-append}
@@ -11,15 +11,14 @@ use Rattle.definitions.specs.Numbers.{zeroᶠ, largest}
 use Rattle.definitions.specs.Refusal.{Outcome, refused, done, _>>=_}
 use Rattle.definitions.specs.Matrix.{Matrix}
 use Rattle.definitions.specs.Coarse.{averagedSquare, averaged, entryIn, coarseFactor, coarsePart}
-use Rattle.definitions.specs.Setup.{Lent, coarseEntry, transferInts, transferFloats}
+use Rattle.definitions.specs.Setup.{coarseEntry, transferFloats, lentOf}
 use Rattle.definitions.specs.declared.Setup.{Setup}
 use Rattle.definitions.specs.declared.SetupAnswer.{SetupAnswer}
-use Rattle.definitions.specs.declared.SetupAnswer.the-variants.{Built as BuiltSetup, Refused as NoSetup}
 use Rattle.laws.proofs.Lists.{length-square}
 use Rattle.laws.proofs.Outcomes.{bind-done, done-inj}
 use Rattle.two_level_setup.specs.Stages.{Parts, partsAnswer, filled, matrixOf, stored, coarseStage}
 use Rattle.two_level_setup.specs.Fit.{Ample, MatrixFit}
-use Rattle.two_level_setup.specs.Contracts.{lentOf, roomIn, Holds, Leaves, Simulates, Weighed, MatrixStage, Factored, factoredAnswer}
+use Rattle.two_level_setup.specs.Contracts.{roomIn, Holds, Simulates, Weighed, MatrixStage, Factored, factoredAnswer}
 use Rattle.two_level_setup.proofs.Padding.{padded-all, padded-join}
 use Rattle.two_level_setup.proofs.Lending.{taken-zeros, put-zeros, front-padded, put-front}
 

@@ -1,19 +1,19 @@
 -- The damping factor: the diagonal stands behind the block factors, and the estimate reads it there.
 use mathlib.Core.Path.{_≡_, refl, ap, sym, _∙_}
 use mathlib.Core.List.{List, [], _∷_, _++_}
-use Prim.Native.Nat.{ℕ, zero, suc, _+_, _-_, _*_, _≤_}
+use Prim.Native.Nat.{ℕ, zero, suc, _+_, _-_, _*_}
 use native.Mathlib.Omega.{arith}
-use lib.ListN.{length, take, drop, replicate, length-append}
+use lib.ListN.{length, take, drop, length-append}
 use lib.Seq.{length-take-le}
 use lib.Ieee.{Float}
 use borrow.Author.Tests.{le-leb, eq-eqb}
 use borrow.Rule.Slice.PartMut.{putMid, mid-len}
 use Rattle.definitions.specs.Lists.{padded, between}
 use Rattle.definitions.specs.Numbers.{zeroᶠ, total}
-use Rattle.definitions.specs.Refusal.{Outcome, refused, done, resultLeft, workLeft, _>>=_}
+use Rattle.definitions.specs.Refusal.{Outcome, refused, done, resultLeft, workLeft}
 use Rattle.definitions.specs.Matrix.{Matrix, validOf, storedAt}
 use Rattle.definitions.specs.Diagonal.{diagonalFrom, diagonalOf, diagonalCall, diagonalLeft}
-use Rattle.definitions.specs.Estimate.{Estimate, estimateOf, estimateCall, estimateWorkLeft}
+use Rattle.definitions.specs.Estimate.{estimateOf, estimateCall, estimateWorkLeft}
 use Rattle.definitions.specs.Answers.{answerOf, estimateAnswer}
 use Rattle.definitions.specs.declared.Setup.{Setup}
 use Rattle.definitions.specs.declared.Answer.{Answer}

@@ -1,21 +1,19 @@
 -- The fine level: no check of its two calls fails, and what they leave is what the lists hold then.
 use mathlib.Core.Path.{_≡_, refl, ap, sym, _∙_, subst}
-use mathlib.Core.Bool.{Bool, true, false}
-use mathlib.Core.List.{List, [], _∷_, _++_, map, flatMap, append-nil}
-use Prim.Native.Nat.{ℕ, suc, _+_, _-_, _*_, _/_, _%_, _≤_, _<_}
+use mathlib.Core.List.{List, [], _++_, flatMap, append-nil}
+use Prim.Native.Nat.{ℕ, _+_, _-_, _*_, _%_, _≤_, _<_}
 use native.Mathlib.Omega.{arith}
-use native.Mathlib.Nat.{div-le-self, div-lt-iff-lt-mul, mul-le-mul}
-use lib.Dec.{eqb}
-use lib.ListN.{length, replicate, length-append, length-map}
+use native.Mathlib.Nat.{div-le-self, mul-le-mul}
+use lib.ListN.{length, replicate}
 use lib.Ieee.{Float}
 use borrow.Author.Tests.{le-leb, eq-eqb}
-use Rattle.definitions.specs.Lists.{padded, any, pointersFrom}
+use Rattle.definitions.specs.Lists.{padded, pointersFrom}
 use Rattle.definitions.specs.Numbers.{zeroᶠ}
 use Rattle.definitions.specs.Refusal.{Outcome, refused, done, _>>=_, resultLeft, workLeft}
 use Rattle.definitions.specs.Matrix.{Matrix, validOf}
 use Rattle.definitions.specs.Block.{maxBlock, factorsOf, blocksCall, blocksLeft}
-use Rattle.definitions.specs.Groups.{Grouping, place, firsts, renumbered, replay, joinings, groupsOf, grown, graphGrouping, contiguousGrouping, noAnchor, maxGroup}
-use Rattle.definitions.specs.Setup.{nodeCount, Lengths, Lent, frontOf, groupingOf, transferInts, transferFloats}
+use Rattle.definitions.specs.Groups.{Grouping, maxGroup}
+use Rattle.definitions.specs.Setup.{nodeCount, Lengths, Lent, frontOf, groupingOf, transferInts, transferFloats, lentOf}
 use Rattle.definitions.specs.Answers.{answerOf, groupingAnswer}
 use Rattle.definitions.specs.declared.Options.{Options}
 use Rattle.definitions.specs.declared.Setup.{Setup}
@@ -24,24 +22,19 @@ use Rattle.definitions.specs.declared.Answer.the-variants.{Accepted, Refused}
 use Rattle.definitions.specs.declared.SetupAnswer.the-variants.{Built as BuiltSetup, Refused as NoSetup}
 use Rattle.definitions.specs.declared.GroupingAnswer.{GroupingAnswer}
 use Rattle.definitions.specs.declared.GroupingAnswer.the-variants.{Groups, Refused as NoGroups}
-use Rattle.definitions.specs.declared.TwoLevelAggregation.{TwoLevelAggregation}
-use Rattle.definitions.specs.declared.TwoLevelAggregation.the-variants.{Contiguous, Graph, StrongGraph}
 use Rattle.definitions.specs.declared.TwoLevelBasis.{TwoLevelBasis}
 use Rattle.definitions.specs.declared.TwoLevelBasis.the-variants.{PiecewiseConstant, JacobiSmoothed}
 use Rattle.definitions.specs.declared.Refusal.{Refusal}
 use Rattle.definitions.specs.declared.Refusal.the-variants.{NotSquare, BlockSize, GroupSize, NotMultiple, ListTooShort}
-use Rattle.definitions.specs.Separation.{followsGraph}
 use Rattle.laws.proofs.Outcomes.{done-inj, bind-done}
-use Rattle.separation.proofs.GroupsApart.{grouping-length}
-use Rattle.separation.proofs.Columns.{ids-length, ids-below}
-use Rattle.separation.proofs.Places.{factors-length}
-use Rattle.separation.proofs.Parts.{graph-grouping}
+use Rattle.laws.proofs.GroupIds.{ids-length, ids-below, count-few}
+use Rattle.laws.proofs.SetupLists.{factors-length}
 use Rattle.csr32.specs.Calls.{goes-on, stops, passed, refused-is}
 use Rattle.two_level_grouping.specs.Front.{Front, front-rows, rows-whole}
 use Rattle.two_level_grouping.specs.Calls.{hasRoom, aggregateCall, idsLeft, Settled}
 use Rattle.two_level_setup.specs.Stages.{Parts, optionsOf, started, partsAnswer, grouped, fineOf}
-use Rattle.two_level_setup.specs.Fit.{Fit, Bounds, Counted, roomOf}
-use Rattle.two_level_setup.specs.Contracts.{lentOf, roomIn, Holds, Leaves, Sound, Begun}
+use Rattle.two_level_setup.specs.Fit.{Fit, Bounds, Counted}
+use Rattle.two_level_setup.specs.Contracts.{roomIn, Holds, Leaves, Begun}
 use Rattle.two_level_setup.proofs.Lending.{padded-zero}
 use Rattle.two_level_setup.proofs.Composition.{built-is, leaves-refused, leaves-done}
 
@@ -54,40 +47,6 @@ bounds a o f =
 
 pub groups-most : (a : Matrix) (o : Options) (groups : ℕ) → Front a o → groups ≤ nodeCount a o → groups * o .block ≤ 8_388_608
 groups-most a o groups f h = let b = bounds a o f in let m : groups ≤ 1_048_576 = omega (arith, b .nodes, b .rowsMost, h) in mul-le-mul m (f .most)
-
--- ---- no more groups than nodes
-
-firsts-few : (seen xs : List ℕ) → length (firsts seen xs) ≤ length seen + length xs
-unfolding firsts
-firsts-few seen [] = omega arith
-firsts-few seen (x ∷ xs) = go (any (λ y. eqb x y) seen) (firsts-few seen xs) (firsts-few (seen ++ (x ∷ [])) xs)
-  where
-    go : (b : Bool) → length (firsts seen xs) ≤ length seen + length xs → length (firsts (seen ++ (x ∷ [])) xs) ≤ length (seen ++ (x ∷ [])) + length xs
-        → length {A = ℕ} (elim b [ true ↦ firsts seen xs | false ↦ firsts (seen ++ (x ∷ [])) xs ]) ≤ length seen + suc (length xs)
-    go true h k = omega arith
-    go false h k = omega (arith, length-append seen (x ∷ []))
-
-contiguous-few : (nodes size : ℕ) → 1 ≤ size → (nodes + (size - 1)) / size ≤ nodes
-contiguous-few nodes (suc size) h = lower ((nodes + (suc size - 1)) / suc size) nodes (div-lt-iff-lt-mul {k = suc size} (omega arith) .1 (grow nodes size))
-  where
-    grow : (x y : ℕ) → x + (suc y - 1) < suc x * suc y
-    grow x y = omega arith
-
-    lower : (x y : ℕ) → x < suc y → x ≤ y
-    lower x y l = omega arith
-
-graph-few : (lists : ℕ → List ℕ) (n size : ℕ) → 1 ≤ size → graphGrouping lists noAnchor n size .count ≤ n
-unfolding graphGrouping renumbered
-graph-few lists n size h = go (replay (joinings lists noAnchor n size) (groupsOf (grown lists noAnchor n size .0) (grown lists noAnchor n size .1)) .of) (grouping-length lists noAnchor n size h)
-  where
-    go : (ids : List ℕ) → length (map (λ x. place x (firsts [] ids)) ids) ≡ n → length (firsts [] ids) ≤ n
-    go ids l = omega (arith, l, length-map ids (λ x. place x (firsts [] ids)), firsts-few [] ids)
-
-pub count-few : (a : Matrix) (o : Options) (g : Grouping) (k : TwoLevelAggregation) → 1 ≤ o .group → groupingOf k a o ≡ done g → g .count ≤ nodeCount a o
-unfolding groupingOf contiguousGrouping followsGraph
-count-few a o g Contiguous p e = subst (λ (x : Grouping). x .count ≤ nodeCount a o) (done-inj e) (contiguous-few (nodeCount a o) (o .group) p)
-count-few a o g Graph p e = subst (λ (x : Grouping). x .count ≤ nodeCount a o) (graph-grouping a o g Graph tt e) (graph-few _ (nodeCount a o) (o .group) p)
-count-few a o g StrongGraph p e = subst (λ (x : Grouping). x .count ≤ nodeCount a o) (graph-grouping a o g StrongGraph tt e) (graph-few _ (nodeCount a o) (o .group) p)
 
 -- ---- before the transfer
 
@@ -108,7 +67,7 @@ module _ (a : Matrix) (o : Options) (f : Front a o) where
     grouped-begun = record {
       sound = record {
         factors = factors-length a (o .block) factors (f .least) (rows-whole a o f) ef;
-        ids = ids-length a o g (o .aggregation) (f .some) eg;
+        ids = ids-length a o g (o .aggregation) eg;
         below = ids-below a o g (o .aggregation) (f .some) eg;
         transfers = refl;
         coarse = refl;
@@ -228,7 +187,7 @@ module _ (a : Matrix) (o : Options) (ints : List ℕ) (floats : List Float) (wor
             let l = factors .0 in
             let g = grouping .0 in
             let p : aggregateCall a o (length ints) (length workInts) (length workFloats) ≡ done g = aggregate-passes ∙ grouping .1 in
-            let short : length (g .ids) < length ints1 = omega (arith, ids-length a o g (o .aggregation) (f .front .some) (grouping .1), f .ints, li) in
+            let short : length (g .ids) < length ints1 = omega (arith, ids-length a o g (o .aggregation) (grouping .1), f .ints, li) in
             let k : fineOf a o ≡ done (grouped a o l g) = goes-on (factorsOf a (o .block)) l _ (factors .1) ∙ goes-on (groupingOf (o .aggregation) a o) g _ (grouping .1) in
             let st : floats1 ≡ padded zeroᶠ (length floats1) l = ef ∙ ap (λ q. resultLeft zeroᶠ q floats) (blocks-pass ∙ factors .1) ∙ ap (λ n. padded zeroᶠ n l) (sym lf) in
             let si : ints1 ≡ padded 0 (length ints1) (g .ids) = s .groups ∙ ap (λ q. idsLeft q ints) p ∙ ap (λ n. padded 0 n (g .ids)) (sym li) in

@@ -8,7 +8,7 @@ use lib.Seq.{take-at, drop-at, length-take-le}
 use borrow.Rule.Slice.PartMut.{putMid, post-is, mid-len}
 use Rattle.definitions.specs.Lists.{padded, between}
 use Rattle.two_level_grouping.proofs.Kept.{drop-replicate}
-use Rattle.two_level_setup.proofs.Padding.{padded-none, padded-front, padded-back, padded-join, padded-past, padded-more, padded-less, padded-fits}
+use Rattle.two_level_setup.proofs.Padding.{padded-join, padded-past, padded-more, padded-less, padded-fits}
 
 module _ {A : Type 0} (z : A) where
   pub padded-full : (n : ℕ) (xs : List A) → length xs ≡ n → padded z n xs ≡ xs

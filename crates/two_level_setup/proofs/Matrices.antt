@@ -18,20 +18,20 @@ use Rattle.definitions.specs.Matrix.{Matrix, Entry, maxRows, validOf, rowOf}
 use Rattle.definitions.specs.Block.{maxBlock}
 use Rattle.definitions.specs.Transfer.{coarseColumn}
 use Rattle.definitions.specs.Coarse.{constantEntry, galerkinEntry, averagedSquare}
-use Rattle.definitions.specs.Setup.{coarseEntry, transferInts, transferFloats}
+use Rattle.definitions.specs.Setup.{coarseEntry, transferInts, transferFloats, lentOf}
 use Rattle.definitions.specs.declared.Setup.{Setup}
 use Rattle.definitions.specs.declared.TwoLevelBasis.the-variants.{PiecewiseConstant, JacobiSmoothed}
 use Rattle.definitions.specs.declared.Refusal.the-variants.{TooLarge, NotSquare, BlockSize, NotMultiple, CoarseTooLarge, CoarseListTooShort, SetupMisfit}
 use Rattle.laws.proofs.Lists.{Each, none, more, each-map, each-flatMap, each-imp, part-mid}
 use Rattle.laws.proofs.Csr.{columnsOf, numbersOf, pointers-length, pointers-first, pointers-last, pointers-rise, columns-length, values-length, row-back}
-use Rattle.separation.proofs.Places.{pointers-read, columns-read}
+use Rattle.laws.proofs.SetupLists.{pointers-read, columns-read}
 use Rattle.csr32.specs.Calls.{goes-on, passed}
 use Rattle.csr32.specs.Rows.{outside}
 use Rattle.coarse_matrix.specs.Calls.{constantChecks, constantChecked, constantCoarseCall, transferFits, galerkinChecks, galerkinChecked, galerkinCoarseCall}
 use Rattle.two_level_grouping.specs.Front.{Front, front-rows}
 use Rattle.two_level_setup.specs.Stages.{Parts, matrixOf, optionsOf}
 use Rattle.two_level_setup.specs.Fit.{MatrixFit, Counted}
-use Rattle.two_level_setup.specs.Contracts.{lentOf, roomIn, Holds, Sound, Weighted, Weighed, MatrixStage}
+use Rattle.two_level_setup.specs.Contracts.{roomIn, Holds, Weighted, Weighed, MatrixStage}
 use Rattle.two_level_setup.proofs.Padding.{padded-front}
 
 pub none-outside : (n : ℕ) {xs : List ℕ} → Each (λ x. x < n) xs → outside n xs ≡ false

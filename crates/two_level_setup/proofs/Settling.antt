@@ -1,8 +1,7 @@
 -- 13, 17 and 18; the coarse level put together; then all of setup: its checks, what is built, and the lists cleared after a refusal.
 use mathlib.Core.Path.{_≡_, refl, ap, sym, _∙_, subst}
 use mathlib.Core.Bool.{Bool, true, false, _&&_}
-use Prim.Native.Nat.{ℕ, _+_, _*_, _≤_, _<_}
-use native.Mathlib.Omega.{arith}
+use Prim.Native.Nat.{ℕ, _≤_, _<_}
 use lib.Dec.{leb}
 use lib.ListN.{length}
 use borrow.Author.Tests.{le-leb, lt-leb, leb-true}
@@ -22,9 +21,9 @@ use Rattle.definitions.specs.declared.Refusal.the-variants.{ListTooShort, Coars
 use Rattle.laws.proofs.Outcomes.{test-true, last-true}
 use Rattle.csr32.specs.Calls.{accepted-done, refused-is, goes-on, stops, passed, failed, result-kept, work-kept}
 use Rattle.two_level_grouping.specs.Front.{Front, front-of, front-kept}
-use Rattle.two_level_setup.specs.Stages.{Parts, optionsOf, partsAnswer, builtOf, fineOf, roomChecked, transferStage, coarseStage, coarseLevelOf, buildOf, builtFor}
+use Rattle.two_level_setup.specs.Stages.{Parts, optionsOf, builtOf, fineOf, roomChecked, transferStage, coarseStage, coarseLevelOf, buildOf, builtFor}
 use Rattle.two_level_setup.specs.Fit.{Fit, Counted, Ample, roomOf}
-use Rattle.two_level_setup.specs.Contracts.{lentOf, roomIn, Holds, Leaves, Simulates, Begun, Weighed, Zeroed}
+use Rattle.two_level_setup.specs.Contracts.{roomIn, Leaves, Simulates, Begun, Weighed, Zeroed}
 use Rattle.two_level_setup.proofs.Composition.{setup-splits, leaves-refused, leaves-same, stops-there, goes-further}
 use Rattle.two_level_setup.proofs.Composition.{refused-is as parts-refused, built-is as parts-built}
 use Rattle.two_level_setup.proofs.FineParts.{fine-begun, fine-fits}

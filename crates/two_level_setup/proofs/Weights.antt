@@ -1,7 +1,7 @@
 -- The weights of the smoothed transfer: no check of their call fails, they are at most rows + entries many, and they move to their places.
 use mathlib.Core.Path.{_≡_, refl, ap, sym, _∙_, subst}
 use mathlib.Core.List.{List, [], _∷_, _++_, map, flatMap, append-nil, append-assoc}
-use Prim.Native.Nat.{ℕ, zero, suc, _+_, _-_, _*_, _/_, _%_, _≤_, _<_}
+use Prim.Native.Nat.{ℕ, suc, _+_, _-_, _*_, _/_, _%_, _≤_, _<_}
 use native.Mathlib.Omega.{arith}
 use native.Mathlib.Nat.{le-trans}
 use lib.ListN.{length, getD, take, drop, replicate, length-append}
@@ -11,11 +11,11 @@ use borrow.Author.Tests.{le-leb, eq-eqb}
 use borrow.Rule.Slice.PartMut.{putMid, take-put}
 use Rattle.definitions.specs.Lists.{padded, between, pointersFrom, joinedLists}
 use Rattle.definitions.specs.Numbers.{zeroᶠ}
-use Rattle.definitions.specs.Refusal.{Outcome, refused, done, _>>=_, resultLeft}
+use Rattle.definitions.specs.Refusal.{Outcome, done, _>>=_, resultLeft}
 use Rattle.definitions.specs.Matrix.{Matrix, Entry, validOf, maxRows}
 use Rattle.definitions.specs.Block.{maxBlock}
 use Rattle.definitions.specs.Transfer.{weightAt, transferRow, transferOf}
-use Rattle.definitions.specs.Setup.{Lent, Transfer, transferInts, transferFloats}
+use Rattle.definitions.specs.Setup.{Lent, transferInts, transferFloats, lentOf}
 use Rattle.definitions.specs.Answers.{transferAnswer}
 use Rattle.definitions.specs.declared.Setup.{Setup}
 use Rattle.definitions.specs.declared.TransferAnswer.{TransferAnswer}
@@ -26,16 +26,16 @@ use Rattle.definitions.specs.declared.Refusal.the-variants.{TooLarge, NotSquare
 use Rattle.laws.proofs.Lists.{Each, each-tab, each-keep, length-tab, part-mid}
 use Rattle.laws.proofs.Csr.{columnsOf, numbersOf, pointers-length, columns-length, values-length}
 use Rattle.laws.proofs.Counting.{rows-within}
-use Rattle.separation.proofs.Fitting.{row-short, entries-short}
+use Rattle.laws.proofs.TransferRows.{row-short, entries-short}
 use Rattle.csr32.specs.Calls.{goes-on, passed}
 use Rattle.numbers.specs.Copied.{copied}
 use Rattle.two_level_grouping.proofs.Kept.{put-tail, copied-zeros, front-cleared}
-use Rattle.two_level_grouping.specs.Front.{Front, front-rows}
+use Rattle.two_level_grouping.specs.Front.{front-rows}
 use Rattle.transfer.specs.Call.{shapeChecked, groupsChecked, transferChecked, smoothedTransferCall, transferInts as intsLeft, transferFloats as floatsLeft}
 use Rattle.two_level_setup.specs.Stages.{Parts, optionsOf, filled, transferred}
 use Rattle.two_level_setup.specs.Fit.{Ample}
-use Rattle.two_level_setup.specs.Contracts.{lentOf, roomIn, Holds, Begun, Weighted, MovedInts, MovedFloats, beside, WeightsStage}
-use Rattle.two_level_setup.proofs.Padding.{padded-front, padded-back, padded-all, padded-join, padded-none, padded-past, tail-is}
+use Rattle.two_level_setup.specs.Contracts.{roomIn, Holds, Begun, Weighted, MovedInts, MovedFloats, beside, WeightsStage}
+use Rattle.two_level_setup.proofs.Padding.{padded-front, padded-all, padded-join, padded-past, tail-is}
 use Rattle.two_level_setup.proofs.Lending.{put-padded, tail-cleared}
 use Rattle.two_level_setup.proofs.Matrices.{none-outside, few-groups}
 use Rattle.two_level_setup.proofs.FineParts.{no-rows, no-weights}

@@ -14,6 +14,7 @@ use Rattle.definitions.specs.Diagonal.{diagonalOf}
 use Rattle.definitions.specs.Estimate.{Estimate, estimateOf}
 use Rattle.definitions.specs.Transfer.{transferOf}
 use Rattle.definitions.specs.Coarse.{packedLength, coarseFactor, coarsePart, inverseOf}
+pub use Rattle.definitions.specs.Setup.{lentOf}
 use Rattle.definitions.specs.Setup.{Lengths, Lent, entryNeeds, covers, transferFloats}
 use Rattle.definitions.specs.Answers.{answerOf, estimateAnswer}
 use Rattle.definitions.specs.declared.Answer.{Answer}
@@ -27,9 +28,6 @@ use Rattle.definitions.specs.declared.TwoLevelBasis.the-variants.{JacobiSmoothe
 use Rattle.laws.specs.Every.{Each}
 use Rattle.two_level_setup.specs.Stages.{Parts, intsOf, floatsOf, partsAnswer, filled, roomChecked, transferred, matrixOf}
 use Rattle.two_level_setup.specs.Fit.{roomOf, Ample}
-
-abbrev pub lentOf : List ℕ → List Float → List ℕ → List Float → Lent
-lentOf ints floats workInts workFloats = record { ints = ints; floats = floats; workInts = workInts; workFloats = workFloats }
 
 abbrev pub roomIn : List ℕ → List Float → List ℕ → List Float → Lengths
 roomIn ints floats workInts workFloats = roomOf (length ints) (length floats) (length workInts) (length workFloats)

@@ -10,10 +10,11 @@ ghost use mathlib.Core.Path.{_≡_};
 ghost use Prim.Native.Nat.{_+_, _*_, _≤_};
 ghost use lib.ListN.{length};
 ghost use Rattle.definitions.specs.Matrix.{csr};
+ghost use Rattle.definitions.specs.Setup.{lentOf};
 ghost use Rattle.definitions.specs.declared.TwoLevelBasis.the-variants.{JacobiSmoothed};
 ghost use Rattle.two_level_setup.specs.Stages.{transferStage};
 ghost use Rattle.two_level_setup.specs.Fit.{Ample, DampingFit, roomOf};
-ghost use Rattle.two_level_setup.specs.Contracts.{lentOf, roomIn, Damped, MovedInts, MovedFloats, WeightsStage, Begun, Simulates, StaysAmple};
+ghost use Rattle.two_level_setup.specs.Contracts.{roomIn, Damped, MovedInts, MovedFloats, WeightsStage, Begun, Simulates, StaysAmple};
 
 fn at_most(x: u64, most: usize) -> usize
     ensures { λ r. ⌜ (r ≤ most) × (x ≤ most → r ≡ x) ⌝ }

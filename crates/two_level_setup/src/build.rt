@@ -12,10 +12,10 @@ ghost use mathlib.Core.Path.{_≡_};
 ghost use Prim.Native.Nat.{_*_, _≤_};
 ghost use lib.ListN.{length};
 ghost use Rattle.definitions.specs.Matrix.{csr};
-ghost use Rattle.definitions.specs.Setup.{covers};
+ghost use Rattle.definitions.specs.Setup.{covers, lentOf};
 ghost use Rattle.two_level_setup.specs.Stages.{optionsOf, coarseLevelOf, buildOf};
 ghost use Rattle.two_level_setup.specs.Fit.{Fit, Bounds, Counted, roomOf};
-ghost use Rattle.two_level_setup.specs.Contracts.{lentOf, roomIn, EntryAnswer, RoomAnswer, Begun, Simulates, Leaves};
+ghost use Rattle.two_level_setup.specs.Contracts.{roomIn, EntryAnswer, RoomAnswer, Begun, Simulates, Leaves};
 
 // Whether four lists are as long as asked.
 fn long_enough(

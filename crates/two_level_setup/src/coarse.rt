@@ -6,13 +6,13 @@ use definitions::Setup;
 use definitions::SetupAnswer;
 use definitions::TwoLevelBasis;
 use definitions::TwoLevelCoarseApplyPolicy;
-ghost use mathlib.Core.Path.{_≡_};
 ghost use Prim.Native.Nat.{_+_, _*_, _≤_};
 ghost use lib.ListN.{length};
 ghost use Rattle.definitions.specs.Matrix.{csr};
+ghost use Rattle.definitions.specs.Setup.{lentOf};
 ghost use Rattle.two_level_setup.specs.Stages.{coarseStage};
 ghost use Rattle.two_level_setup.specs.Fit.{Ample, MatrixFit, roomOf};
-ghost use Rattle.two_level_setup.specs.Contracts.{lentOf, MatrixStage, Inverted, Stored, Factored, Weighed, Simulates};
+ghost use Rattle.two_level_setup.specs.Contracts.{MatrixStage, Inverted, Stored, Factored, Weighed, Simulates};
 
 // The coarse matrix, to the front of the work floats.
 fn matrix(

@@ -10,10 +10,11 @@ ghost use mathlib.Core.Path.{_≡_};
 ghost use Prim.Native.Nat.{_*_, _≤_};
 ghost use lib.ListN.{length};
 ghost use Rattle.definitions.specs.Matrix.{csr};
+ghost use Rattle.definitions.specs.Setup.{lentOf};
 ghost use Rattle.definitions.specs.Coarse.{resolved};
 ghost use Rattle.two_level_setup.specs.Stages.{started, fineOf};
 ghost use Rattle.two_level_setup.specs.Fit.{Fit, roomOf};
-ghost use Rattle.two_level_setup.specs.Contracts.{lentOf, Leaves};
+ghost use Rattle.two_level_setup.specs.Contracts.{Leaves};
 
 // Auto takes the inverse from a coarse dimension of 1,024 on.
 fn resolve(policy: TwoLevelCoarseApplyPolicy, c: u64) -> TwoLevelCoarseApplyPolicy

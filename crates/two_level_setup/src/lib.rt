@@ -11,11 +11,11 @@ use definitions::SetupAnswer;
 ghost use mathlib.Core.Path.{_≡_};
 ghost use lib.ListN.{length};
 ghost use Rattle.definitions.specs.Matrix.{csr};
-ghost use Rattle.definitions.specs.Setup.{setupOf, setupLeft, lengthsOf};
+ghost use Rattle.definitions.specs.Setup.{setupOf, setupLeft, lengthsOf, lentOf};
 ghost use Rattle.definitions.specs.Answers.{setupAnswer};
 ghost use Rattle.two_level_setup.specs.Fit.{Fit, roomOf};
-ghost use Rattle.two_level_setup.specs.Stages.{buildOf, builtFor};
-ghost use Rattle.two_level_setup.specs.Contracts.{lentOf, Zeroed};
+ghost use Rattle.two_level_setup.specs.Stages.{builtFor};
+ghost use Rattle.two_level_setup.specs.Contracts.{Zeroed};
 
 fn zero_all(ints: &mut [u32], floats: &mut [f64], work_ints: &mut [u32], work_floats: &mut [f64])
     ensures { λ _. ⌜ Zeroed (lentOf (now (ints .entry)) (now (floats .entry)) (now («work_ints» .entry)) (now («work_floats» .entry))) (lentOf (now (ints .exit)) (now (floats .exit)) (now («work_ints» .exit)) (now («work_floats» .exit))) ⌝ }

@@ -1,7 +1,6 @@
 -- What was built is left; a refusal from the blocks on leaves zeros.
 use Rattle.two_level_setup.proofs.Settling.{cleared-built, cleared-refused}
-use Rattle.two_level_setup.specs.Contracts.{lentOf}
-use Rattle.definitions.specs.Setup.{lengthsOf}
+use Rattle.definitions.specs.Setup.{lengthsOf, lentOf}
 use Rattle.definitions.specs.Matrix.{csr}
 use borrow.Author.Needs.{needs}
 use Rattle.two_level_setup.proofs.build_or_clear.Statement.{statement}

@@ -1,8 +1,7 @@
 -- The checks in their order, then what is built.
 use Rattle.two_level_setup.proofs.Settling.{stopped, front-holds, short, fits, went}
 use Rattle.two_level_setup.proofs.FineParts.{bounds}
-use Rattle.two_level_setup.specs.Contracts.{lentOf}
-use Rattle.definitions.specs.Setup.{lengthsOf}
+use Rattle.definitions.specs.Setup.{lengthsOf, lentOf}
 use Rattle.definitions.specs.Matrix.{csr}
 use mathlib.Core.Path.{refl}
 use borrow.Author.Needs.{needs}

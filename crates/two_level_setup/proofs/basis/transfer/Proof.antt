@@ -1,7 +1,8 @@
 -- Constant: nothing is to be done.
 use Rattle.two_level_setup.proofs.Bases.{constant-simulates, stays-built}
-use Rattle.two_level_setup.specs.Contracts.{lentOf, roomIn}
+use Rattle.two_level_setup.specs.Contracts.{roomIn}
 use Rattle.definitions.specs.Matrix.{csr}
+use Rattle.definitions.specs.Setup.{lentOf}
 use borrow.Author.Needs.{needs}
 use Rattle.two_level_setup.proofs.basis.transfer.Statement.{statement}
 use Rattle.two_level_setup.proofs.basis.transfer.Tie as tie

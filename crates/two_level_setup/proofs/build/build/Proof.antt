@@ -1,7 +1,7 @@
 -- The fine level, then the coarse one.
 use Rattle.two_level_setup.proofs.Settling.{level-fits, built-refused, built-whole}
-use Rattle.two_level_setup.specs.Contracts.{lentOf}
 use Rattle.definitions.specs.Matrix.{csr}
+use Rattle.definitions.specs.Setup.{lentOf}
 use borrow.Author.Needs.{needs}
 use Rattle.two_level_setup.proofs.build.build.Statement.{statement}
 use Rattle.two_level_setup.proofs.build.build.Tie as tie

@@ -3,8 +3,9 @@ use Rattle.two_level_setup.proofs.Settling.{ample-of, room-refused, lev
 use Rattle.two_level_setup.proofs.Bases.{ample-same}
 use Rattle.two_level_setup.proofs.FineParts.{bounds}
 use Rattle.two_level_setup.specs.Stages.{optionsOf}
-use Rattle.two_level_setup.specs.Contracts.{lentOf, roomIn}
+use Rattle.two_level_setup.specs.Contracts.{roomIn}
 use Rattle.definitions.specs.Matrix.{csr}
+use Rattle.definitions.specs.Setup.{lentOf}
 use lib.ListN.{length}
 use mathlib.Core.Path.{refl, sym, _∙_}
 use borrow.Author.Needs.{needs}
