@@ -27,3 +27,5 @@ pub mod FactorExamples
 -- diagonal sums behind accepted blocks, and the causes that setup never is
 pub mod Diagonals
 pub mod SetupCauses
+-- the record as numbers and back
+pub mod Record
