@@ -24,7 +24,8 @@ pub mod Factor
 pub mod BlockFactors
 pub mod FiniteFactor
 pub mod FactorExamples
--- diagonal sums behind accepted blocks, and the causes that setup never is
+-- numbers of causes; diagonal sums behind accepted blocks, and the causes that setup never is
+pub mod Causes
 pub mod Diagonals
 pub mod SetupCauses
 -- the record as numbers and back

@@ -1,18 +1,18 @@
--- What it tells of a call that its number is 0: no cause has that number.
+-- What it tells of a call that its number is 0, which no cause has; and that the record list which setup leaves reads back as its record.
 use Prim.Native.Nat.{ℕ, _-_, _≤_}
 use mathlib.Core.Path.{_≡_, refl}
 use mathlib.Core.Bool.{Bool, true, false}
 use mathlib.Core.List.{List, [], _++_, append-nil}
 use native.Mathlib.Nat.{le-trans}
 use native.Mathlib.Omega.{arith}
-use lib.Dec.{T, ltb, ltb→lt, leb, leb→le}
+use lib.Dec.{T, leb, leb→le}
 use lib.ListN.{length, getD, replicate, length-append, length-replicate, length-take}
 use lib.Seq.{take-all}
 use lib.Ieee.{Float}
 use lib.Ieee.Fits.{and-l}
 use Rattle.definitions.specs.Lists.{padded}
 use Rattle.definitions.specs.Numbers.{zeroᶠ}
-use Rattle.definitions.specs.Refusal.{Outcome, refused, done, numberOf, causeOf, resultLeft}
+use Rattle.definitions.specs.Refusal.{Outcome, refused, done, resultLeft}
 use Rattle.definitions.specs.Matrix.{Matrix}
 use Rattle.definitions.specs.Setup.{Lent, Built, setupOf, setupLeft, lengthsOf}
 use Rattle.definitions.specs.Apply.{applyCall}
@@ -20,45 +20,11 @@ use Rattle.definitions.specs.Answers.{answerOf, answerNumber, setupAnswer, setu
 use Rattle.definitions.specs.Record.{arePolicies, recordNumbers, recordOf, isRecord}
 use Rattle.definitions.specs.Separation.{isDone}
 use Rattle.definitions.specs.declared.Setup.{Setup}
-use Rattle.definitions.specs.declared.Refusal.{Refusal}
-use Rattle.definitions.specs.declared.Refusal.the-variants.{TooLarge, RowListLength, ColumnListLength, FirstPointer, LastPointer, PointerFalls, ColumnOutside, ValueNotFinite, NotSquare, BlockSize, GroupSize, NotMultiple, ListTooShort, BlockNotSymmetric, BlockPivot, NoNode, CoarseTooLarge, CoarseListTooShort, MissingDiagonal, ZeroDiagonal, NegativeDiagonal, EstimateFailed, CoarseScale, CoarsePivot, WrongLength, SetupMisfit, NeighbourOffsets, NeighbourOutside}
+use Rattle.definitions.specs.declared.Refusal.the-variants.{SetupMisfit}
 use Rattle.yelomawin.specs.Boundary.{received, optionsOf, whether, noPolicy}
 use Rattle.yelomawin.specs.Calls.{Handed, handed, exported, exportedSetup, exportedApply}
+use Rattle.laws.proofs.Causes.{no-cause}
 use Rattle.laws.proofs.Record.{HoldsF64s, record-behind, is-record-behind}
-
-some : (r : Refusal) → T (ltb 0 (numberOf r))
-unfolding numberOf causeOf
-some TooLarge = tt
-some RowListLength = tt
-some ColumnListLength = tt
-some FirstPointer = tt
-some LastPointer = tt
-some PointerFalls = tt
-some ColumnOutside = tt
-some ValueNotFinite = tt
-some NotSquare = tt
-some BlockSize = tt
-some GroupSize = tt
-some NotMultiple = tt
-some ListTooShort = tt
-some (BlockNotSymmetric row) = tt
-some (BlockPivot row) = tt
-some NoNode = tt
-some (CoarseTooLarge c) = tt
-some (CoarseListTooShort c) = tt
-some (MissingDiagonal row) = tt
-some (ZeroDiagonal row) = tt
-some (NegativeDiagonal row) = tt
-some (EstimateFailed stage) = tt
-some CoarseScale = tt
-some (CoarsePivot row) = tt
-some (WrongLength expected actual) = tt
-some SetupMisfit = tt
-some NeighbourOffsets = tt
-some NeighbourOutside = tt
-
-no-cause : (r : Refusal) → numberOf r ≡ 0 → ⊥
-no-cause r e = let h = ltb→lt 0 (numberOf r) (some r) in omega arith
 
 -- ---- setup
 
