@@ -3,14 +3,13 @@
 use mathlib.Core.Path.{_≡_, refl}
 use mathlib.Core.Bool.{Bool, true, false, _&&_}
 use mathlib.Core.List.{List, [], _∷_, _++_, foldl}
-use Prim.Native.Nat.{ℕ, zero, suc, _+_, _*_}
+use Prim.Native.Nat.{ℕ, _+_, _*_}
 use native.Mathlib.Omega.{arith}
 use lib.Dec.{T, leb, ltb, eqb, le→leb}
 use lib.ListN.{length, getD}
 use lib.Ieee.{Float, nan, binary64, fits, lt, neg}
 use lib.Ieee.Fits.{and-i, cond-fits, nan-fits, neg-fits, mul-fits, div-fits}
 use lib.Ieee.Bits.{ofBits-toBits, ofBits-fits}
-use Rattle.definitions.specs.Lists.{tab, square}
 use Rattle.definitions.specs.Numbers.{_*ᶠ_, _+ᶠ_, threeᶠ, fourᶠ, half, zeroᶠ, magnitude, larger, largest}
 use Rattle.definitions.specs.Refusal.{Outcome, refused, done, require, _>>=_}
 use Rattle.definitions.specs.Matrix.{Matrix, Entry}
@@ -32,7 +31,7 @@ use Rattle.definitions.specs.declared.TwoLevelBasis.{TwoLevelBasis}
 use Rattle.definitions.specs.declared.TwoLevelBasis.the-variants.{PiecewiseConstant, JacobiSmoothed}
 use Rattle.definitions.specs.declared.TwoLevelCoarseApplyPolicy.{TwoLevelCoarseApplyPolicy}
 use Rattle.definitions.specs.declared.TwoLevelCoarseApplyPolicy.the-variants.{Auto, FactorSolve, ExplicitInverse}
-use Rattle.laws.proofs.Lists.{Each, none, more, each-tab, each-flatMap, each-upTo}
+use Rattle.laws.proofs.Lists.{Each, none, more, each-read, each-square}
 use Rattle.laws.proofs.FiniteFactor.{total-fits}
 
 -- ---- to numbers and back
@@ -54,18 +53,18 @@ policy-back Auto = refl
 policy-back FactorSolve = refl
 policy-back ExplicitInverse = refl
 
-aggregation-small : (g : TwoLevelAggregation) → T (leb (aggregationNumber g) 2)
+pub aggregation-small : (g : TwoLevelAggregation) → T (leb (aggregationNumber g) 2)
 unfolding aggregationNumber
 aggregation-small Contiguous = tt
 aggregation-small Graph = tt
 aggregation-small StrongGraph = tt
 
-basis-small : (b : TwoLevelBasis) → T (leb (basisNumber b) 1)
+pub basis-small : (b : TwoLevelBasis) → T (leb (basisNumber b) 1)
 unfolding basisNumber
 basis-small PiecewiseConstant = tt
 basis-small JacobiSmoothed = tt
 
-policy-small : (p : TwoLevelCoarseApplyPolicy) → T (leb (policyNumber p) 2)
+pub policy-small : (p : TwoLevelCoarseApplyPolicy) → T (leb (policyNumber p) 2)
 unfolding policyNumber
 policy-small Auto = tt
 policy-small FactorSolve = tt
@@ -113,16 +112,6 @@ largest-fits xs e = go xs zeroᶠ (ofBits-fits binary64 0) e
     go [] s p none = p
     go (x ∷ xs) s p (more q e) = go xs (larger s (magnitude x)) (cond-fits binary64 (lt s (magnitude x)) (magnitude x) s (cond-fits binary64 (lt x zeroᶠ) (neg x) x (neg-fits binary64 x q) q) p) e
 
-module _ {P : Float → Type 0} where
-  read-each : (xs : List Float) (i : ℕ) (d : Float) → Each P xs → P d → P (getD xs i d)
-  read-each [] i d e p = p
-  read-each (x ∷ xs) zero d (more q e) p = q
-  read-each (x ∷ xs) (suc i) d (more q e) p = read-each xs i d e p
-
-  square-each : (n : ℕ) (f : ℕ → ℕ → Float) → ((i j : ℕ) → P (f i j)) → Each P (square n f)
-  unfolding square
-  square-each n f p = each-flatMap (λ i. tab (f i) n) (each-upTo n (λ i _. each-tab (f i) n (λ j _. p i j)))
-
 averaged-fits : (a : ℕ → ℕ → Float) → ((i : ℕ) → T (fits binary64 (a i i))) → (i j : ℕ) → T (fits binary64 (averaged a i j))
 unfolding averaged
 averaged-fits a own i j = go (eqb i j) (ltb j i)
@@ -135,16 +124,16 @@ averaged-fits a own i j = go (eqb i j) (ltb j i)
 -- the averages of any matrix of f64s, and the coarse matrix's, whose entries are sums
 pub averages-fit : (n : ℕ) (m : List Float) → Each (λ x. T (fits binary64 x)) m → Each (λ x. T (fits binary64 x)) (averagedSquare n m)
 unfolding averagedSquare
-averages-fit n m e = square-each n (averaged (entryIn m n)) (λ i j. averaged-fits (entryIn m n) (λ k. read-each m (k * n + k) nan e (nan-fits binary64)) i j)
+averages-fit n m e = each-square n (averaged (entryIn m n)) (λ i j. averaged-fits (entryIn m n) (λ k. each-read m (k * n + k) nan e (nan-fits binary64)) i j)
 
 pub entry-fits : (basis : TwoLevelBasis) (a : Matrix) (size : ℕ) (ids : List ℕ) (weights : List (List Entry)) (i j : ℕ) → T (fits binary64 (coarseEntry basis a size ids weights i j))
 unfolding coarseEntry constantEntry galerkinEntry
 entry-fits PiecewiseConstant a size ids weights i j = total-fits (constantTerms a (coarseColumn size ids) i j)
 entry-fits JacobiSmoothed a size ids weights i j = total-fits (galerkinTerms a (λ r. getD weights r []) i j)
 
-matrix-fits : (a : Matrix) (o : Options) (g : Grouping) (t : Transfer) → Each (λ x. T (fits binary64 x)) (coarseMatrix a o g t)
+pub matrix-fits : (a : Matrix) (o : Options) (g : Grouping) (t : Transfer) → Each (λ x. T (fits binary64 x)) (coarseMatrix a o g t)
 unfolding coarseMatrix
-matrix-fits a o g t = square-each (g .count * o .block) (coarseEntry (o .basis) a (o .block) (g .ids) (t .weights)) (entry-fits (o .basis) a (o .block) (g .ids) (t .weights))
+matrix-fits a o g t = each-square (g .count * o .block) (coarseEntry (o .basis) a (o .block) (g .ids) (t .weights)) (entry-fits (o .basis) a (o .block) (g .ids) (t .weights))
 
 -- what is accepted has the property, along a chain of stages
 data Yields {A : Type 0} (P : A → Type 0) : Outcome A → Type 0 where

@@ -99,7 +99,7 @@ module _ (s : Setup) (numbers : List ℕ) where
     abbrev behind : List ℕ
     behind = replicate (length numbers - length (recordNumbers s)) 0
 
-    all-received : received (recordNumbers s) numbers ≡ recordNumbers s ++ behind
+    pub all-received : received (recordNumbers s) numbers ≡ recordNumbers s ++ behind
     unfolding received padded recordNumbers
     all-received = take-all (length numbers) (recordNumbers s ++ behind) (rw (length-append (recordNumbers s) behind, length-replicate {A = ℕ} (length numbers - 15) 0) (omega arith))
 
