@@ -3,29 +3,25 @@ use Prim.Native.Nat.{ℕ, _*_, _≤_}
 use mathlib.Core.Path.{_≡_, sym, ap, _∙_, subst}
 use mathlib.Core.Bool.{Bool}
 use mathlib.Core.List.{List}
-use native.Mathlib.Nat.{le-trans}
-use lib.Dec.{T, leb, eqb, le→leb, leb→le, eqb→eq}
+use lib.Dec.{T}
 use lib.ListN.{length}
 use lib.Ieee.{Float}
 use Rattle.definitions.specs.Refusal.{done}
 use Rattle.definitions.specs.Matrix.{Matrix}
 use Rattle.definitions.specs.Setup.{Lent, Built, setupOf, setupLeft, lengthsOf}
-use Rattle.definitions.specs.Fits.{setupFits}
 use Rattle.definitions.specs.Apply.{applied, applyCall, applyLeft, corrected}
 use Rattle.definitions.specs.Record.{recordNumbers, recordOf, isRecord}
 use Rattle.definitions.specs.Separation.{Apart, agree, isDone}
 use Rattle.definitions.specs.declared.Options.{Options}
 use Rattle.definitions.specs.declared.Setup.{Setup}
-use Rattle.definitions.specs.declared.Refusal.the-variants.{ListTooShort, WrongLength, SetupMisfit}
 use Rattle.laws.proofs.Lists.{length-tab}
-use Rattle.laws.proofs.Outcomes.{done-inj, test-passed, pass-test}
 use Rattle.yelomawin.specs.Boundary.{received, optionsOf}
 use Rattle.yelomawin.specs.Calls.{Handed, ResultWork, exportedApply}
 use Rattle.separation.proofs.Stages.{stages-of}
 use Rattle.separation.proofs.ApplyApart.{appliedBy}
 use Rattle.separation.proofs.Fitting.{ample-accepts}
 use Rattle.separation.proofs.Theorem.{corrected-here}
-use Rattle.separation.proofs.Calls.{handsOutCorrected, separationOfCalls}
+use Rattle.separation.proofs.Calls.{handed, handsOutCorrected, separationOfCalls}
 use Rattle.separation_of_exports.specs.Exports.{SeparationOfExports, ExportsHandOutCorrected}
 use Rattle.laws.proofs.Record.{setup-record}
 use Rattle.separation_of_exports.proofs.Accepted.{accepted-setup, Applied, accepted-run, run-accepted, record-room, received-record, received-is-record}
@@ -70,22 +66,11 @@ separationOfExports a size groupSize aggregation basis policy lent numbers e par
     → T (agree part size (a .rows) (exportedApply (h .answer) (h .lists .ints) (h .lists .floats) r z w u .lists .result) (exportedApply (h .answer) (h .lists .ints) (h .lists .floats) r′ z′ w′ u′ .lists .result)))
     (sym (y .hands)) (agreeing a (optionsOf size groupSize aggregation basis policy) lent numbers (y .built) (y .is) part r r′ A z z′ w w′ u u′)
 
--- ---- such a run is accepted: a longer work list changes nothing, and the corrected vector has one number a row
+-- ---- such a run is accepted, and the corrected vector has one number a row
 
-module _ (x : Setup) (ints : List ℕ) (floats r y : List Float) where
-  more-room : (room k n : ℕ) → k ≤ n → applyCall x ints floats r room k ≡ done y → (applyCall x ints floats r room n ≡ done y) × (length y ≡ room)
-  unfolding applyCall applied
-  more-room room k n l e =
-      let s1 = test-passed (eqb (length r) (x .rows)) (WrongLength (x .rows) (length r)) _ y e in
-      let s2 = test-passed (eqb room (x .rows)) (WrongLength (x .rows) room) _ y (s1 .1) in
-      let s3 = test-passed (setupFits x ints floats) SetupMisfit _ y (s2 .1) in
-      let s4 = test-passed (leb (2 * x .coarse) k) ListTooShort _ y (s3 .1) in (
-        pass-test (eqb (length r) (x .rows)) (WrongLength (x .rows) (length r)) _ (done y) (s1 .0)
-            (pass-test (eqb room (x .rows)) (WrongLength (x .rows) room) _ (done y) (s2 .0)
-            (pass-test (setupFits x ints floats) SetupMisfit _ (done y) (s3 .0)
-            (pass-test (leb (2 * x .coarse) n) ListTooShort _ (done y) (le→leb (2 * x .coarse) n (le-trans (leb→le (2 * x .coarse) k (s4 .0)) l)) (s4 .1)))),
-        ap length (sym (done-inj (s4 .1))) ∙ length-tab _ (x .rows) ∙ sym (eqb→eq room (x .rows) (s2 .0)),
-      )
+corrected-long : (x : Setup) (ints : List ℕ) (floats r y : List Float) (room workRoom : ℕ) → applyCall x ints floats r room workRoom ≡ done y → length y ≡ room
+unfolding applied
+corrected-long x ints floats r y room workRoom e = let h = handed x ints floats r room workRoom y e in ap length (sym (h .1)) ∙ length-tab _ (x .rows) ∙ sym (h .0)
 
 module _ (a : Matrix) (o : Options) (lent : Lent) (numbers : List ℕ) (b : Built) (built : setupOf a o (lengthsOf lent) ≡ done b) (room : 15 ≤ length numbers) where
   abbrev handedOut : List Float → List Float → List Float → List ℕ → Handed (ResultWork Float)
@@ -98,9 +83,9 @@ module _ (a : Matrix) (o : Options) (lent : Lent) (numbers : List ℕ) (b : Buil
       let c : corrected a o r ≡ done (appliedBy s r) = corrected-here s (ample-accepts s) r long in
       let same : recordOf (list a o lent numbers b built) ≡ b .setup = received-record (b .setup) numbers room (setup-record a o (lengthsOf lent) b built) in
       let enough : 2 * b .setup .coarse ≤ length w = subst (λ (x : Setup). 2 * x .coarse ≤ length w) same work in
-      let m = more-room (b .setup) (ints a o lent numbers b built) (floats a o lent numbers b built) r (appliedBy s r) (a .rows) (2 * b .setup .coarse) (length w) enough (handsOutCorrected a o lent b built r long ∙ c) in
+      let m : applyCall (b .setup) (ints a o lent numbers b built) (floats a o lent numbers b built) r (a .rows) (length w) ≡ done (appliedBy s r) = handsOutCorrected a o lent b built r long (length w) enough ∙ c in
       let h = run-accepted (list a o lent numbers b built) (ints a o lent numbers b built) (floats a o lent numbers b built) r z w u (appliedBy s r) (received-is-record (b .setup) numbers room)
-      (rw (same, fits) (m .0)) (m .1 ∙ sym fits) in
+      (rw (same, fits) m) (corrected-long (b .setup) (ints a o lent numbers b built) (floats a o lent numbers b built) r (appliedBy s r) (a .rows) (length w) m ∙ sym fits) in
       (h .0, c ∙ ap done (sym (h .1)))
 
 pub exportsHandOutCorrected : ExportsHandOutCorrected
