@@ -21,7 +21,7 @@ fn read(seen: &mut Seen, before: &[Vec<u64>; 3], a: &Csr) {
 }
 
 impl Library for OnLists {
-    const NAME: &'static str = "differential";
+    const NAME: &'static str = env!("CARGO_BIN_NAME");
 
     fn root(bits: u64) -> u64 {
         pattern(unsafe { yelomawin_root(f64::from_bits(bits)) }.to_bits())

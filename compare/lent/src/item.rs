@@ -12,6 +12,19 @@ pub trait Item: Copy + Default + 'static {
     fn of(bits: u64) -> Self;
 }
 
+impl Item for u8 {
+    const WIDTH: usize = 1;
+    fn odd(g: &mut Random) -> u8 {
+        (g.next() >> 24) as u8 | 1
+    }
+    fn bits(self) -> u64 {
+        self as u64
+    }
+    fn of(bits: u64) -> u8 {
+        bits as u8
+    }
+}
+
 impl Item for u32 {
     const WIDTH: usize = 4;
     fn odd(g: &mut Random) -> u32 {
@@ -88,6 +101,13 @@ impl<T: Item> Lent<T> {
         let list = odd(g, length + 4);
         Lent { before: list.clone(), list, length }
     }
+    /// With what it holds.
+    pub fn holding(g: &mut Random, list: &[T]) -> Lent<T> {
+        let mut x = Lent::new(g, list.len());
+        x.list[..list.len()].copy_from_slice(list);
+        x.before = x.list.clone();
+        x
+    }
     /// As long as needed, or up to three elements longer.
     pub fn roomy(g: &mut Random, need: usize) -> Lent<T> {
         let more = g.below(4);
@@ -110,6 +130,10 @@ impl<T: Item> Lent<T> {
     pub fn shorten(&mut self, length: usize) {
         assert!(length < self.length);
         self.length = length;
+    }
+    /// Whether what is lent is zero, and what stands behind it as it was.
+    pub fn cleared(&self) -> bool {
+        self.list().iter().all(|x| x.bits() == 0) && self.kept_from(self.length)
     }
     /// Whether the list is what it was, bit by bit.
     pub fn kept(&self) -> bool {

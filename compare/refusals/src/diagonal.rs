@@ -56,6 +56,7 @@ impl Diagonal {
             Case::accepted("a stored -0 and overflow", on(Csr::of(&[&[(0, -0.0)], &[(1, largest), (1, largest)]])), &[], vec![bits(&[0.0, f64::INFINITY])]),
             Case::accepted("rows at the limit", on(Csr::diagonal(ROWS as usize, 3.0)), &[], vec![bits(&vec![3.0; ROWS as usize])]).large(),
             Case::accepted("entries at the limit", on(Csr::longest(0)), &[], vec![bits(&[0.0])]).large(),
+            Case::new("one row, two columns, no entry", on(Csr { rows: 1, cols: 2, row_ptr: vec![0, 0].into(), col_idx: vec![].into(), values: vec![].into() }), 9, &[]),
             Case::new("19 in rows 1 and 2: the lowest", on(Csr::of(&[&[(0, 1.0)], &[(0, 1.0)], &[]])), 19, &[1]),
             Case::new("19, and zero and negative sums before it", on(Csr::of(&[&[(0, 0.0)], &[(1, -1.0)], &[(0, 1.0)]])), 19, &[2]),
         ]

@@ -1,16 +1,17 @@
--- Reading what was written gives the list back: integers and numbers that fit their bytes, and every float of 64 bits, its NaN among them.
+-- Reading what was written gives the list back, and zeros behind its bytes as zeros: integers and numbers that fit their bytes, and every float of 64 bits, its NaN among them.
 use Prim.Native.Nat.{ℕ, zero, suc, _/_, _%_, _*_, _^_, _+_, _<_, _≤_}
 use mathlib.Core.Path.{_≡_, refl, sym, ap, _∙_}
-use mathlib.Core.List.{List, [], _∷_}
-use native.Mathlib.Nat.{mul-suc, mul-comm, mul-le-mul-left, zero-lt-suc, mod-add-div, div-one, div-lt-iff-lt-mul, div-div-eq-div-mul, mul-add-div, mul-add-mod-self-left, mul-div-cancel, div-eq-of-lt, mod-eq-of-lt, add-zero}
+use mathlib.Core.List.{List, [], _∷_, _++_, append-nil}
+use native.Mathlib.Nat.{mul-suc, mul-comm, zero-lt-suc, mod-add-div, div-one, div-lt-iff-lt-mul, div-div-eq-div-mul, mul-add-div, mul-add-mod-self-left, div-eq-of-lt, mod-eq-of-lt, add-zero, zero-add, suc-add, suc-mul, zero-div, le-div-iff-mul-le, not-suc-le-zero, le-of-suc-le-suc}
 use native.Mathlib.Omega.{arith}
 use lib.Dec.{T}
 use lib.Ieee.{Float, nan, binary64, fits, toBits, ofBits}
 use lib.Ieee.Bits.{ofBits-toBits, toBits-lt}
-use lib.ListN.{length, getD}
-use lib.Pow.{pow-add}
+use lib.ListN.{length, getD, replicate, List·getD-eq-default}
+use lib.Pow.{pow-add, pow-pos}
 use Rattle.definitions.specs.Lists.{tab}
-use Rattle.laws.proofs.Lists.{Each, each-at, length-tab, getD-tab, tab-cong}
+use Rattle.definitions.specs.Numbers.{zeroᶠ}
+use Rattle.laws.proofs.Lists.{Each, each-imp, each-read, length-tab, getD-tab, tab-cong, tab-append, tab-same}
 use Rattle.byte_lists.specs.Bytes.{spelled, wordAt, wordsOf, intsOf, numbersOf, floatsOf, byteOf, bytesOf, bytesOfInts, bytesOfNumbers, bytesOfFloats}
 use Rattle.byte_lists.proofs.Laws.{piece}
 
@@ -38,46 +39,100 @@ spelled-back (suc w) x h =
 laid : (ℕ → ℕ) → ℕ → ℕ → ℕ
 laid f w i = byteOf (f (i / w)) (i % w)
 
-inside : (n w k : ℕ) → k < n → w * k + w ≤ n * w
-inside n w k h = omega (arith, mul-le-mul-left {m = suc k} {n = n} w h, mul-suc w k, mul-comm w n)
-
-word-back : (f : ℕ → ℕ) (n w k : ℕ) → 0 < w → k < n → f k < 2 ^ (8 * w) → wordAt w (tab (laid f w) (n * w)) k ≡ f k
+word-back : (f : ℕ → ℕ) (m w k : ℕ) → 0 < w → w * k + w ≤ m → f k < 2 ^ (8 * w) → wordAt w (tab (laid f w) m) k ≡ f k
 unfolding wordAt laid
-word-back f n w k p h l =
-    let b = tab (laid f w) (n * w) in
-    let i = inside n w k h in
-    rw (piece w (w * k) b (rw (length-tab (laid f w) (n * w)) i))
+word-back f m w k p i l =
+    let b = tab (laid f w) m in
+    rw (piece w (w * k) b (rw (length-tab (laid f w) m) i))
     (ap spelled (tab-cong (λ j. getD b (w * k + j) 0) (byteOf (f k)) w (λ j q.
-    getD-tab (laid f w) (n * w) (w * k + j) 0 (omega arith)
+    getD-tab (laid f w) m (w * k + j) 0 (omega arith)
     ∙ rw (mul-add-div p k j, mul-add-mod-self-left w k j, div-eq-of-lt q, mod-eq-of-lt q, add-zero k)))
     ∙ spelled-back w (f k) l)
 
-words-back : {A : Type 0} (g : ℕ → A) (f : ℕ → ℕ) (n w : ℕ) → 0 < w → ((k : ℕ) → k < n → f k < 2 ^ (8 * w)) → (of : ℕ → A) → ((k : ℕ) → k < n → of (f k) ≡ g k)
-    → tab (λ k. of (wordAt w (tab (laid f w) (n * w)) k)) (length (tab (laid f w) (n * w)) / w) ≡ tab g n
-words-back g f n w p small of back =
-    rw (length-tab (laid f w) (n * w), mul-div-cancel n p)
-    (tab-cong _ g n (λ k h. ap of (word-back f n w k p h (small k h)) ∙ back k h))
+words-back : {A : Type 0} (g : ℕ → A) (f : ℕ → ℕ) (m w : ℕ) → 0 < w → (of : ℕ → A) → ((k : ℕ) → (f k < 2 ^ (8 * w)) × (of (f k) ≡ g k))
+    → tab (λ k. of (wordAt w (tab (laid f w) m) k)) (length (tab (laid f w) m) / w) ≡ tab g (m / w)
+words-back g f m w p of back =
+    rw (length-tab (laid f w) m) (tab-cong _ g (m / w) (λ k h. ap of (word-back f m w k p (inside k h) (back k .0)) ∙ back k .1))
+  where
+    inside : (k : ℕ) → k < m / w → w * k + w ≤ m
+    inside k h = omega (arith, le-div-iff-mul-le {x = suc k} p .0 h, suc-mul k w, mul-comm w k)
 
-elements : {A : Type 0} (d : A) (xs : List A) → tab (λ k. getD xs k d) (length xs) ≡ xs
+-- ---- a list, with zeros behind its bytes
+
+elements : {A : Type 0} (z : A) (xs : List A) (n : ℕ) → tab (λ k. getD xs k z) (length xs + n) ≡ xs ++ replicate n z
 unfolding tab
-elements d [] = refl
-elements d (x ∷ xs) = ap (λ t. x ∷ t) (elements d xs)
+elements z [] n = rw (zero-add n) (tab-same (λ k. getD [] k z) z n (λ i. refl))
+elements z (x ∷ xs) n = rw (suc-add (length xs) n) (ap (λ t. x ∷ t) (elements z xs n))
 
-bytes-back : (w : ℕ) (xs : List ℕ) → 0 < w → Each (λ x. x < 2 ^ (8 * w)) xs → wordsOf w (bytesOf w xs) ≡ xs
-unfolding wordsOf bytesOf laid
-bytes-back w xs p e = words-back (λ k. getD xs k 0) (λ k. getD xs k 0) (length xs) w p (λ k h. each-at xs k 0 e h) (λ x. x) (λ k h. refl) ∙ elements 0 xs
+-- by their patterns, w bytes each; zero's pattern is 0, and d stands where no element is
+module _ {A : Type 0} (pattern : A → ℕ) (of : ℕ → A) (z d : A) (none : pattern z ≡ 0) (back : of 0 ≡ z) (w : ℕ) (some : 0 < w) where
+  abbrev Held : A → Type 0
+  Held x = (pattern x < 2 ^ (8 * w)) × (of (pattern x) ≡ x)
+
+  abbrev bytes : List A → List ℕ
+  bytes xs = tab (λ i. byteOf (pattern (getD xs (i / w) d)) (i % w)) (length xs * w)
+
+  number : List A → ℕ → ℕ
+  number xs k = pattern (getD xs k z)
+
+  zero-held : Held z
+  zero-held = (rw none (pow-pos (8 * w)), rw none back)
+
+  within : (xs : List A) (k : ℕ) → k < length xs → getD xs k d ≡ getD xs k z
+  within [] k h = absurd (not-suc-le-zero h)
+  within (x ∷ xs) zero h = refl
+  within (x ∷ xs) (suc k) h = within xs k (le-of-suc-le-suc h)
+
+  spelled-out : (xs : List A) (t : ℕ) → bytes xs ++ replicate t 0 ≡ tab (laid (number xs) w) (length xs * w + t)
+  unfolding laid number byteOf
+  spelled-out xs t =
+      let n = length xs * w in
+      sym (tab-append (laid (number xs) w) n t
+      ∙ rw (
+        tab-cong (laid (number xs) w) (λ i. byteOf (pattern (getD xs (i / w) d)) (i % w)) n (λ i h. rw (within xs (i / w) (div-lt-iff-lt-mul some .1 h))),
+        tab-same (λ i. laid (number xs) w (n + i)) 0 t (λ i. beyond (n + i) (le-div-iff-mul-le some .1 (at-most n i))),
+      ))
+    where
+      at-most : (x y : ℕ) → x ≤ x + y
+      at-most x y = omega arith
+
+      beyond : (i : ℕ) → length xs ≤ i / w → laid (number xs) w i ≡ 0
+      beyond i h = rw (List·getD-eq-default xs z h, none, zero-div (2 ^ (8 * (i % w))))
+
+  pub read-back : (xs : List A) (t : ℕ) → Each Held xs
+      → tab (λ k. of (wordAt w (bytes xs ++ replicate t 0) k)) (length (bytes xs ++ replicate t 0) / w) ≡ xs ++ replicate (t / w) z
+  unfolding number
+  read-back xs t e =
+      rw (spelled-out xs t)
+      (words-back (λ k. getD xs k z) (number xs) (length xs * w + t) w some of (λ k. each-read xs k z e zero-held) ∙ rw (mul-comm (length xs) w, mul-add-div some (length xs) t) (elements z xs (t / w)))
+
+-- ---- for each width
+
+module _ (xs : List ℕ) (t : ℕ) where
+  pub ints-behind : Each (λ x. x < 2 ^ 32) xs → intsOf (bytesOfInts xs ++ replicate t 0) ≡ xs ++ replicate (t / 4) 0
+  unfolding wordsOf bytesOf
+  ints-behind e = read-back (λ x. x) (λ x. x) 0 0 refl refl 4 (omega arith) xs t (each-imp (λ x h. (h, refl)) e)
+
+  pub numbers-behind : Each (λ x. x < 2 ^ 64) xs → numbersOf (bytesOfNumbers xs ++ replicate t 0) ≡ xs ++ replicate (t / 8) 0
+  unfolding wordsOf bytesOf
+  numbers-behind e = read-back (λ x. x) (λ x. x) 0 0 refl refl 8 (omega arith) xs t (each-imp (λ x h. (h, refl)) e)
+
+zero-pattern : toBits binary64 zeroᶠ ≡ 0
+unfolding ofBits toBits
+zero-pattern = refl
+
+pub floats-behind : (xs : List Float) (t : ℕ) → Each (λ x. T (fits binary64 x)) xs → floatsOf (bytesOfFloats xs ++ replicate t 0) ≡ xs ++ replicate (t / 8) zeroᶠ
+unfolding floatsOf bytesOfFloats
+floats-behind xs t e =
+    read-back (toBits binary64) (ofBits binary64) zeroᶠ nan zero-pattern refl 8 (omega arith) xs t (each-imp (λ x h. (toBits-lt binary64 x h, ofBits-toBits binary64 x h)) e)
+
+-- ---- with nothing behind
 
 pub ints-back : (xs : List ℕ) → Each (λ x. x < 2 ^ 32) xs → intsOf (bytesOfInts xs) ≡ xs
-ints-back xs e = bytes-back 4 xs (omega arith) e
+ints-back xs e = ap intsOf (sym (append-nil (bytesOfInts xs))) ∙ ints-behind xs 0 e ∙ append-nil xs
 
 pub numbers-back : (xs : List ℕ) → Each (λ x. x < 2 ^ 64) xs → numbersOf (bytesOfNumbers xs) ≡ xs
-numbers-back xs e = bytes-back 8 xs (omega arith) e
+numbers-back xs e = ap numbersOf (sym (append-nil (bytesOfNumbers xs))) ∙ numbers-behind xs 0 e ∙ append-nil xs
 
 pub floats-back : (xs : List Float) → Each (λ x. T (fits binary64 x)) xs → floatsOf (bytesOfFloats xs) ≡ xs
-unfolding floatsOf bytesOfFloats laid
-floats-back xs e =
-    words-back (λ k. getD xs k nan) (λ k. toBits binary64 (getD xs k nan)) (length xs) 8 (omega arith)
-    (λ k h. toBits-lt binary64 (getD xs k nan) (each-at xs k nan e h))
-    (ofBits binary64)
-    (λ k h. ofBits-toBits binary64 (getD xs k nan) (each-at xs k nan e h))
-    ∙ elements nan xs
+floats-back xs e = ap floatsOf (sym (append-nil (bytesOfFloats xs))) ∙ floats-behind xs 0 e ∙ append-nil xs

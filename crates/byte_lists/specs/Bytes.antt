@@ -58,9 +58,9 @@ bytesOfFloats xs = tab (λ i. byteOf (toBits binary64 (getD xs (i / 8) nan)) (i 
 unfoldable pub readable : ℕ → ℕ → ℕ → Bool
 readable w bytes room = eqb (bytes % w) 0 && leb (bytes / w) room
 
--- so many bytes have room for a list of numbers of w bytes
+-- so many bytes are whole numbers of w bytes, and have room for a list of them
 unfoldable pub writable : ℕ → ℕ → ℕ → Bool
-writable w list bytes = leb list (bytes / w)
+writable w list bytes = eqb (bytes % w) 0 && leb list (bytes / w)
 
 -- a list with its front written over, the rest kept
 unfoldable pub over : {A : Type 0} → List A → List A → List A

@@ -5,7 +5,8 @@ use float_bits::of_bits;
 ghost use mathlib.Core.Path.{_≡_};
 ghost use mathlib.Core.Bool.{cond};
 ghost use Prim.Native.Nat.{_+_, _*_, _/_, _<_, _≤_};
-ghost use lib.ListN.{length, getD};
+ghost use lib.ListN.{length, getD, replicate};
+ghost use Rattle.definitions.specs.Lists.{padded};
 ghost use Rattle.byte_lists.specs.Bytes.{wordAt, intsOf, numbersOf, floatsOf, byteOf, bytesOfInts, bytesOfNumbers, bytesOfFloats, readable, writable, over};
 
 fn byte(b: &[u8], i: usize) -> u64
@@ -144,24 +145,53 @@ pub fn read_floats(bytes: &[u8], room: &mut [f64]) -> bool
     }
 }
 
-// Whether so many bytes have room for a list of integers.
+// Whether so many bytes are whole integers and have room for a list of them.
 pub fn holds_ints(list: usize, bytes: usize) -> bool
     ensures { λ r. ⌜ r ≡ writable 4 list bytes ⌝ }
 {
-    list <= bytes / 4
+    if bytes % 4 == 0 {
+        list <= bytes / 4
+    } else {
+        false
+    }
 }
 
 // The same for numbers and floats of 8 bytes.
 pub fn holds_words(list: usize, bytes: usize) -> bool
     ensures { λ r. ⌜ r ≡ writable 8 list bytes ⌝ }
 {
-    list <= bytes / 8
+    if bytes % 8 == 0 {
+        list <= bytes / 8
+    } else {
+        false
+    }
+}
+
+pub fn zero_numbers(list: &mut [u64])
+    ensures { λ _. ⌜ now (list .exit) ≡ replicate (length (now (list .entry))) 0 ⌝ }
+{
+    let mut i: usize = 0;
+    while i < list.len() {
+        list[i] = 0;
+        i += 1;
+    }
+}
+
+fn zero_bytes(list: &mut [u8])
+    ensures { λ _. ⌜ now (list .exit) ≡ replicate (length (now (list .entry))) 0 ⌝ }
+{
+    let mut i: usize = 0;
+    while i < list.len() {
+        list[i] = 0;
+        i += 1;
+    }
 }
 
 fn spell_ints(list: &[u32], bytes: &mut [u8])
     requires { ⌜ length (now list) ≤ length (now bytes) / 4 ⌝ }
-    ensures { λ _. ⌜ now (bytes .exit) ≡ over (bytesOfInts (now (list .entry))) (now (bytes .entry)) ⌝ }
+    ensures { λ _. ⌜ now (bytes .exit) ≡ padded 0 (length (now (bytes .entry))) (bytesOfInts (now (list .entry))) ⌝ }
 {
+    zero_bytes(bytes);
     let n = list.len() * 4;
     let mut i: usize = 0;
     while i < n {
@@ -173,8 +203,9 @@ fn spell_ints(list: &[u32], bytes: &mut [u8])
 
 fn spell_numbers(list: &[u64], bytes: &mut [u8])
     requires { ⌜ length (now list) ≤ length (now bytes) / 8 ⌝ }
-    ensures { λ _. ⌜ now (bytes .exit) ≡ over (bytesOfNumbers (now (list .entry))) (now (bytes .entry)) ⌝ }
+    ensures { λ _. ⌜ now (bytes .exit) ≡ padded 0 (length (now (bytes .entry))) (bytesOfNumbers (now (list .entry))) ⌝ }
 {
+    zero_bytes(bytes);
     let n = list.len() * 8;
     let mut i: usize = 0;
     while i < n {
@@ -186,8 +217,9 @@ fn spell_numbers(list: &[u64], bytes: &mut [u8])
 
 fn spell_floats(list: &[f64], bytes: &mut [u8])
     requires { ⌜ length (now list) ≤ length (now bytes) / 8 ⌝ }
-    ensures { λ _. ⌜ now (bytes .exit) ≡ over (bytesOfFloats (now (list .entry))) (now (bytes .entry)) ⌝ }
+    ensures { λ _. ⌜ now (bytes .exit) ≡ padded 0 (length (now (bytes .entry))) (bytesOfFloats (now (list .entry))) ⌝ }
 {
+    zero_bytes(bytes);
     let n = list.len() * 8;
     let mut i: usize = 0;
     while i < n {
@@ -197,10 +229,10 @@ fn spell_floats(list: &[f64], bytes: &mut [u8])
     }
 }
 
-// Writes a list of integers into the front of a byte list; answers whether it fits, and leaves the bytes as they were where it does not.
+// Writes a list of integers into a byte list, zeros after them; answers whether it fits, and leaves the bytes as they were where it does not.
 pub fn write_ints(list: &[u32], bytes: &mut [u8]) -> bool
     ensures { λ r. ⌜ r ≡ writable 4 (length (now (list .entry))) (length (now (bytes .entry))) ⌝ }
-    ensures { λ _. ⌜ now (bytes .exit) ≡ cond (writable 4 (length (now (list .entry))) (length (now (bytes .entry)))) (over (bytesOfInts (now (list .entry))) (now (bytes .entry))) (now (bytes .entry)) ⌝ }
+    ensures { λ _. ⌜ now (bytes .exit) ≡ cond (writable 4 (length (now (list .entry))) (length (now (bytes .entry)))) (padded 0 (length (now (bytes .entry))) (bytesOfInts (now (list .entry)))) (now (bytes .entry)) ⌝ }
 {
     if holds_ints(list.len(), bytes.len()) {
         spell_ints(list, bytes);
@@ -212,7 +244,7 @@ pub fn write_ints(list: &[u32], bytes: &mut [u8]) -> bool
 
 pub fn write_numbers(list: &[u64], bytes: &mut [u8]) -> bool
     ensures { λ r. ⌜ r ≡ writable 8 (length (now (list .entry))) (length (now (bytes .entry))) ⌝ }
-    ensures { λ _. ⌜ now (bytes .exit) ≡ cond (writable 8 (length (now (list .entry))) (length (now (bytes .entry)))) (over (bytesOfNumbers (now (list .entry))) (now (bytes .entry))) (now (bytes .entry)) ⌝ }
+    ensures { λ _. ⌜ now (bytes .exit) ≡ cond (writable 8 (length (now (list .entry))) (length (now (bytes .entry)))) (padded 0 (length (now (bytes .entry))) (bytesOfNumbers (now (list .entry)))) (now (bytes .entry)) ⌝ }
 {
     if holds_words(list.len(), bytes.len()) {
         spell_numbers(list, bytes);
@@ -224,7 +256,7 @@ pub fn write_numbers(list: &[u64], bytes: &mut [u8]) -> bool
 
 pub fn write_floats(list: &[f64], bytes: &mut [u8]) -> bool
     ensures { λ r. ⌜ r ≡ writable 8 (length (now (list .entry))) (length (now (bytes .entry))) ⌝ }
-    ensures { λ _. ⌜ now (bytes .exit) ≡ cond (writable 8 (length (now (list .entry))) (length (now (bytes .entry)))) (over (bytesOfFloats (now (list .entry))) (now (bytes .entry))) (now (bytes .entry)) ⌝ }
+    ensures { λ _. ⌜ now (bytes .exit) ≡ cond (writable 8 (length (now (list .entry))) (length (now (bytes .entry)))) (padded 0 (length (now (bytes .entry))) (bytesOfFloats (now (list .entry)))) (now (bytes .entry)) ⌝ }
 {
     if holds_words(list.len(), bytes.len()) {
         spell_floats(list, bytes);

@@ -1,6 +1,6 @@
 -- Demand 3, as a statement: under Graph and StrongGraph a change of the residual outside an unconnected part does not reach the part.
 -- Two readings of one demand: of the corrected vectors that the definitions give, and of the lists that the calls hand out. Stated here, proved elsewhere.
-use Prim.Native.Nat.{ℕ, _*_, _/_}
+use Prim.Native.Nat.{ℕ, _*_, _/_, _≤_}
 use mathlib.Core.Path.{_≡_}
 use mathlib.Core.Bool.{Bool, true, false, not, _&&_, _||_}
 use mathlib.Core.List.{List, []}
@@ -67,7 +67,7 @@ Separation = (a : Matrix) (o : Options) (part : ℕ → Bool) (r r′ : List Flo
 -- what an apply hands out after an accepted setup is the corrected vector, and 26 does not come back; so the second reading follows from the first
 abbrev pub HandsOutCorrected : Type 0
 HandsOutCorrected = (a : Matrix) (o : Options) (lent : Lent) (b : Built) → setupOf a o (lengthsOf lent) ≡ done b → (r : List Float) → length r ≡ a .rows →
-    applyCall (b .setup) (setupLeft (done b) lent .ints) (setupLeft (done b) lent .floats) r (a .rows) (2 * b .setup .coarse) ≡ corrected a o r
+    (workRoom : ℕ) → 2 * b .setup .coarse ≤ workRoom → applyCall (b .setup) (setupLeft (done b) lent .ints) (setupLeft (done b) lent .floats) r (a .rows) workRoom ≡ corrected a o r
 
 -- THE CALLS: an accepted setup, then two accepted applies with its record and lists as it left them, whatever the lengths of the lists lent.
 -- z and z′ are the correction lists lent, and what is compared is what they hold afterwards

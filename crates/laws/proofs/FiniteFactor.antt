@@ -155,7 +155,7 @@ reduced-finite x (y ∷ ys) h =
     let s = sub-finite binary64 x y (r .0) in
     (s .0, more (s .1) (r .1))
 
-reduced-fits : (x : Float) (ys : List Float) → T (fits binary64 x) → T (fits binary64 (reduced x ys))
+pub reduced-fits : (x : Float) (ys : List Float) → T (fits binary64 x) → T (fits binary64 (reduced x ys))
 unfolding reduced
 reduced-fits x [] p = p
 reduced-fits x (y ∷ ys) p = reduced-fits (x -ᶠ y) ys (sub-fits binary64 x y)

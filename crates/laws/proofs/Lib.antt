@@ -24,7 +24,8 @@ pub mod Factor
 pub mod BlockFactors
 pub mod FiniteFactor
 pub mod FactorExamples
--- diagonal sums behind accepted blocks, and the causes that setup never is
+-- numbers of causes; diagonal sums behind accepted blocks, and the causes that setup never is
+pub mod Causes
 pub mod Diagonals
 pub mod SetupCauses
 -- the groups of setup: new numbers by first appearance, how many ids and groups; the lists of a setup, and the rows of the transfer
@@ -32,3 +33,5 @@ pub mod Renumbered
 pub mod GroupIds
 pub mod SetupLists
 pub mod TransferRows
+-- the record as numbers and back
+pub mod Record

@@ -3,11 +3,11 @@ use mathlib.Core.Path.{_≡_, refl, sym, ap, _∙_, subst}
 use mathlib.Core.Bool.{Bool, true, false, not, _||_}
 use mathlib.Core.List.{List, [], _∷_, _++_, map, flatMap, zipWith}
 use Prim.Native.Nat.{ℕ, zero, suc, _+_, _-_, _*_, _<_}
-use native.Mathlib.Nat.{not-suc-le-zero, zero-lt-suc, suc-le-suc-iff, le-of-suc-le-suc, zero-mul, zero-add}
+use native.Mathlib.Nat.{not-suc-le-zero, zero-lt-suc, suc-le-suc-iff, le-of-suc-le-suc, zero-mul, zero-add, suc-add}
 use native.Mathlib.Omega.{arith}
 use lib.Dec.{T}
 use lib.Ieee.Fits.{and-i, and-l, and-r}
-use lib.ListN.{length, getD, take, drop, length-append, List·getD-append}
+use lib.ListN.{length, getD, set, take, drop, replicate, length-append, List·getD-append}
 use lib.Seq.{getD-append-add, take-at, drop-at}
 pub use Rattle.laws.specs.Every.{Each, none, more}
 use Rattle.definitions.specs.Lists.{tab, upTo, square, between, keep, any, all}
@@ -68,6 +68,21 @@ module _ {A : Type 0} where
   each-at [] i d h l = absurd (not-suc-le-zero l)
   each-at (x ∷ xs) zero d h l = each-head h
   each-at (x ∷ xs) (suc i) d h l = each-at xs i d (each-tail h) (le-of-suc-le-suc l)
+
+  -- inside the list or not
+  pub each-read : {P : A → Type 0} (xs : List A) (i : ℕ) (d : A) → Each P xs → P d → P (getD xs i d)
+  each-read [] i d h p = p
+  each-read (x ∷ xs) zero d h p = each-head h
+  each-read (x ∷ xs) (suc i) d h p = each-read xs i d (each-tail h) p
+
+  pub each-set : {P : A → Type 0} (xs : List A) (i : ℕ) (x : A) → Each P xs → P x → Each P (set xs i x)
+  each-set [] i x h p = none
+  each-set (y ∷ xs) zero x h p = more p (each-tail h)
+  each-set (y ∷ xs) (suc i) x h p = more (each-head h) (each-set xs i x (each-tail h) p)
+
+  pub each-replicate : {P : A → Type 0} (n : ℕ) (x : A) → P x → Each P (replicate n x)
+  each-replicate zero x p = none
+  each-replicate (suc n) x p = more p (each-replicate n x p)
 
   pub each-by : {P : A → Type 0} (xs : List A) (d : A) → ((i : ℕ) → i < length xs → P (getD xs i d)) → Each P xs
   each-by [] d h = none
@@ -152,6 +167,16 @@ module _ {A : Type 0} where
       ∙ ap (λ (xs : List A). g zero ∷ xs) (tab-cong (λ i. f (suc i)) (λ i. g (suc i)) n (λ i l. h (suc i) (up-lt l)))
 
   -- a list is a tab by its elements
+  pub tab-append : (f : ℕ → A) (m n : ℕ) → tab f (m + n) ≡ tab f m ++ tab (λ i. f (m + i)) n
+  unfolding tab
+  tab-append f zero n = rw (zero-add n) (tab-cong f (λ i. f (0 + i)) n (λ i _. rw (zero-add i)))
+  tab-append f (suc m) n = rw (suc-add m n) (ap (λ t. f 0 ∷ t) (tab-append (λ i. f (suc i)) m n ∙ rw (tab-cong (λ i. f (suc (m + i))) (λ i. f (suc m + i)) n (λ i _. rw (suc-add m i)))))
+
+  pub tab-same : (f : ℕ → A) (x : A) (n : ℕ) → ((i : ℕ) → f i ≡ x) → tab f n ≡ replicate n x
+  unfolding tab
+  tab-same f x zero e = refl
+  tab-same f x (suc n) e = rw (e 0) (ap (λ t. x ∷ t) (tab-same (λ i. f (suc i)) x n (λ i. e (suc i))))
+
   pub tab-is : (d : A) (l : List A) (f : ℕ → A) (n : ℕ) → length l ≡ n → ((j : ℕ) → j < n → getD l j d ≡ f j) → l ≡ tab f n
   unfolding tab
   tab-is d [] f zero e h = refl
@@ -267,6 +292,10 @@ length-square n f = length-rows (λ k. tab (f k) n) n (λ k. k) n (λ k t. lengt
 pub square-cong : {A : Type 0} (n : ℕ) (f g : ℕ → ℕ → A) → ((i j : ℕ) → i < n → j < n → f i j ≡ g i j) → square n f ≡ square n g
 unfolding square
 square-cong n f g h = flatMap-cong (λ i. tab (f i) n) (λ i. tab (g i) n) (each-upTo n (λ i l. tab-cong (f i) (g i) n (λ j m. h i j l m)))
+
+pub each-square : {A : Type 0} {P : A → Type 0} (n : ℕ) (f : ℕ → ℕ → A) → ((i j : ℕ) → P (f i j)) → Each P (square n f)
+unfolding square
+each-square n f h = each-flatMap (λ i. tab (f i) n) (each-upTo n (λ i _. each-tab (f i) n (λ j _. h i j)))
 
 -- a part in the middle
 pub part-mid : {A : Type 0} (p q r : List A) (s e : ℕ) → length p ≡ s → s + length q ≡ e → between s e (p ++ (q ++ r)) ≡ q

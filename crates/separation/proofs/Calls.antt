@@ -1,8 +1,7 @@
 -- DEMAND 3, of the calls: what an apply hands out after an accepted setup is the corrected vector, because the setup fits its record and its lists read back as what was stored.
 use mathlib.Core.Path.{_≡_, refl, sym, ap, _∙_, subst}
 use mathlib.Core.List.{List, _++_, append-nil}
-use Prim.Native.Nat.{ℕ, _-_, _*_}
-use native.Mathlib.Nat.{le-refl}
+use Prim.Native.Nat.{ℕ, _-_, _*_, _≤_}
 use native.Mathlib.Omega.{arith}
 use lib.Dec.{T, eqb, leb, le→leb, eqb→eq, eqb-refl}
 use lib.ListN.{length, replicate}
@@ -88,24 +87,25 @@ module _ {a : Matrix} {o : Options} (s : Stages a o) (lent : Lent) where
       subst (λ (x : List ℕ). T (setupFits (built s .setup) x floatsAfter)) (sym ints-after)
       (subst (λ (x : List Float). T (setupFits (built s .setup) (built s .ints ++ zeros) x)) (sym floats-after) (setup-fits s zeros zerosᶠ))
 
-  apply-after : (r : List Float) → length r ≡ a .rows → applyCall (built s .setup) intsAfter floatsAfter r (a .rows) (2 * built s .setup .coarse) ≡ done (appliedBy s r)
+  apply-after : (r : List Float) → length r ≡ a .rows → (workRoom : ℕ) → 2 * built s .setup .coarse ≤ workRoom
+      → applyCall (built s .setup) intsAfter floatsAfter r (a .rows) workRoom ≡ done (appliedBy s r)
   unfolding applyCall builtFrom
-  apply-after r long =
+  apply-after r long workRoom enough =
       let x = built s .setup in
       let out = done (appliedBy s r) in
       pass-test (eqb (length r) (a .rows)) (WrongLength (a .rows) (length r)) _ out (eq→eqb long)
       (pass-test (eqb (a .rows) (a .rows)) (WrongLength (a .rows) (a .rows)) _ out (eqb-refl (a .rows))
       (pass-test (setupFits x intsAfter floatsAfter) SetupMisfit _ out fits-after
-      (pass-test (leb (2 * x .coarse) (2 * x .coarse)) ListTooShort _ out (le→leb (2 * x .coarse) (2 * x .coarse) (le-refl (2 * x .coarse))) (ap done (applied-after r long)))))
+      (pass-test (leb (2 * x .coarse) workRoom) ListTooShort _ out (le→leb (2 * x .coarse) workRoom enough) (ap done (applied-after r long)))))
 
 -- ---- the theorems
 
 pub handsOutCorrected : HandsOutCorrected
-handsOutCorrected a o lent b e r long =
+handsOutCorrected a o lent b e r long workRoom =
     let y = stages-of a o (lengthsOf lent) b e in
     let s = y .stages in
-    subst (λ (x : Built). applyCall (x .setup) (setupLeft (done x) lent .ints) (setupLeft (done x) lent .floats) r (a .rows) (2 * x .setup .coarse) ≡ corrected a o r) (sym (y .is))
-    (apply-after s lent r long ∙ sym (corrected-here s (ample-accepts s) r long))
+    subst (λ (x : Built). 2 * x .setup .coarse ≤ workRoom → applyCall (x .setup) (setupLeft (done x) lent .ints) (setupLeft (done x) lent .floats) r (a .rows) workRoom ≡ corrected a o r) (sym (y .is))
+    (λ enough. apply-after s lent r long workRoom enough ∙ sym (corrected-here s (ample-accepts s) r long))
 
 pub separationOfCalls : SeparationOfCalls
 separationOfCalls a o part r r′ A lent b e z z′ workRoom workRoom′ c c′ =

@@ -5,23 +5,20 @@ use mathlib.Core.Bool.{Bool, true, false}
 use mathlib.Core.List.{List, [], _++_}
 use Prim.Native.Nat.{ℕ, _<_}
 use lib.Dec.{T, ltb, eqb, eqb-refl}
-use lib.ListN.{getD}
 use lib.Ieee.{Float, nan, binary64, fits}
 use Rattle.definitions.specs.Numbers.{_+ᶠ_, _*ᶠ_, half}
 use Rattle.definitions.specs.Refusal.{done}
-use Rattle.definitions.specs.Matrix.{Matrix, Entry}
+use Rattle.definitions.specs.Matrix.{Matrix}
 use Rattle.definitions.specs.Block.{inBlock, blockPart}
-use Rattle.definitions.specs.Coarse.{packed, constantTerms, constantEntry, galerkinTerms, galerkinEntry, averaged, averagedSquare, entryIn, coarsePart}
-use Rattle.definitions.specs.Transfer.{coarseColumn}
+use Rattle.definitions.specs.Coarse.{packed, averaged, averagedSquare, entryIn, coarsePart}
 use Rattle.definitions.specs.Setup.{nodeCount, Lengths, coarseEntry, coarseMatrix, Built, builtFrom, setupOf}
 use Rattle.definitions.specs.Fits.{factorsIn, coarseIn}
 use Rattle.definitions.specs.declared.Options.{Options}
 use Rattle.definitions.specs.declared.Setup.{Setup}
-use Rattle.definitions.specs.declared.TwoLevelBasis.{TwoLevelBasis}
-use Rattle.definitions.specs.declared.TwoLevelBasis.the-variants.{PiecewiseConstant, JacobiSmoothed}
 use Rattle.definitions.specs.declared.TwoLevelCoarseApplyPolicy.the-variants.{FactorSolve}
 use Rattle.laws.proofs.Lists.{getD-square}
-use Rattle.laws.proofs.FiniteFactor.{FiniteFactor, total-fits, factors-finite, coarse-finite}
+use Rattle.laws.proofs.FiniteFactor.{FiniteFactor, factors-finite, coarse-finite}
+use Rattle.laws.proofs.Record.{entry-fits}
 use Rattle.separation.proofs.Stages.{Stages, dimension, coarseAveraged, built, sound, stages-of}
 use Rattle.laws.proofs.SetupLists.{blocks-are-nodes, width-is-size}
 use Rattle.separation.proofs.Places.{factors-read, coarse-read}
@@ -40,11 +37,6 @@ average-own a i = go (eqb i i) (eqb-refl i)
     go : (b : Bool) → T b → _≡_ {A = Float} (elim b [ true ↦ a i i | false ↦ elim (ltb i i) [ true ↦ half *ᶠ (a i i +ᶠ a i i) | false ↦ half *ᶠ (a i i +ᶠ a i i) ] ]) (a i i)
     go true h = refl
     go false h = absurd h
-
-entry-fits : (basis : TwoLevelBasis) (a : Matrix) (size : ℕ) (ids : List ℕ) (weights : List (List Entry)) (i j : ℕ) → T (fits binary64 (coarseEntry basis a size ids weights i j))
-unfolding coarseEntry constantEntry galerkinEntry
-entry-fits PiecewiseConstant a size ids weights i j = total-fits (constantTerms a (coarseColumn size ids) i j)
-entry-fits JacobiSmoothed a size ids weights i j = total-fits (galerkinTerms a (λ r. getD weights r []) i j)
 
 module _ {a : Matrix} {o : Options} (s : Stages a o) where
   diagonal-fits : (i : ℕ) → i < dimension s → T (fits binary64 (entryIn (coarseAveraged s) (dimension s) i i))

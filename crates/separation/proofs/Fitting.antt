@@ -38,7 +38,7 @@ use Rattle.separation.proofs.Places.{weights-count, ids-read, ids-many,
 
 -- ---- how many weights
 
-weights-bound : (a : Matrix) (o : Options) → Sound a o → (ids : List ℕ) (c : ℕ) (t : Transfer) → transferFor JacobiSmoothed a (o .block) ids c ≡ done t
+pub weights-bound : (a : Matrix) (o : Options) → Sound a o → (ids : List ℕ) (c : ℕ) (t : Transfer) → transferFor JacobiSmoothed a (o .block) ids c ≡ done t
     → length (transferFloats (t .weights)) ≤ a .rows + length (a .values)
 unfolding transferFloats transferOf
 weights-bound a o S ids c t e =
@@ -59,7 +59,7 @@ weights-bound a o S ids c t e =
     last : (n x y z : ℕ) → x ≡ z → n + (x - y) ≤ n + z
     last n x y z k = omega arith
 
-columns-small : (a : Matrix) (size : ℕ) (ids : List ℕ) (c : ℕ) (t : Transfer) → transferFor JacobiSmoothed a size ids c ≡ done t → Each (λ x. x < c) (columnsOf (t .weights))
+pub columns-small : (a : Matrix) (size : ℕ) (ids : List ℕ) (c : ℕ) (t : Transfer) → transferFor JacobiSmoothed a size ids c ≡ done t → Each (λ x. x < c) (columnsOf (t .weights))
 unfolding transferOf transferRow
 columns-small a size ids c t e =
     let w = smoothed-weights a size ids c t e in

@@ -1,2 +1,3 @@
 pub mod Receiving
 pub mod Policies
+pub mod Handing

@@ -1,20 +1,11 @@
 // The library's boundary: functions for C and Rust on the caller's own lists. Each answers 0 or the number of its refusal.
 use definitions::Options;
 ghost use mathlib.Core.Path.{_≡_};
-ghost use mathlib.Core.List.{[]};
-ghost use lib.ListN.{length};
 ghost use Rattle.definitions.specs.Numbers.{rootᶠ};
 ghost use Rattle.definitions.specs.Matrix.{csr, validOf};
-ghost use Rattle.definitions.specs.Diagonal.{diagonalCall, diagonalLeft};
-ghost use Rattle.definitions.specs.Block.{blocksCall, blocksLeft, blockApplyCall, blockApplyLeft};
-ghost use Rattle.definitions.specs.Groups.{groupingCall, groupingLeft, groupingWorkLeft};
-ghost use Rattle.definitions.specs.Estimate.{estimateCall, estimateWorkLeft};
-ghost use Rattle.definitions.specs.Setup.{setupOf, setupLeft, lengthsOf};
 ghost use Rattle.two_level_setup.specs.Contracts.{lentOf};
-ghost use Rattle.definitions.specs.Apply.{applyCall, applyLeft, applyWorkLeft};
-ghost use Rattle.definitions.specs.Answers.{answerOf, answerNumber, groupingAnswer, estimateAnswer, setupAnswer, answerValues, groupingNumber, groupingValues, estimateNumber, estimateValues, setupNumber, setupValues};
-ghost use Rattle.definitions.specs.Record.{arePolicies, recordOf, isRecord};
-ghost use Rattle.yelomawin.specs.Boundary.{received, optionsOf, whether, noPolicy};
+ghost use Rattle.definitions.specs.Answers.{answerOf, answerNumber};
+ghost use Rattle.yelomawin.specs.Calls.{handed, resultWork, exportedDiagonal, exportedBlocks, exportedBlockApply, exportedGroup, exportedEstimate, exportedSetup, exportedApply};
 
 mod answers;
 mod record;
@@ -51,9 +42,8 @@ pub extern "C" fn yelomawin_diagonal(
     diagonal: &mut [f64],
     answer: &mut [u64],
 ) -> u64
-    ensures { λ r. ⌜ r ≡ answerNumber (answerOf (diagonalCall (csr rows cols (now («row_ptr» .entry)) (now («col_idx» .entry)) (now (values .entry))) (length (now (diagonal .entry))))) ⌝ }
-    ensures { λ _. ⌜ now (diagonal .exit) ≡ diagonalLeft (csr rows cols (now («row_ptr» .entry)) (now («col_idx» .entry)) (now (values .entry))) (now (diagonal .entry)) ⌝ }
-    ensures { λ _. ⌜ now (answer .exit) ≡ received (answerValues (answerOf (diagonalCall (csr rows cols (now («row_ptr» .entry)) (now («col_idx» .entry)) (now (values .entry))) (length (now (diagonal .entry)))))) (now (answer .entry)) ⌝ }
+    ensures { λ r. ⌜ handed r (now (diagonal .exit)) (now (answer .exit))
+        ≡ exportedDiagonal (csr rows cols (now («row_ptr» .entry)) (now («col_idx» .entry)) (now (values .entry))) (now (diagonal .entry)) (now (answer .entry)) ⌝ }
 {
     let a = csr32::diagonal(
         rows as usize,
@@ -77,9 +67,8 @@ pub extern "C" fn yelomawin_blocks(
     factors: &mut [f64],
     answer: &mut [u64],
 ) -> u64
-    ensures { λ r. ⌜ r ≡ answerNumber (answerOf (blocksCall (csr rows cols (now («row_ptr» .entry)) (now («col_idx» .entry)) (now (values .entry))) «block_size» (length (now (factors .entry))))) ⌝ }
-    ensures { λ _. ⌜ now (factors .exit) ≡ blocksLeft (csr rows cols (now («row_ptr» .entry)) (now («col_idx» .entry)) (now (values .entry))) «block_size» (now (factors .entry)) ⌝ }
-    ensures { λ _. ⌜ now (answer .exit) ≡ received (answerValues (answerOf (blocksCall (csr rows cols (now («row_ptr» .entry)) (now («col_idx» .entry)) (now (values .entry))) «block_size» (length (now (factors .entry)))))) (now (answer .entry)) ⌝ }
+    ensures { λ r. ⌜ handed r (now (factors .exit)) (now (answer .exit))
+        ≡ exportedBlocks (csr rows cols (now («row_ptr» .entry)) (now («col_idx» .entry)) (now (values .entry))) «block_size» (now (factors .entry)) (now (answer .entry)) ⌝ }
 {
     let a = block_factor::blocks(
         rows as usize,
@@ -102,9 +91,8 @@ pub extern "C" fn yelomawin_block_apply(
     correction: &mut [f64],
     answer: &mut [u64],
 ) -> u64
-    ensures { λ r. ⌜ r ≡ answerNumber (answerOf (blockApplyCall rows «block_size» (now (factors .entry)) (now (residual .entry)) (length (now (correction .entry))))) ⌝ }
-    ensures { λ _. ⌜ now (correction .exit) ≡ blockApplyLeft rows «block_size» (now (factors .entry)) (now (residual .entry)) (now (correction .entry)) ⌝ }
-    ensures { λ _. ⌜ now (answer .exit) ≡ received (answerValues (answerOf (blockApplyCall rows «block_size» (now (factors .entry)) (now (residual .entry)) (length (now (correction .entry)))))) (now (answer .entry)) ⌝ }
+    ensures { λ r. ⌜ handed r (now (correction .exit)) (now (answer .exit))
+        ≡ exportedBlockApply rows «block_size» (now (factors .entry)) (now (residual .entry)) (now (correction .entry)) (now (answer .entry)) ⌝ }
 {
     let a = block_apply::block_apply(
         rows as usize,
@@ -126,10 +114,8 @@ pub extern "C" fn yelomawin_group(
     work: &mut [u32],
     answer: &mut [u64],
 ) -> u64
-    ensures { λ r. ⌜ r ≡ groupingNumber (groupingAnswer (groupingCall nodes «group_size» (now (offsets .entry)) (now (neighbours .entry)) (length (now (ids .entry))) (length (now (work .entry))))) ⌝ }
-    ensures { λ _. ⌜ now (ids .exit) ≡ groupingLeft (groupingCall nodes «group_size» (now (offsets .entry)) (now (neighbours .entry)) (length (now (ids .entry))) (length (now (work .entry)))) (now (ids .entry)) ⌝ }
-    ensures { λ _. ⌜ now (work .exit) ≡ groupingWorkLeft (groupingCall nodes «group_size» (now (offsets .entry)) (now (neighbours .entry)) (length (now (ids .entry))) (length (now (work .entry)))) (now (work .entry)) ⌝ }
-    ensures { λ _. ⌜ now (answer .exit) ≡ received (groupingValues (groupingAnswer (groupingCall nodes «group_size» (now (offsets .entry)) (now (neighbours .entry)) (length (now (ids .entry))) (length (now (work .entry)))))) (now (answer .entry)) ⌝ }
+    ensures { λ r. ⌜ handed r (resultWork (now (ids .exit)) (now (work .exit))) (now (answer .exit))
+        ≡ exportedGroup nodes «group_size» (now (offsets .entry)) (now (neighbours .entry)) (now (ids .entry)) (now (work .entry)) (now (answer .entry)) ⌝ }
 {
     let a = aggregates::group(
         nodes as usize,
@@ -153,9 +139,8 @@ pub extern "C" fn yelomawin_estimate(
     work: &mut [f64],
     answer: &mut [u64],
 ) -> u64
-    ensures { λ r. ⌜ r ≡ estimateNumber (estimateAnswer (estimateCall (csr rows cols (now («row_ptr» .entry)) (now («col_idx» .entry)) (now (values .entry))) (now (diagonal .entry)) (length (now (work .entry))))) ⌝ }
-    ensures { λ _. ⌜ now (work .exit) ≡ estimateWorkLeft (csr rows cols (now («row_ptr» .entry)) (now («col_idx» .entry)) (now (values .entry))) (now (diagonal .entry)) (now (work .entry)) ⌝ }
-    ensures { λ _. ⌜ now (answer .exit) ≡ received (estimateValues (estimateAnswer (estimateCall (csr rows cols (now («row_ptr» .entry)) (now («col_idx» .entry)) (now (values .entry))) (now (diagonal .entry)) (length (now (work .entry)))))) (now (answer .entry)) ⌝ }
+    ensures { λ r. ⌜ handed r (now (work .exit)) (now (answer .exit))
+        ≡ exportedEstimate (csr rows cols (now («row_ptr» .entry)) (now («col_idx» .entry)) (now (values .entry))) (now (diagonal .entry)) (now (work .entry)) (now (answer .entry)) ⌝ }
 {
     let a = spectral_radius::estimate(
         rows as usize,
@@ -188,9 +173,9 @@ pub extern "C" fn yelomawin_setup(
     work_floats: &mut [f64],
     record: &mut [u64],
 ) -> u64
-    ensures { λ r. ⌜ r ≡ whether (arePolicies aggregation basis «coarse_policy») (setupNumber (setupAnswer (setupOf (csr rows cols (now («row_ptr» .entry)) (now («col_idx» .entry)) (now (values .entry))) (optionsOf «block_size» «group_size» aggregation basis «coarse_policy») (lengthsOf (lentOf (now («setup_ints» .entry)) (now («setup_floats» .entry)) (now («work_ints» .entry)) (now («work_floats» .entry))))))) noPolicy ⌝ }
-    ensures { λ _. ⌜ lentOf (now («setup_ints» .exit)) (now («setup_floats» .exit)) (now («work_ints» .exit)) (now («work_floats» .exit)) ≡ whether (arePolicies aggregation basis «coarse_policy») (setupLeft (setupOf (csr rows cols (now («row_ptr» .entry)) (now («col_idx» .entry)) (now (values .entry))) (optionsOf «block_size» «group_size» aggregation basis «coarse_policy») (lengthsOf (lentOf (now («setup_ints» .entry)) (now («setup_floats» .entry)) (now («work_ints» .entry)) (now («work_floats» .entry))))) (lentOf (now («setup_ints» .entry)) (now («setup_floats» .entry)) (now («work_ints» .entry)) (now («work_floats» .entry)))) (lentOf (now («setup_ints» .entry)) (now («setup_floats» .entry)) (now («work_ints» .entry)) (now («work_floats» .entry))) ⌝ }
-    ensures { λ _. ⌜ now («record» .exit) ≡ received (whether (arePolicies aggregation basis «coarse_policy») (setupValues (setupAnswer (setupOf (csr rows cols (now («row_ptr» .entry)) (now («col_idx» .entry)) (now (values .entry))) (optionsOf «block_size» «group_size» aggregation basis «coarse_policy») (lengthsOf (lentOf (now («setup_ints» .entry)) (now («setup_floats» .entry)) (now («work_ints» .entry)) (now («work_floats» .entry))))))) []) (now («record» .entry)) ⌝ }
+    ensures { λ r. ⌜ handed r (lentOf (now («setup_ints» .exit)) (now («setup_floats» .exit)) (now («work_ints» .exit)) (now («work_floats» .exit))) (now («record» .exit))
+        ≡ exportedSetup (csr rows cols (now («row_ptr» .entry)) (now («col_idx» .entry)) (now (values .entry))) «block_size» «group_size» aggregation basis «coarse_policy»
+        (lentOf (now («setup_ints» .entry)) (now («setup_floats» .entry)) (now («work_ints» .entry)) (now («work_floats» .entry))) (now («record» .entry)) ⌝ }
 {
     if record::are_policies(aggregation, basis, coarse_policy) {
         let g = record::aggregation_of(aggregation);
@@ -233,10 +218,8 @@ pub extern "C" fn yelomawin_apply(
     work: &mut [f64],
     answer: &mut [u64],
 ) -> u64
-    ensures { λ r. ⌜ r ≡ whether (isRecord (now («record» .entry))) (answerNumber (answerOf (applyCall (recordOf (now («record» .entry))) (now («setup_ints» .entry)) (now («setup_floats» .entry)) (now (residual .entry)) (length (now (correction .entry))) (length (now (work .entry)))))) 26 ⌝ }
-    ensures { λ _. ⌜ now (correction .exit) ≡ whether (isRecord (now («record» .entry))) (applyLeft (recordOf (now («record» .entry))) (now («setup_ints» .entry)) (now («setup_floats» .entry)) (now (residual .entry)) (now (correction .entry)) (length (now (work .entry)))) (now (correction .entry)) ⌝ }
-    ensures { λ _. ⌜ now (work .exit) ≡ whether (isRecord (now («record» .entry))) (applyWorkLeft (recordOf (now («record» .entry))) (now («setup_ints» .entry)) (now («setup_floats» .entry)) (now (residual .entry)) (length (now (correction .entry))) (now (work .entry))) (now (work .entry)) ⌝ }
-    ensures { λ _. ⌜ now (answer .exit) ≡ received (whether (isRecord (now («record» .entry))) (answerValues (answerOf (applyCall (recordOf (now («record» .entry))) (now («setup_ints» .entry)) (now («setup_floats» .entry)) (now (residual .entry)) (length (now (correction .entry))) (length (now (work .entry)))))) []) (now (answer .entry)) ⌝ }
+    ensures { λ r. ⌜ handed r (resultWork (now (correction .exit)) (now (work .exit))) (now (answer .exit))
+        ≡ exportedApply (now («record» .entry)) (now («setup_ints» .entry)) (now («setup_floats» .entry)) (now (residual .entry)) (now (correction .entry)) (now (work .entry)) (now (answer .entry)) ⌝ }
 {
     if record::is_record(record) {
         let s = record::record_of(record);

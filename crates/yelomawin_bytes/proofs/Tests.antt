@@ -1,91 +1,24 @@
--- What tests that held together tell one by one.
-use Prim.Native.Nat.{ℕ}
+-- What tests that held tell, together and one by one.
 use mathlib.Core.Path.{_≡_, refl}
-use mathlib.Core.Bool.{Bool, true, false, _&&_}
-use Rattle.byte_lists.specs.Bytes.{readable, writable}
-use Rattle.yelomawin_bytes.specs.Calls.{matrixFits, graphFits, solveFits, estimateFits, wordsFit, groupsFit, setupFits, keptFits}
+use mathlib.Core.Bool.{Bool, true, false, cond, _&&_}
 
-first : (a b : Bool) → (a && b) ≡ true → a ≡ true
-first true b e = refl
-first false b e = e
+pub two : (a b : Bool) → (a && b) ≡ true → (a ≡ true) × (b ≡ true)
+two true b e = (refl, e)
+two false true e = (e, refl)
+two false false e = (e, e)
 
-second : (a b : Bool) → (a && b) ≡ true → b ≡ true
-second true b e = e
-second false true e = refl
-second false false e = e
+pub three : (a b c : Bool) → (a && (b && c)) ≡ true → (a ≡ true) × ((b ≡ true) × (c ≡ true))
+three a b c e = let t = two a (b && c) e in (t .0, two b c (t .1))
 
-module _ (r c v rr cr vr : ℕ) (e : matrixFits r c v rr cr vr ≡ true) where
-  pub rows-fit : readable 4 r rr ≡ true
-  unfolding matrixFits
-  rows-fit = first (readable 4 r rr) (readable 4 c cr && readable 8 v vr) e
+pub four : (a b c d : Bool) → (a && (b && (c && d))) ≡ true → (a ≡ true) × ((b ≡ true) × ((c ≡ true) × (d ≡ true)))
+four a b c d e = let t = two a (b && (c && d)) e in (t .0, three b c d (t .1))
 
-  pub cols-fit : readable 4 c cr ≡ true
-  unfolding matrixFits
-  cols-fit = first (readable 4 c cr) (readable 8 v vr) (second (readable 4 r rr) (readable 4 c cr && readable 8 v vr) e)
+pub both : {a b : Bool} → a ≡ true → b ≡ true → (a && b) ≡ true
+both e h = rw (e, h)
 
-  pub values-fit : readable 8 v vr ≡ true
-  unfolding matrixFits
-  values-fit = second (readable 4 c cr) (readable 8 v vr) (second (readable 4 r rr) (readable 4 c cr && readable 8 v vr) e)
+-- where the lists fit, what is told of the call holds
+pub fitted : {A : Type 0} {l x : A} {b : Bool} (y : A) → b ≡ true → l ≡ x → l ≡ cond b x y
+fitted y e h = rw (e) h
 
-module _ (a b c d : ℕ) where
-  pub offsets-fit : graphFits a b c d ≡ true → readable 4 a c ≡ true
-  unfolding graphFits
-  offsets-fit e = first (readable 4 a c) (readable 4 b d) e
-
-  pub neighbours-fit : graphFits a b c d ≡ true → readable 4 b d ≡ true
-  unfolding graphFits
-  neighbours-fit e = second (readable 4 a c) (readable 4 b d) e
-
-  pub factors-fit : solveFits a b c d ≡ true → readable 8 a c ≡ true
-  unfolding solveFits
-  factors-fit e = first (readable 8 a c) (readable 8 b d) e
-
-  pub residual-fit : solveFits a b c d ≡ true → readable 8 b d ≡ true
-  unfolding solveFits
-  residual-fit e = second (readable 8 a c) (readable 8 b d) e
-
-  pub diagonal-fits : estimateFits a b c d ≡ true → readable 8 a b ≡ true
-  unfolding estimateFits
-  diagonal-fits e = first (readable 8 a b) (writable 8 c d) e
-
-  pub estimate-answer-fits : estimateFits a b c d ≡ true → writable 8 c d ≡ true
-  unfolding estimateFits
-  estimate-answer-fits e = second (readable 8 a b) (writable 8 c d) e
-
-  pub list-fits : wordsFit a b c d ≡ true → writable 8 a b ≡ true
-  unfolding wordsFit
-  list-fits e = first (writable 8 a b) (writable 8 c d) e
-
-  pub answer-fits : wordsFit a b c d ≡ true → writable 8 c d ≡ true
-  unfolding wordsFit
-  answer-fits e = second (writable 8 a b) (writable 8 c d) e
-
-  pub ids-fit : groupsFit a b c d ≡ true → writable 4 a b ≡ true
-  unfolding groupsFit
-  ids-fit e = first (writable 4 a b) (writable 8 c d) e
-
-  pub group-answer-fits : groupsFit a b c d ≡ true → writable 8 c d ≡ true
-  unfolding groupsFit
-  group-answer-fits e = second (writable 4 a b) (writable 8 c d) e
-
-module _ (a b c d i j : ℕ) (e : setupFits a b c d i j ≡ true) where
-  pub setup-ints-fit : writable 4 a b ≡ true
-  unfolding setupFits
-  setup-ints-fit = first (writable 4 a b) (wordsFit c d i j) e
-
-  pub setup-words-fit : wordsFit c d i j ≡ true
-  unfolding setupFits
-  setup-words-fit = second (writable 4 a b) (wordsFit c d i j) e
-
-module _ (a b c d i j k l : ℕ) (e : keptFits a b c d i j k l ≡ true) where
-  pub record-fits : readable 8 a i ≡ true
-  unfolding keptFits
-  record-fits = first (readable 8 a i) (readable 4 b j && solveFits c d k l) e
-
-  pub kept-ints-fit : readable 4 b j ≡ true
-  unfolding keptFits
-  kept-ints-fit = first (readable 4 b j) (solveFits c d k l) (second (readable 8 a i) (readable 4 b j && solveFits c d k l) e)
-
-  pub kept-solve-fits : solveFits c d k l ≡ true
-  unfolding keptFits
-  kept-solve-fits = second (readable 4 b j) (solveFits c d k l) (second (readable 8 a i) (readable 4 b j && solveFits c d k l) e)
+pub fitted-where : {A : Type 0} {l : A} {b : Bool} (made : Bool) (x y : A) → b ≡ true → l ≡ cond made x y → l ≡ cond (b && made) x y
+fitted-where made x y e h = rw (e) h

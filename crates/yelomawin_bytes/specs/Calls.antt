@@ -1,43 +1,53 @@
--- The calls on byte lists. An input is a list of bytes with a typed list lent as room for what it spells; a result is a typed list, lent as room
--- and as long as the call is to believe it is, with a list of bytes that receives the whole of it afterwards.
+-- The calls on byte lists: inputs are read from their bytes into typed rooms, the call on typed lists is made, and what it yields is written into bytes.
+-- An input is bytes, with room for the numbers that they spell; a result is room, as long as the call is to believe it is, with bytes for all of it.
 use Prim.Native.Nat.{ℕ}
-use mathlib.Core.Bool.{Bool, _&&_}
+use mathlib.Core.Bool.{Bool, cond, _&&_}
 use mathlib.Core.List.{List}
-use Rattle.byte_lists.specs.Bytes.{intsOf, floatsOf, readable, writable}
+use lib.Ieee.{Float}
+use lib.ListN.{length, replicate}
+use Rattle.byte_lists.specs.Bytes.{intsOf, floatsOf, bytesOfInts, bytesOfNumbers, readable, writable}
+use Rattle.definitions.specs.Lists.{padded}
+use Rattle.definitions.specs.Refusal.{Outcome, done, _>>=_, resultLeft}
 use Rattle.definitions.specs.Matrix.{Matrix, csr}
+use Rattle.definitions.specs.Groups.{Grouping, groupingLeft}
+use Rattle.yelomawin.specs.Boundary.{received}
 
--- a call whose byte lists are not whole numbers, or that lacks room somewhere, answers this, a number that no cause has, and leaves every list as it was
+-- a call with a byte list that is not of whole numbers, or that lacks room, answers this, a number that no cause has, and leaves every list as it was
 abbrev pub misfit : ℕ
 misfit = 254
 
--- the matrix that byte lists spell
+-- an input's bytes and its room, a result's room and its bytes, for numbers of w bytes
+abbrev pub reads : {A : Type 0} → ℕ → List ℕ → List A → Bool
+reads w bytes room = readable w (length bytes) (length room)
+
+abbrev pub writes : {A : Type 0} → ℕ → List A → List ℕ → Bool
+writes w room bytes = writable w (length room) (length bytes)
+
+-- the matrix that byte lists spell, and whether they fit
 abbrev pub matrixOf : ℕ → ℕ → List ℕ → List ℕ → List ℕ → Matrix
 matrixOf rows cols rowPtr colIdx values = csr rows cols (intsOf rowPtr) (intsOf colIdx) (floatsOf values)
 
--- by the lengths: the byte lists of a matrix are whole numbers, and each has its room
-unfoldable pub matrixFits : ℕ → ℕ → ℕ → ℕ → ℕ → ℕ → Bool
-matrixFits rowPtr colIdx values rowRoom colRoom valueRoom = readable 4 rowPtr rowRoom && (readable 4 colIdx colRoom && readable 8 values valueRoom)
+abbrev pub matrixFits : List ℕ → List ℕ → List ℕ → List ℕ → List ℕ → List Float → Bool
+matrixFits rowPtr colIdx values rowRoom colRoom valueRoom = reads 4 rowPtr rowRoom && (reads 4 colIdx colRoom && reads 8 values valueRoom)
 
--- the same for the lists of a graph, of a solve with block factors, and of an estimate's diagonal with its answer
-unfoldable pub graphFits : ℕ → ℕ → ℕ → ℕ → Bool
-graphFits offsets neighbours offsetRoom neighbourRoom = readable 4 offsets offsetRoom && readable 4 neighbours neighbourRoom
+-- ---- what a list holds afterwards
 
-unfoldable pub solveFits : ℕ → ℕ → ℕ → ℕ → Bool
-solveFits factors residual factorRoom residualRoom = readable 8 factors factorRoom && readable 8 residual residualRoom
+-- f of what it held; or what it held, where the call is not made
+abbrev pub after : {A : Type 0} → Bool → (List A → List A) → List A → List A
+after made f lent = cond made (f lent) lent
 
-unfoldable pub estimateFits : ℕ → ℕ → ℕ → ℕ → Bool
-estimateFits diagonal diagonalRoom answer answerBytes = readable 8 diagonal diagonalRoom && writable 8 answer answerBytes
+-- room that is written before anything is known of the answer, an input's or an answer's: zeros
+abbrev pub emptied : {A : Type 0} → A → List A → List A
+emptied z room = replicate (length room) z
 
--- by the lengths: a result list and the answer's values, each with bytes enough
-unfoldable pub wordsFit : ℕ → ℕ → ℕ → ℕ → Bool
-wordsFit list bytes answer answerBytes = writable 8 list bytes && writable 8 answer answerBytes
+-- a result's bytes are a result list of the call, whose elements are the bytes of the result's numbers
+unfoldable pub bytesLeft : {A : Type 0} → (A → List ℕ) → Outcome A → List ℕ → List ℕ
+bytesLeft spell o bytes = resultLeft 0 (o >>= (λ x. done (spell x))) bytes
 
-unfoldable pub groupsFit : ℕ → ℕ → ℕ → ℕ → Bool
-groupsFit ids bytes answer answerBytes = writable 4 ids bytes && writable 8 answer answerBytes
+-- and those of group ids are one of grouping alone
+unfoldable pub idsLeft : Outcome Grouping → List ℕ → List ℕ
+idsLeft g bytes = groupingLeft (g >>= (λ x. done (record { ids = bytesOfInts (x .ids); count = x .count }))) bytes
 
-unfoldable pub setupFits : ℕ → ℕ → ℕ → ℕ → ℕ → ℕ → Bool
-setupFits ints intsBytes floats floatsBytes values valuesBytes = writable 4 ints intsBytes && wordsFit floats floatsBytes values valuesBytes
-
--- by the lengths: a setup's record and lists and a residual are whole numbers, and each has its room
-unfoldable pub keptFits : ℕ → ℕ → ℕ → ℕ → ℕ → ℕ → ℕ → ℕ → Bool
-keptFits values ints floats residual valueRoom intRoom floatRoom residualRoom = readable 8 values valueRoom && (readable 4 ints intRoom && solveFits floats residual floatRoom residualRoom)
+-- an answer's bytes: its values, as far as its room has place for them, and zeros
+unfoldable pub answerLeft : List ℕ → List ℕ → List ℕ → List ℕ
+answerLeft values room bytes = padded 0 (length bytes) (bytesOfNumbers (received values room))
