@@ -177,12 +177,12 @@ pub fn zero_numbers(list: &mut [u64])
     }
 }
 
-fn zero_bytes(list: &mut [u8])
-    ensures { λ _. ⌜ now (list .exit) ≡ replicate (length (now (list .entry))) 0 ⌝ }
+fn zero_bytes(bytes: &mut [u8])
+    ensures { λ _. ⌜ now (bytes .exit) ≡ replicate (length (now (bytes .entry))) 0 ⌝ }
 {
     let mut i: usize = 0;
-    while i < list.len() {
-        list[i] = 0;
+    while i < bytes.len() {
+        bytes[i] = 0;
         i += 1;
     }
 }

@@ -157,13 +157,13 @@ setup-left true s lent left e = (ap (λ x. x .ints) e, ap (λ x. x .floats) e, a
 setup-left false s lent left e = (ap (λ x. x .ints) e, ap (λ x. x .floats) e, ap (λ x. x .workInts) e, ap (λ x. x .workFloats) e)
 
 -- grouping alone leaves all after every refusal
-pub ids-out : (number : ℕ) (g : Outcome Grouping) (lent : List ℕ) {room room' bytes bytes' : List ℕ} → Handed 0 bytesOfInts (not (eqb number 0)) room bytes room' bytes' → number ≡ groupingNumber (groupingAnswer g) → room ≡ groupingLeft g lent → length room ≡ length lent → writable 4 (length lent) (length bytes) ≡ true
-    → (room' ≡ groupingWorkLeft g lent) × (bytes' ≡ idsLeft g bytes)
+pub ids-out : (number : ℕ) (g : Outcome Grouping) (lent : List ℕ) {kept : Bool} {room room' bytes bytes' : List ℕ} → Handed 0 bytesOfInts kept room bytes room' bytes' → number ≡ groupingNumber (groupingAnswer g) → kept ≡ not (eqb number 0) → room ≡ groupingLeft g lent
+    → length room ≡ length lent → writable 4 (length lent) (length bytes) ≡ true → (room' ≡ groupingWorkLeft g lent) × (bytes' ≡ idsLeft g bytes)
 unfolding groupingNumber groupingAnswer groupingLeft groupingWorkLeft idsLeft _>>=_ numberIn leavesAll resultLeft bytesLeft
-ids-out number (done x) lent {room} {room'} {bytes} {bytes'} h n e same fit =
-    handed 0 4 bytesOfInts (λ (y : Grouping). y .ids) no-ints ints-padded (not (eqb number 0)) lent room room' bytes bytes' same (rw (same) (writable-holds 4 (length lent) (length bytes) (omega arith) fit)) h (done x) (rw (n)) e
-ids-out number (refused r) lent {room} {room'} {bytes} {bytes'} h n e same fit =
-    by-cause 0 4 bytesOfInts (λ (y : Grouping). y .ids) no-ints ints-padded (not (eqb number 0)) lent room room' bytes bytes' same (rw (same) (writable-holds 4 (length lent) (length bytes) (omega arith) fit)) h true (rw (n, left ℕ 0 lent r .2)) e
+ids-out number (done x) lent {kept} {room} {room'} {bytes} {bytes'} h n k e same fit =
+    handed 0 4 bytesOfInts (λ (y : Grouping). y .ids) no-ints ints-padded kept lent room room' bytes bytes' same (rw (same) (writable-holds 4 (length lent) (length bytes) (omega arith) fit)) h (done x) (k ∙ rw (n)) e
+ids-out number (refused r) lent {kept} {room} {room'} {bytes} {bytes'} h n k e same fit =
+    by-cause 0 4 bytesOfInts (λ (y : Grouping). y .ids) no-ints ints-padded kept lent room room' bytes bytes' same (rw (same) (writable-holds 4 (length lent) (length bytes) (omega arith) fit)) h true (k ∙ rw (n, left ℕ 0 lent r .2)) e
 
 pub answer-out : (values lent : List ℕ) {room room' bytes bytes' : List ℕ} → Handed 0 bytesOfNumbers false room bytes room' bytes' → room ≡ received values lent → length room ≡ length lent → (room' ≡ emptied 0 lent) × (bytes' ≡ answerLeft values lent bytes)
 unfolding answerLeft

@@ -11,16 +11,16 @@ use Rattle.byte_lists.proofs.zero_bytes.Statement.{statement}
 use Rattle.byte_lists.proofs.zero_bytes.Tie as tie
 
 abbrev Inv-loop : tie.InvT-loop
-Inv-loop list₀ i₀ list i = (i ≤ length list₀) × (length list ≡ length list₀) × (list ≡ tab (λ _. 0) i ++ drop i list₀)
+Inv-loop bytes₀ i₀ bytes i = (i ≤ length bytes₀) × (length bytes ≡ length bytes₀) × (bytes ≡ tab (λ _. 0) i ++ drop i bytes₀)
 
 abbrev μ-loop : tie.MeasureT-loop
-μ-loop list₀ i₀ list i = length list₀ - i
+μ-loop bytes₀ i₀ bytes i = length bytes₀ - i
 
 loop-holds : tie.Need-loop-holds Inv-loop μ-loop
 loop-holds c = (omega arith, refl, tab-none _ _)
 
-slice-write-list : tie.Need-slice-write-list Inv-loop μ-loop
-slice-write-list c = omega arith
+slice-write-bytes : tie.Need-slice-write-bytes Inv-loop μ-loop
+slice-write-bytes c = omega arith
 
 add-i : tie.Need-add-i Inv-loop μ-loop
 add-i c = search needs
@@ -30,20 +30,20 @@ loop-less c = omega arith
 
 loop-again : tie.Need-loop-again Inv-loop μ-loop
 loop-again c =
-    let d = c .before .before .args .list .now in
+    let d = c .before .before .args .bytes .now in
     let l = c .before .loop in
     let h : l .i < length d = omega arith in
-    (omega arith, simp length-set (l .inv .1), tab-more (λ _. 0) (l .i) (l .list) d 0 h (l .inv .2) refl)
+    (omega arith, simp length-set (l .inv .1), tab-more (λ _. 0) (l .i) (l .bytes) d 0 h (l .inv .2) refl)
 
 same-length : tie.Need-same-length Inv-loop μ-loop
 same-length c = omega arith
 
 returns : tie.Need-returns Inv-loop μ-loop
 returns c =
-    let d = c .before .before .args .list .now in
+    let d = c .before .before .args .bytes .now in
     let l = c .before .loop in
     let h : l .i ≡ length d = omega arith in
-    tab-cleared 0 (l .i) (l .list) d h (l .inv .2)
+    tab-cleared 0 (l .i) (l .bytes) d h (l .inv .2)
 
 pub zero-bytes-spec : {M : Type 1} → statement M
 zero-bytes-spec =
@@ -52,7 +52,7 @@ zero-bytes-spec =
     Inv-loop
     μ-loop
     loop-holds
-    slice-write-list
+    slice-write-bytes
     add-i
     loop-less
     loop-again

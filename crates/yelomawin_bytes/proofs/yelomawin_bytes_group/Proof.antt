@@ -81,7 +81,7 @@ returns c =
     let a = at-start .args in
     let q = sym (at-tests .before .ints .ensures) ∙ at-tests .if2 .taken in
     let t = rw (ints-front _ _ _ (at-read .before .before .before .read-graph .ensures .0), ints-front _ _ _ (at-read .before .before .before .read-graph .ensures .1)) at (two-parts (at-call .before .yelomawin-group .ensures)) in
-    let out = ids-out _ _ (a .ids-room .now) (at-hand-ints .hand-ints .ensures) (t .0) (t .1 .0) (at-call .ids-room .given) (two (writes 4 (a .ids-room .now) (a .ids .now)) (writes 8 (a .answer-room .now) (a .answer .now)) q .0) in
+    let out = ids-out _ _ (a .ids-room .now) (at-hand-ints .hand-ints .ensures) (t .0) refl (t .1 .0) (at-call .ids-room .given) (two (writes 4 (a .ids-room .now) (a .ids .now)) (writes 8 (a .answer-room .now) (a .answer .now)) q .0) in
     let told = answer-out _ (a .answer-room .now) (at-hand-answer .hand-answer .ensures) (t .1 .1 .1) (at-answer-room .answer-room .given) in
     rw (sym (at-tests .before .before .before .graph .ensures) ∙ at-tests .before .before .if1 .taken, q) (
       t .0,

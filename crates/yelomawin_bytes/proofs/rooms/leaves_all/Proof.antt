@@ -12,7 +12,7 @@ returns c = rw (c .if1 .taken)
 
 returns-2 : tie.Need-returns-2
 unfolding leavesAll
-returns-2 c = let n = c .before .before .args .number in let h : 1 ≤ n = omega (arith, c .before .if1 .left) in rw (le-leb 1 n h, le-leb n 13 (c .if2 .taken))
+returns-2 c = let n = c .before .before .args .number in let h : 1 ≤ n = omega (arith, c .before .if1 .left) in let k : n ≤ 13 = omega arith in rw (le-leb 1 n h, le-leb n 13 k)
 
 returns-3 : tie.Need-returns-3
 unfolding leavesAll
