@@ -19,7 +19,9 @@
  *   26 record and lists do not fit              27 bad neighbour offsets
  *   28 a neighbour is no node                  255 a number that is no policy (setup only)
  * What stands after the colon is returned with the number: in `answer`, by a refused setup in `record`. An accepted call returns there
- * the results that are numbers. Either way as many as the list has room for, and zeros after them. Rows count from 0.
+ * the results that are numbers. Either way as many as the list has room for, and zeros after them. Rows count from 0. `answer` and
+ * `record` are how a function returns more than one number, and no lists lent to the calculation: they are written after every call,
+ * also where a refusal keeps every lent list.
  *
  * A list is a pointer and its length, floats in the machine's order. A pointer is not null, even to no elements, and aligned for its
  * elements; a list lent for writing overlaps no other list of the call. In a list a NaN may come and go with any pattern; in `answer` it is 7FF8000000000000.
@@ -49,7 +51,7 @@ enum {
     YELOMAWIN_RECORD /* how many there are */
 };
 
-/* The square root, to the nearest value, ties to even. */
+/* The square root, to the nearest value, ties to even; NaN, of whatever pattern, for a NaN or a negative number. */
 double yelomawin_root(double x);
 
 /* Causes 1 to 8 of a matrix in compressed rows. */
@@ -95,7 +97,8 @@ uint64_t yelomawin_setup(uint64_t rows, uint64_t cols,
     uint64_t *record, size_t record_len);
 
 /* The correction of a residual, from a setup's record and lists; `work` needs 2 c elements. Causes 25 (residual, then correction), 26,
- * 13; before them 26 for a list that is no record: one of fewer numbers, or with a number that is no policy. */
+ * 13; before them 26 for a list that is no record: one of fewer numbers, or with a number that is no policy. Of such a list nothing
+ * can be read, not even the rows that 25 would expect. */
 uint64_t yelomawin_apply(const uint64_t *record, size_t record_len, const uint32_t *setup_ints, size_t setup_ints_len,
     const double *setup_floats, size_t setup_floats_len, const double *residual, size_t residual_len,
     double *correction, size_t correction_len, double *work, size_t work_len, uint64_t *answer, size_t answer_len);

@@ -137,7 +137,7 @@ pub fn setups(a: &Csr, coarse: usize) -> Vec<Row> {
             let k = probe::kept(&p, &m);
             let (ints, floats) = k.lists();
             assert!(ints == s.lists().0 && same(&floats, s.lists().1), "setups differ");
-            assert_eq!(&expected::record(a, &theirs, &k), s.record(), "records differ");
+            assert_eq!(&expected::record(a, &theirs, &k), s.record_numbers(), "records differ");
             let size = format!("{} rows, coarse {}", counted(a.rows), counted(k.coarse));
             let row = Row::new(format!("setup, {name}, {how}"), size.clone(), a.rows, rust, Some(rust + checks), ours);
             out.push(Row { coarse: Some(coarse), ..row });

@@ -11,7 +11,7 @@ use Rattle.definitions.specs.Record.{aggregationOf, basisOf, policyOf}
 unfoldable pub received : List ℕ → List ℕ → List ℕ
 received values lent = take (length lent) (padded 0 (length lent) values)
 
--- a call with a number that is no policy answers this, a number that no cause has, and leaves every list as it was
+-- a call with a number that is no policy answers this, a number that no cause has: every lent list is kept, and the record, a return value, receives zeros
 abbrev pub noPolicy : ℕ
 noPolicy = 255
 

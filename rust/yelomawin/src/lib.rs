@@ -34,6 +34,7 @@ pub mod ffi;
 mod grouping;
 mod lengths;
 mod matrix;
+mod record;
 mod refusal;
 mod setup;
 
@@ -41,8 +42,9 @@ pub use blocks::BlockJacobi;
 pub use grouping::{group, group_in};
 pub use lengths::{Lengths, lengths};
 pub use matrix::{Estimate, Matrix};
+pub use record::{Layout, RECORD, Record};
 pub use refusal::Refusal;
-pub use setup::{Aggregation, Basis, CoarsePolicy, Options, RECORD, Setup, Workspace};
+pub use setup::{Aggregation, Basis, CoarsePolicy, Options, Setup, Workspace};
 
 /// The library's limits: larger numbers it refuses.
 pub const MOST_ROWS: usize = 1 << 20;

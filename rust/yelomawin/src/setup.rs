@@ -1,6 +1,7 @@
 //! The two-level preconditioner: setup and apply.
 use crate::refusal::{Refusal, answered};
-use crate::{MOST_BLOCK, MOST_ROWS, Matrix, ffi, lengths, room};
+use crate::record::RECORD;
+use crate::{Layout, MOST_BLOCK, MOST_ROWS, Matrix, Record, ffi, lengths, room};
 use std::mem::take;
 
 /// How nodes are grouped.
@@ -42,9 +43,6 @@ pub struct Options {
     pub coarse_policy: CoarsePolicy,
 }
 
-/// How many numbers the record has.
-pub const RECORD: usize = 15;
-
 /// Lists that setups work in, kept from one setup to the next. A setup that is no longer needed gives its lists back (`recycle`):
 /// then further setups of the size allocate nothing.
 ///
@@ -85,7 +83,9 @@ impl Workspace {
 /// A built setup: its record, and the two lists that an apply reads.
 #[derive(Clone, Debug)]
 pub struct Setup {
-    record: [u64; RECORD],
+    record: Record,
+    /// As the library handed it out, and an apply takes it.
+    numbers: [u64; RECORD],
     ints: Vec<u32>,
     floats: Vec<f64>,
     work: Vec<f64>,
@@ -108,11 +108,13 @@ impl Setup {
             Err(Refusal::CoarseListTooShort { dimension }) => build_with(a, o, w, dimension as usize),
             answer => answer,
         };
-        let record = built?;
-        let mut setup = Setup { record, ints: take(&mut w.setup_ints), floats: take(&mut w.setup_floats), work: take(&mut w.scratch) };
-        let ((ints, floats), coarse) = (setup.used(), setup.coarse_dimension());
-        setup.ints.truncate(ints);
-        setup.floats.truncate(floats);
+        let numbers = built?;
+        let record = Record::of(&numbers).expect("the library hands out numbers of policies");
+        let mut setup =
+            Setup { record, numbers, ints: take(&mut w.setup_ints), floats: take(&mut w.setup_floats), work: take(&mut w.scratch) };
+        let (layout, coarse) = (setup.layout(), setup.coarse_dimension());
+        setup.ints.truncate(layout.columns.end);
+        setup.floats.truncate(layout.coarse.end);
         room(&mut setup.work, 2 * coarse);
         w.coarse = Some(coarse);
         Ok(setup)
@@ -133,7 +135,7 @@ impl Setup {
         // Sound: every list is lent as a Rust slice with its length; those for writing are borrowed for this call alone.
         let number = unsafe {
             ffi::yelomawin_apply(
-                self.record.as_ptr(), self.record.len(), self.ints.as_ptr(), self.ints.len(), self.floats.as_ptr(), self.floats.len(),
+                self.numbers.as_ptr(), self.numbers.len(), self.ints.as_ptr(), self.ints.len(), self.floats.as_ptr(), self.floats.len(),
                 residual.as_ptr(), residual.len(), correction.as_mut_ptr(), correction.len(),
                 work.as_mut_ptr(), work.len(), answer.as_mut_ptr(), answer.len(),
             )
@@ -141,65 +143,67 @@ impl Setup {
         answered(number, &answer)
     }
 
+    /// Everything that the setup says of itself, by names.
+    pub fn record(&self) -> &Record {
+        &self.record
+    }
+    /// Where its parts stand in `lists`.
+    pub fn layout(&self) -> Layout {
+        self.record.layout()
+    }
     pub fn rows(&self) -> usize {
-        self.record[0] as usize
+        self.record.rows
     }
     pub fn entries(&self) -> usize {
-        self.record[1] as usize
+        self.record.entries
     }
     pub fn block_size(&self) -> usize {
-        self.record[2] as usize
+        self.record.block_size
     }
     pub fn group_size(&self) -> usize {
-        self.record[3] as usize
+        self.record.group_size
     }
     pub fn nodes(&self) -> usize {
-        self.record[4] as usize
+        self.record.nodes
     }
     pub fn groups(&self) -> usize {
-        self.record[5] as usize
+        self.record.groups
     }
     pub fn coarse_dimension(&self) -> usize {
-        self.record[6] as usize
+        self.record.coarse_dimension
     }
     /// How many weights a smoothed transfer has, else 0.
     pub fn transfers(&self) -> usize {
-        self.record[7] as usize
+        self.record.transfers
     }
     /// Whether an apply multiplies with the coarse inverse; else it solves with the factor.
     pub fn inverts(&self) -> bool {
-        self.record[10] == CoarsePolicy::ExplicitInverse as u64
+        self.record.coarse_policy == CoarsePolicy::ExplicitInverse
     }
     pub fn smoothed(&self) -> bool {
-        self.record[9] == Basis::JacobiSmoothed as u64
+        self.record.basis == Basis::JacobiSmoothed
     }
     pub fn damping_factor(&self) -> f64 {
-        f64::from_bits(self.record[11])
+        self.record.damping_factor
     }
     pub fn coarse_scale(&self) -> f64 {
-        f64::from_bits(self.record[12])
+        self.record.coarse_scale
     }
     /// The operator complexity as two counts: matrix entries and coarse entries together, and matrix entries alone.
     pub fn complexity(&self) -> (u64, u64) {
-        (self.record[13], self.record[14])
+        (self.record.complexity, self.record.baseline)
     }
     /// The group of each node.
     pub fn group_of_node(&self) -> &[u32] {
-        &self.ints[..self.nodes()]
+        &self.ints[self.layout().ids]
     }
-    /// The record's numbers, floats by their bits.
-    pub fn record(&self) -> &[u64; RECORD] {
-        &self.record
+    /// The record's numbers as they cross the boundary, floats by their bits.
+    pub fn record_numbers(&self) -> &[u64; RECORD] {
+        &self.numbers
     }
     /// The used integers (groups; transfer pointers and columns) and floats (block factors; transfer weights; coarse factor or inverse).
     pub fn lists(&self) -> (&[u32], &[f64]) {
         (&self.ints, &self.floats)
-    }
-
-    fn used(&self) -> (usize, usize) {
-        let (c, t) = (self.coarse_dimension(), self.transfers());
-        let coarse = if self.inverts() { c * c } else { c * (c + 1) / 2 };
-        (self.nodes() + if self.smoothed() { self.rows() + 1 + t } else { 0 }, self.rows() * self.block_size() + t + coarse)
     }
 }
 

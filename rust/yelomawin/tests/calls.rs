@@ -172,6 +172,34 @@ fn chains(scale: f64) -> (Vec<u32>, Vec<u32>, Vec<f64>) {
 }
 
 #[test]
+fn the_record_by_names_and_the_parts_in_their_places() {
+    let (row_ptr, col_idx, values) = chains(1.0);
+    let a = Matrix { rows: 600, cols: 600, row_ptr: &row_ptr, col_idx: &col_idx, values: &values };
+    for (basis, coarse_policy) in [(Basis::PiecewiseConstant, CoarsePolicy::FactorSolve), (Basis::JacobiSmoothed, CoarsePolicy::ExplicitInverse)] {
+        let setup = Setup::build(&a, &Options { block_size: 2, group_size: 30, basis, coarse_policy, ..options() }).unwrap();
+        let record = setup.record();
+        assert_eq!(&record.numbers(), setup.record_numbers());
+        assert_eq!(Record::of(setup.record_numbers()), Some(*record));
+        assert_eq!((record.basis, record.coarse_policy, record.nodes), (basis, coarse_policy, 300));
+        let (layout, (ints, floats)) = (setup.layout(), setup.lists());
+        assert!(ints[layout.ids.clone()].iter().all(|&id| (id as usize) < record.groups));
+        // The places follow one another and use up the lists.
+        assert_eq!([layout.ids.end, layout.pointers.end, layout.columns.end], [layout.pointers.start, layout.columns.start, ints.len()]);
+        assert_eq!([layout.factors.end, layout.weights.end, layout.coarse.end], [layout.weights.start, layout.coarse.start, floats.len()]);
+        if basis == Basis::JacobiSmoothed {
+            let pointers = &ints[layout.pointers.clone()];
+            assert_eq!((pointers.len(), pointers[0], pointers[600] as usize), (601, 0, record.transfers));
+            assert!(ints[layout.columns.clone()].iter().all(|&column| (column as usize) < record.coarse_dimension));
+        } else {
+            assert!(layout.pointers.is_empty() && layout.columns.is_empty() && layout.weights.is_empty());
+        }
+    }
+    let mut numbers = *Setup::build(&diag(), &options()).unwrap().record_numbers();
+    numbers[9] = 2;
+    assert_eq!(Record::of(&numbers), None);
+}
+
+#[test]
 fn lists_used_again_change_no_bit() {
     let mut w = Workspace::default();
     let mut places = Vec::new();
@@ -184,7 +212,7 @@ fn lists_used_again_change_no_bit() {
                 let o = Options { block_size: 2, group_size: 30, basis, coarse_policy, ..options() };
                 let mut fresh = Setup::build(&a, &o).unwrap();
                 let mut again = Setup::build_in(&a, &o, &mut w).unwrap();
-                assert_eq!(fresh.record(), again.record());
+                assert_eq!(fresh.record_numbers(), again.record_numbers());
                 let bits = |x: &[f64]| x.iter().map(|v| v.to_bits()).collect::<Vec<_>>();
                 assert_eq!(fresh.lists().0, again.lists().0);
                 assert_eq!(bits(fresh.lists().1), bits(again.lists().1));
