@@ -1,4 +1,5 @@
-// Compares yelomawin_root with the hardware's square root, bit for bit, and times both beside integer roots that use no table.
+// Compares yelomawin_root with the Rust's sqrt, which is the hardware's, bit for bit, holds both to published roots, and times both beside
+// integer roots that use no table.
 // Usage: root_bench compare COUNT [SEED]     exits with 1 at the first difference; all NaNs are alike
 //        root_bench time
 use std::hint::black_box;
@@ -140,7 +141,23 @@ fn placed(a: u64, r: &mut Random) -> u64 {
     ((e + up) << 52) + (m & DIGITS)
 }
 
+// Patterns in pairs, a number and its root, as crates/root_vectors has them.
+fn published() -> u64 {
+    let text = include_str!("../../crates/root_vectors/src/published.rt");
+    let digits = text.split("0x").skip(1).map(|t| t.chars().take_while(|c| c.is_ascii_hexdigit() || *c == '_').filter(|c| *c != '_').collect::<String>());
+    let patterns: Vec<u64> = digits.map(|d| u64::from_str_radix(&d, 16).unwrap()).collect();
+    for pair in patterns.chunks(2) {
+        let x = f64::from_bits(pair[0]);
+        if ours(x).to_bits() != pair[1] || x.sqrt().to_bits() != pair[1] {
+            println!("differs: root of {:016x}: {:016x}, hardware {:016x}, published {:016x}", pair[0], ours(x).to_bits(), x.sqrt().to_bits(), pair[1]);
+            exit(1);
+        }
+    }
+    patterns.len() as u64 / 2
+}
+
 fn compare(count: u64, seed: u64) {
+    println!("{} published roots are ours and the hardware's", published());
     let mut r = Random(seed);
     let mut c = Compared { count: 0, seed };
     // every exponent, with both ends of its significands and random ones, of both signs
@@ -161,8 +178,8 @@ fn compare(count: u64, seed: u64) {
         }
     }
     // both edges of every entry of the table, for even and odd exponents
-    for k in 256..1025u64 {
-        for a in [(k << 44) - 1, k << 44, (k << 44) + 1, (k << 44) + 2] {
+    for k in 64..257u64 {
+        for a in [(k << 46) - 1, k << 46, (k << 46) + 1, (k << 46) + 2] {
             if a >= 1 << 52 && a < 1 << 54 {
                 c.near(placed(a, &mut r));
             }

@@ -6,33 +6,33 @@ use crate::table::{Row, counted};
 use cases::{Csr, answers};
 use hybit_precond::{BlockJacobiPreconditioner, probe};
 
-// Links libsetup_stages.a, which `rt staticlib setup_stages` writes: each answers 0 where it is accepted.
+// Links libsetup_stages.a, which `rt staticlib setup_stages` writes: each answers 0 or the number of its cause.
 #[link(name = "setup_stages", kind = "static")]
 unsafe extern "C" {
-    fn stage_neighbours(
+    fn yelomawin_bench_neighbours(
         rows: u64, cols: u64,
         row_ptr: *const u32, row_ptr_len: usize, col_idx: *const u32, col_idx_len: usize, values: *const f64, values_len: usize,
         block_size: u64, strong: u64, base: u64, ints: *mut u32, ints_len: usize, floats: *mut f64, floats_len: usize,
     ) -> u64;
-    fn stage_transfer(
+    fn yelomawin_bench_transfer(
         rows: u64, cols: u64,
         row_ptr: *const u32, row_ptr_len: usize, col_idx: *const u32, col_idx_len: usize, values: *const f64, values_len: usize,
         block_size: u64, ids: *const u32, ids_len: usize, groups: u64, diagonal: *const f64, diagonal_len: usize, damping: f64,
         ints: *mut u32, ints_len: usize, floats: *mut f64, floats_len: usize,
     ) -> u64;
-    fn stage_constant_coarse(
+    fn yelomawin_bench_constant_coarse(
         rows: u64, cols: u64,
         row_ptr: *const u32, row_ptr_len: usize, col_idx: *const u32, col_idx_len: usize, values: *const f64, values_len: usize,
         block_size: u64, ids: *const u32, ids_len: usize, groups: u64, coarse: *mut f64, coarse_len: usize,
     ) -> u64;
-    fn stage_galerkin_coarse(
+    fn yelomawin_bench_galerkin_coarse(
         rows: u64, cols: u64,
         row_ptr: *const u32, row_ptr_len: usize, col_idx: *const u32, col_idx_len: usize, values: *const f64, values_len: usize,
         c: u64, transfer_ptr: *const u32, transfer_ptr_len: usize, transfer_idx: *const u32, transfer_idx_len: usize,
         weights: *const f64, weights_len: usize, ints: *mut u32, ints_len: usize, floats: *mut f64, floats_len: usize,
     ) -> u64;
-    fn stage_coarse_factor(c: u64, m: *const f64, m_len: usize, lower: *mut f64, lower_len: usize) -> u64;
-    fn stage_coarse_inverse(c: u64, lower: *const f64, lower_len: usize, inverse: *mut f64, inverse_len: usize) -> u64;
+    fn yelomawin_bench_coarse_factor(c: u64, m: *const f64, m_len: usize, lower: *mut f64, lower_len: usize) -> u64;
+    fn yelomawin_bench_coarse_inverse(c: u64, lower: *const f64, lower_len: usize, inverse: *mut f64, inverse_len: usize) -> u64;
 }
 
 macro_rules! lists {
@@ -62,7 +62,7 @@ pub fn neighbours(a: &Csr) -> (Vec<Row>, f64) {
     for (strong, name) in [(0u64, "Graph"), (1, "StrongGraph")] {
         let (rust, found, ours, answer) = both(
             || if strong == 0 { probe::graph(&m, nodes, BLOCK).unwrap() } else { probe::strong_graph(&m, nodes, BLOCK).unwrap() },
-            || lists!(stage_neighbours, a, BLOCK as u64, strong, base as u64, ints.as_mut_ptr(), ints.len(), floats.as_mut_ptr(), floats.len()),
+            || lists!(yelomawin_bench_neighbours, a, BLOCK as u64, strong, base as u64, ints.as_mut_ptr(), ints.len(), floats.as_mut_ptr(), floats.len()),
         );
         assert_eq!(answer, 0);
         let (offsets, listed) = ::lent::flat(&found);
@@ -104,7 +104,7 @@ pub fn stages(a: &Csr, coarse: usize, graph: f64) -> Vec<Row> {
             let damping = a.estimate_in(&diagonal, &mut work).unwrap().damping_factor;
             let (k, l) = (2 * n + e + 1 + 2 * c, n + e + c);
             lists!(
-                stage_transfer, a, BLOCK as u64, ids.as_ptr(), ids.len(), groups as u64, diagonal.as_ptr(), n, damping,
+                yelomawin_bench_transfer, a, BLOCK as u64, ids.as_ptr(), ids.len(), groups as u64, diagonal.as_ptr(), n, damping,
                 ints.as_mut_ptr(), k, floats.as_mut_ptr(), l
             )
         },
@@ -124,7 +124,7 @@ pub fn stages(a: &Csr, coarse: usize, graph: f64) -> Vec<Row> {
         },
         || {
             lists!(
-                stage_galerkin_coarse, a, c as u64, pointers.as_ptr(), n + 1, columns.as_ptr(), count, weights.as_ptr(), count,
+                yelomawin_bench_galerkin_coarse, a, c as u64, pointers.as_ptr(), n + 1, columns.as_ptr(), count, weights.as_ptr(), count,
                 ints.as_mut_ptr(), 4 * c, floats.as_mut_ptr(), c * c + 4 * c
             )
         },
@@ -139,9 +139,9 @@ pub fn stages(a: &Csr, coarse: usize, graph: f64) -> Vec<Row> {
     let (rust, p, ours, answer) = both(
         || answers::setup(&m, &options(group, 0, 1).0).unwrap(),
         || {
-            let k = lists!(stage_constant_coarse, a, BLOCK as u64, ids.as_ptr(), ids.len(), groups as u64, floats.as_mut_ptr(), c * c);
+            let k = lists!(yelomawin_bench_constant_coarse, a, BLOCK as u64, ids.as_ptr(), ids.len(), groups as u64, floats.as_mut_ptr(), c * c);
             // Sound: as above.
-            k + unsafe { stage_coarse_factor(c as u64, floats.as_ptr(), c * c, lower.as_mut_ptr(), lower.len()) }
+            k + unsafe { yelomawin_bench_coarse_factor(c as u64, floats.as_ptr(), c * c, lower.as_mut_ptr(), lower.len()) }
         },
     );
     assert_eq!(answer, 0);
@@ -153,7 +153,7 @@ pub fn stages(a: &Csr, coarse: usize, graph: f64) -> Vec<Row> {
     let (whole, p, ours, answer) = both(
         || answers::setup(&m, &options(group, 0, 2).0).unwrap(),
         // Sound: as above.
-        || unsafe { stage_coarse_inverse(c as u64, lower.as_ptr(), lower.len(), inverse.as_mut_ptr(), c * c) },
+        || unsafe { yelomawin_bench_coarse_inverse(c as u64, lower.as_ptr(), lower.len(), inverse.as_mut_ptr(), c * c) },
     );
     assert_eq!(answer, 0);
     assert!(same(&probe::kept(&p, &m).coarse_part, &inverse), "inverses differ");

@@ -1,23 +1,24 @@
 -- The pairs (i, j), (j, i) lie apart, so that writing one leaves the others, and each is read before it is written.
-use Prim.Native.Nat.{ℕ, _+_, _*_, _<_, _≤_}
-use mathlib.Core.Path.{_≡_, refl, sym, _∙_}
-use mathlib.Core.Bool.{Bool, true, false}
+use Prim.Native.Nat.{ℕ, _+_, _-_, _*_, _<_, _≤_}
+use mathlib.Core.Path.{_≡_, refl, ap, sym, _∙_}
 use mathlib.Core.List.{List, _++_}
 use mathlib.Core.Logic.{_⊎_, inl, inr, ⊎-elim}
 use native.Mathlib.Omega.{arith}
 use native.Mathlib.Decide.{ℕ-discrete, decLt}
-use lib.Dec.{leb}
-use lib.ListN.{length, getD, set, take, drop, length-set}
-use lib.Seq.{getD-set-same, getD-set-other, getD-take, length-take-le}
+use lib.ListN.{length, getD, set, take, drop, replicate, length-set}
+use lib.Seq.{getD-set-same, getD-set-other, getD-take, length-take-le, take-at}
 use lib.Ieee.{Float, nan}
 use borrow.Author.Tests.{eq-eqb, ne-eqb, lt-ltb, le-ltb, le-leb, lt-leb}
-use Rattle.definitions.specs.Lists.{square}
-use Rattle.definitions.specs.Numbers.{_+ᶠ_, _*ᶠ_, half}
+use Rattle.definitions.specs.Lists.{square, padded}
+use Rattle.definitions.specs.Numbers.{_+ᶠ_, _*ᶠ_, half, zeroᶠ}
+use Rattle.definitions.specs.Refusal.{refused, done, require, _>>=_, resultLeft}
 use Rattle.definitions.specs.Coarse.{averaged, averagedSquare, entryIn}
 use Rattle.laws.proofs.Lists.{length-square}
-use Rattle.averaging.specs.Averaging.{pairHalf, pairAveraged, tile, Averages, averagedIn}
+use Rattle.averaging.specs.Averaging.{pairHalf, pairAveraged, tile, Averages, averageCall}
 use Rattle.definitions.specs.Setup.{maxCoarse}
-use Rattle.averaging.proofs.Lists.{square-is, split-is}
+use Rattle.definitions.specs.declared.Refusal.the-variants.{CoarseTooLarge, CoarseListTooShort}
+use Rattle.causes.proofs.Left.{left-done}
+use Rattle.averaging.proofs.Lists.{square-is, split-is, tail-zeros}
 use Rattle.averaging.proofs.Places.{same-row, same-col, place}
 
 -- ---- parts of the pairs
@@ -174,26 +175,33 @@ module _ (c : ℕ) (m r : List Float) (big : c * c ≤ length m) (a : Averages c
       (λ i j p q. getD-take (c * c) r (i * c + j) nan (place i j c c p q) ∙ every i j p q ∙ sym (cut i j p q)))
       past
 
-pub average-on : (c : ℕ) (m r : List Float) → c ≤ maxCoarse → c * c ≤ length m → Averages c (tile 0 c 0 c) m r → r ≡ averagedIn c m
-unfolding averagedIn
-average-on c m r h k a = averages-all c m r k a ∙ sym (rw (le-leb c maxCoarse h, le-leb (c * c) (length m) k, averagedIn))
-
-pub average-short : (c : ℕ) (m : List Float) → length m < c * c → m ≡ averagedIn c m
-unfolding averagedIn
-average-short c m h = step (leb c maxCoarse) refl
-  where
-    step : (b : Bool) → leb c maxCoarse ≡ b → m ≡ averagedIn c m
-    step true e = rw (e, lt-leb (c * c) (length m) h, averagedIn)
-    step false e = rw (e, averagedIn)
-
-pub average-large : (c : ℕ) (m : List Float) → maxCoarse < c → m ≡ averagedIn c m
-unfolding averagedIn
-average-large c m h = rw (lt-leb c maxCoarse h, averagedIn)
-
-pub average-fits : (c : ℕ) (m : List Float) → c ≤ maxCoarse → c * c ≤ length m → averagedIn c m ≡ averagedSquare c (take (c * c) m) ++ drop (c * c) m
-unfolding averagedIn
-average-fits c m h k = rw (le-leb c maxCoarse h, le-leb (c * c) (length m) k, averagedIn)
-
 pub length-averaged : (c : ℕ) (m : List Float) → length (averagedSquare c m) ≡ c * c
 unfolding averagedSquare
 length-averaged c m = length-square c (averaged (entryIn m c))
+
+-- ---- the call
+
+pub call-large : (c : ℕ) (m : List Float) → maxCoarse < c → averageCall c m ≡ refused (CoarseTooLarge c)
+unfolding averageCall require _>>=_
+call-large c m h = rw (lt-leb c maxCoarse h)
+
+pub call-short : (c : ℕ) (m : List Float) → c ≤ maxCoarse → length m < c * c → averageCall c m ≡ refused (CoarseListTooShort c)
+unfolding averageCall require _>>=_
+call-short c m h k = rw (le-leb c maxCoarse h, lt-leb (c * c) (length m) k)
+
+pub call-done : (c : ℕ) (m : List Float) → c ≤ maxCoarse → c * c ≤ length m → averageCall c m ≡ done (averagedSquare c (take (c * c) m))
+unfolding averageCall require _>>=_
+call-done c m h k = rw (le-leb c maxCoarse h, le-leb (c * c) (length m) k)
+
+-- all pairs averaged, and the rest cleared
+pub average-on : (c : ℕ) (m r z : List Float) → c * c ≤ length m → Averages c (tile 0 c 0 c) m r → z ≡ replicate (length (take (length r - c * c) (drop (c * c) r))) zeroᶠ
+    → take (c * c) r ++ (z ++ drop (length r - c * c) (drop (c * c) r)) ≡ padded zeroᶠ (length m) (averagedSquare c (take (c * c) m))
+unfolding padded
+average-on c m r z k a ez =
+    let s = averagedSquare c (take (c * c) m) in
+    let n : length s ≡ c * c = length-averaged c (take (c * c) m) in
+    let t : take (c * c) r ≡ s = ap (λ l. take (c * c) l) (averages-all c m r k a) ∙ take-at s (drop (c * c) m) (c * c) n in
+    tail-zeros (c * c) r z zeroᶠ (rw (a .long) k) ez ∙ rw (t, a .long, n)
+
+pub average-fits : (c : ℕ) (m : List Float) → c ≤ maxCoarse → c * c ≤ length m → resultLeft zeroᶠ (averageCall c m) m ≡ padded zeroᶠ (length m) (averagedSquare c (take (c * c) m))
+average-fits c m h k = left-done zeroᶠ (averageCall c m) m (averagedSquare c (take (c * c) m)) (call-done c m h k)

@@ -1,18 +1,22 @@
 -- What averaging in place leaves, and which pairs a part of the loops has averaged, whatever their order.
 use Prim.Native.Nat.{ℕ, _+_, _*_, _<_, _≤_}
 use mathlib.Core.Path.{_≡_}
-use mathlib.Core.Bool.{true, false, _&&_}
-use mathlib.Core.List.{List, _++_}
+use mathlib.Core.List.{List}
 use lib.Dec.{leb}
-use lib.ListN.{length, getD, set, take, drop}
+use lib.ListN.{length, getD, set, take}
 use lib.Ieee.{Float, nan}
 use Rattle.definitions.specs.Numbers.{_+ᶠ_, _*ᶠ_, half}
+use Rattle.definitions.specs.Refusal.{Outcome, done, require, _>>=_}
 use Rattle.definitions.specs.Setup.{maxCoarse}
 use Rattle.definitions.specs.Coarse.{averagedSquare}
+use Rattle.definitions.specs.declared.Refusal.the-variants.{CoarseTooLarge, CoarseListTooShort}
 
--- the matrix in the first c · c elements, averaged
-unfoldable pub averagedIn : ℕ → List Float → List Float
-averagedIn c m = elim (leb c maxCoarse && leb (c * c) (length m)) [ true ↦ averagedSquare c (take (c * c) m) ++ drop (c * c) m | false ↦ m ]
+-- the matrix in the first c · c elements of m, averaged: 17, 18
+unfoldable pub averageCall : ℕ → List Float → Outcome (List Float)
+averageCall c m = do
+  _ ← require (leb c maxCoarse) (CoarseTooLarge c)
+  _ ← require (leb (c * c) (length m)) (CoarseListTooShort c)
+  done (averagedSquare c (take (c * c) m))
 
 abbrev pub pairHalf : List Float → ℕ → ℕ → Float
 pairHalf m low up = half *ᶠ (getD m low nan +ᶠ getD m up nan)

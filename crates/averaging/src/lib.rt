@@ -1,9 +1,15 @@
 // A square matrix averaged with its transpose, in place: off the diagonal only.
+use definitions::Answer;
 use definitions::MAX_COARSE;
+use definitions::Refusal;
+use numbers::zero_floats;
 ghost use mathlib.Core.Path.{_≡_};
 ghost use Prim.Native.Nat.{_+_, _*_, _<_, _≤_};
 ghost use lib.ListN.{length};
-ghost use Rattle.averaging.specs.Averaging.{pairAveraged, tile, Averages, averagedIn};
+ghost use Rattle.definitions.specs.Numbers.{zeroᶠ};
+ghost use Rattle.definitions.specs.Refusal.{resultLeft};
+ghost use Rattle.definitions.specs.Answers.{answerOf};
+ghost use Rattle.averaging.specs.Averaging.{averageCall, pairAveraged, tile, Averages};
 
 // Both places of a pair become half of their sum, the lower entry first.
 fn average_pair(m: &mut [f64], low: usize, up: usize)
@@ -59,13 +65,21 @@ fn average_rows(c: usize, m: &mut [f64])
     }
 }
 
-// The first c · c elements as a matrix of c rows. A list that is shorter, or a c above 2048, is left as it is.
-pub fn average(c: usize, m: &mut [f64])
-    ensures { λ _. ⌜ now (m .exit) ≡ averagedIn c (now (m .entry)) ⌝ }
+// The matrix in the first c · c elements, in place, with zeros after it.
+pub fn average(c: usize, m: &mut [f64]) -> Answer
+    ensures { λ r. ⌜ (r ≡ answerOf (averageCall c (now (m .entry)))) × (now (m .exit) ≡ resultLeft zeroᶠ (averageCall c (now (m .entry))) (now (m .entry))) ⌝ }
 {
     if c <= MAX_COARSE {
-        if c * c <= m.len() {
+        let square = c * c;
+        if square <= m.len() {
             average_rows(c, m);
+            zero_floats(&mut m[square..]);
+            return Answer::Accepted;
         }
+        zero_floats(m);
+        Answer::Refused(Refusal::CoarseListTooShort(c as u64))
+    } else {
+        zero_floats(m);
+        Answer::Refused(Refusal::CoarseTooLarge(c as u64))
     }
 }

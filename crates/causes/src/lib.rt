@@ -1,7 +1,10 @@
-// What document 01's table tells of a cause of refusal, as numbers: its own, and what is returned with it.
+// What document 01's table tells of a cause of refusal: its number, what is returned with it, and what it leaves in the lists lent for writing.
 use definitions::Refusal;
+use numbers::zero_floats;
+use numbers::zero_ints;
 ghost use mathlib.Core.Path.{_≡_};
-ghost use Rattle.definitions.specs.Refusal.{numberOf};
+ghost use Rattle.definitions.specs.Numbers.{zeroᶠ};
+ghost use Rattle.definitions.specs.Refusal.{numberOf, refused, keepsAll, resultLeft};
 ghost use Rattle.causes.specs.Told.{toldOf};
 
 // A cause's number, and the first and second value returned with it, 0 where there is none.
@@ -163,4 +166,32 @@ pub fn number_of(cause: Refusal) -> u64
 {
     let row = told(cause);
     row.number
+}
+
+// Whether a call that this cause refuses leaves every list as it was: all causes but 14 to 24.
+pub fn keeps_all(cause: Refusal) -> bool
+    ensures { λ r. ⌜ r ≡ keepsAll cause ⌝ }
+{
+    let number = number_of(cause);
+    if number < 14 {
+        return true;
+    }
+    24 < number
+}
+
+// What a refused call leaves in a list lent for writing: what it held, or zeros.
+pub fn leave_ints(cause: Refusal, list: &mut [u32])
+    ensures { λ _. ⌜ now (list .exit) ≡ resultLeft 0 (refused cause) (now (list .entry)) ⌝ }
+{
+    if keeps_all(cause) {} else {
+        zero_ints(list);
+    }
+}
+
+pub fn leave_floats(cause: Refusal, list: &mut [f64])
+    ensures { λ _. ⌜ now (list .exit) ≡ resultLeft zeroᶠ (refused cause) (now (list .entry)) ⌝ }
+{
+    if keeps_all(cause) {} else {
+        zero_floats(list);
+    }
 }

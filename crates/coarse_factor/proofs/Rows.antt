@@ -14,9 +14,9 @@ use borrow.Author.Tests.{eq-eqb, ne-eqb}
 use Rattle.definitions.specs.Lists.{tab, upTo, padded}
 use Rattle.definitions.specs.Numbers.{zeroᶠ, oneᶠ}
 use Rattle.definitions.specs.Coarse.{packedSolve, unit, inverseOf, averagedSquare}
-use Rattle.averaging.proofs.Lists.{tail-zeros}
-use Rattle.averaging.specs.Averaging.{averagedIn}
-use Rattle.averaging.proofs.Laws.{average-fits, length-averaged}
+use Rattle.definitions.specs.Refusal.{resultLeft}
+use Rattle.averaging.specs.Averaging.{averageCall}
+use Rattle.averaging.proofs.Laws.{average-fits}
 use Rattle.laws.proofs.Lists.{tab-is, length-tab}
 use Rattle.laws.proofs.Growing.{tab-snoc, flatMap-snoc}
 use Rattle.coarse_factor.specs.Stored.{solvedRows}
@@ -92,18 +92,11 @@ pub row-length : (u : List Float) (from c : ℕ) → from + c ≤ length u → l
 row-length u from c h = let k : from + c - from ≡ c = omega arith in rw k (length-take-le c (drop from u) (rw (length-drop from u) (omega arith)))
 
 -- all rows, averaged, and zeros after them
-pub invert-law : (c : ℕ) (l w u v z : List Float) → c ≤ 2_048 → c * c ≤ length w → u ≡ solvedRows c l c ++ drop (c * c) w → v ≡ averagedIn c u
-    → z ≡ replicate (length (take (length v - c * c) (drop (c * c) v))) zeroᶠ
-    → take (c * c) v ++ (z ++ drop (length v - c * c) (drop (c * c) v)) ≡ padded zeroᶠ (length w) (inverseOf c l)
-unfolding padded inverseOf solvedRows
-invert-law c l w u v z h k eu ev ez =
+pub invert-law : (c : ℕ) (l w u v : List Float) → c ≤ 2_048 → c * c ≤ length w → u ≡ solvedRows c l c ++ drop (c * c) w → v ≡ resultLeft zeroᶠ (averageCall c u) u → v ≡ padded zeroᶠ (length w) (inverseOf c l)
+unfolding inverseOf solvedRows
+invert-law c l w u v h k eu ev =
     let s = flatMap (λ i. packedSolve c l (unit c i)) (upTo c) in
     let ns : length s ≡ c * c = length-solved c l c in
     let nu : length u ≡ length w = ap length eu ∙ length-append s (drop (c * c) w) ∙ rw (ns, length-drop (c * c) w) (omega arith) in
-    let ku : c * c ≤ length u = omega arith in
     let t : take (c * c) u ≡ s = rw eu (take-at s (drop (c * c) w) (c * c) ns) in
-    let ev′ : v ≡ averagedSquare c s ++ drop (c * c) u = ev ∙ average-fits c u h ku ∙ rw t in
-    let nv : length v ≡ length w = ap length ev′ ∙ length-append (averagedSquare c s) (drop (c * c) u) ∙ rw (length-averaged c s, length-drop (c * c) u, nu) (omega arith) in
-    let tv : take (c * c) v ≡ averagedSquare c s = rw ev′ (take-at (averagedSquare c s) (drop (c * c) u) (c * c) (length-averaged c s)) in
-    let kv : c * c ≤ length v = omega arith in
-    tail-zeros (c * c) v z zeroᶠ kv ez ∙ rw (tv, nv, length-averaged c s)
+    ev ∙ average-fits c u h (omega arith) ∙ rw (t, nu)

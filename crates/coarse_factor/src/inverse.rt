@@ -70,6 +70,4 @@ pub(crate) fn invert(c: usize, lower: &[f64], inverse: &mut [f64])
     let i = solve_fours(c, lower, inverse);
     solve_rest(c, lower, inverse, i);
     average(c, inverse);
-    let square = c * c;
-    zero_floats(&mut inverse[square..]);
 }

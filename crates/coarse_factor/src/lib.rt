@@ -8,7 +8,9 @@ use numbers::larger;
 use numbers::usable;
 use numbers::zero_floats;
 ghost use mathlib.Core.Path.{_≡_};
+ghost use mathlib.Core.Bool.{_&&_};
 ghost use Prim.Native.Nat.{_*_, _≤_};
+ghost use lib.Dec.{leb};
 ghost use lib.ListN.{length, take};
 ghost use Rattle.definitions.specs.Numbers.{zeroᶠ, largest};
 ghost use Rattle.definitions.specs.Refusal.{resultLeft};
@@ -58,19 +60,28 @@ fn factor_fitting(c: usize, m: &[f64], lower: &mut [f64]) -> FactorAnswer
     }
 }
 
+// Whether two lists are as long as they must be.
+fn long_enough(need: usize, len: usize, other_need: usize, other_len: usize) -> bool
+    ensures { λ r. ⌜ r ≡ (leb need len && leb «other_need» «other_len») ⌝ }
+{
+    if need <= len {
+        return other_need <= other_len;
+    }
+    false
+}
+
 // Cholesky's factor of the coarse matrix in the first c · c elements of m, packed, with zeros after it.
 pub fn coarse_factor(c: usize, m: &[f64], lower: &mut [f64]) -> FactorAnswer
     ensures { λ r. ⌜ (r ≡ factorAnswer (largest (take (c * c) (now (m .entry)))) (coarseFactorCall c (now (m .entry)) (length (now (lower .entry))))) × (now (lower .exit) ≡ resultLeft zeroᶠ (coarseFactorCall c (now (m .entry)) (length (now (lower .entry)))) (now (lower .entry))) ⌝ }
 {
     if c <= MAX_COARSE {
         let square = c * c;
-        if square <= m.len() {
-            if c * (c + 1) / 2 <= lower.len() {
-                let from = 0;
-                return factor_fitting(c, &m[from..square], lower);
-            }
+        if long_enough(square, m.len(), c * (c + 1) / 2, lower.len()) {
+            let from = 0;
+            return factor_fitting(c, &m[from..square], lower);
         }
-        FactorAnswer::Refused(Refusal::ListTooShort)
+        zero_floats(lower);
+        FactorAnswer::Refused(Refusal::CoarseListTooShort(c as u64))
     } else {
         zero_floats(lower);
         FactorAnswer::Refused(Refusal::CoarseTooLarge(c as u64))
@@ -83,14 +94,13 @@ pub fn coarse_inverse(c: usize, lower: &[f64], inverse: &mut [f64]) -> Answer
 {
     if c <= MAX_COARSE {
         let packed = c * (c + 1) / 2;
-        if packed <= lower.len() {
-            if c * c <= inverse.len() {
-                let from = 0;
-                inverse::invert(c, &lower[from..packed], inverse);
-                return Answer::Accepted;
-            }
+        if long_enough(packed, lower.len(), c * c, inverse.len()) {
+            let from = 0;
+            inverse::invert(c, &lower[from..packed], inverse);
+            return Answer::Accepted;
         }
-        Answer::Refused(Refusal::ListTooShort)
+        zero_floats(inverse);
+        Answer::Refused(Refusal::CoarseListTooShort(c as u64))
     } else {
         zero_floats(inverse);
         Answer::Refused(Refusal::CoarseTooLarge(c as u64))
@@ -108,14 +118,13 @@ pub fn coarse_solve(
 {
     if c <= MAX_COARSE {
         let count = stored::stored_length(policy, c);
-        if count <= part.len() {
-            if 2 * c <= work.len() {
-                let from = 0;
-                stored::solve_stored(policy, c, &part[from..count], work);
-                return Answer::Accepted;
-            }
+        if long_enough(count, part.len(), 2 * c, work.len()) {
+            let from = 0;
+            stored::solve_stored(policy, c, &part[from..count], work);
+            return Answer::Accepted;
         }
-        Answer::Refused(Refusal::ListTooShort)
+        zero_floats(work);
+        Answer::Refused(Refusal::CoarseListTooShort(c as u64))
     } else {
         zero_floats(work);
         Answer::Refused(Refusal::CoarseTooLarge(c as u64))

@@ -4,36 +4,61 @@ use mathlib.Core.Path.{_≡_, refl, ap, sym, _∙_}
 use mathlib.Core.Bool.{true, false}
 use mathlib.Core.List.{List, [], _∷_}
 use native.Mathlib.Omega.{arith}
-use native.Mathlib.Nat.{mul-le-mul-right, div-add-mod', div-lt-iff-lt-mul, mod-lt}
+use native.Mathlib.Nat.{mul-le-mul, mul-le-mul-right, div-add-mod', div-lt-iff-lt-mul, mod-lt}
 use lib.Dec.{leb}
 use lib.ListN.{length, getD, replicate}
 use lib.Ieee.{Float}
 use borrow.Author.Tests.{le-leb, lt-leb, eq-eqb, ne-eqb, leb-false}
 use Rattle.definitions.specs.Lists.{square, padded, falls}
 use Rattle.definitions.specs.Numbers.{zeroᶠ}
-use Rattle.definitions.specs.Refusal.{Outcome, refused, done, Checked, require, _>>=_}
+use Rattle.definitions.specs.Refusal.{Outcome, refused, done, Checked, require, _>>=_, resultLeft, workLeft}
 use Rattle.definitions.specs.Answers.{answerOf}
-use Rattle.definitions.specs.Matrix.{Matrix, csr, validOf, rowOf}
+use Rattle.definitions.specs.Matrix.{Matrix, csr, maxRows, validOf, rowOf}
 use Rattle.definitions.specs.Block.{maxBlock}
 use Rattle.definitions.specs.Transfer.{coarseColumn}
 use Rattle.definitions.specs.Coarse.{constantEntry, galerkinEntry, averagedSquare}
 use Rattle.definitions.specs.declared.Refusal.{Refusal}
-use Rattle.definitions.specs.declared.Refusal.the-variants.{NotSquare, BlockSize, NotMultiple, ListTooShort, CoarseTooLarge, SetupMisfit}
+use Rattle.definitions.specs.declared.Refusal.the-variants.{TooLarge, NotSquare, BlockSize, NotMultiple, CoarseTooLarge, CoarseListTooShort, SetupMisfit}
 use Rattle.definitions.specs.declared.Answer.{Answer}
 use Rattle.definitions.specs.declared.Answer.the-variants.{Accepted, Refused}
 use Rattle.definitions.specs.Setup.{maxCoarse}
 use Rattle.csr32.specs.Rows.{outside, none-any, no-falls, no-falls-to, Rows}
-use Rattle.csr32.specs.Calls.{accepted-done, refused-is, goes-on, stops}
+use Rattle.causes.proofs.Left.{checks-stop, checks-pass, accept-left, refuse-left, work-refused as refused-work}
 use Rattle.coarse_matrix.specs.Scatter.{Walk, Grouped}
-use Rattle.coarse_matrix.specs.Calls.{resultOrKept, constantChecks, constantCoarseCall, ConstantFacts, transferFits, galerkinChecks, galerkinCoarseCall, workOrKept, GalerkinFacts}
+use Rattle.coarse_matrix.specs.Calls.{constantChecks, constantChecked, constantCoarseCall, ConstantFacts, transferFits, galerkinChecks, galerkinChecked, galerkinCoarseCall, GalerkinFacts}
 
 -- a refusal says nothing of an accepted call
 pub not-accepted : (r : Refusal) (P : Type 0) → Refused r ≡ Accepted → P
 not-accepted r P e = absurd (let z : _≡_ {A = ℕ} 0 1 = cc in omega arith)
 
--- groups of `size` rows each lie within the rows
-pub groups-fit : (groups rows size : ℕ) → groups ≤ rows / size → groups * size ≤ rows
-groups-fit groups rows size h = omega (arith, mul-le-mul-right size h, div-add-mod' rows size)
+-- groups within the limit of rows, of `size` rows each
+pub groups-fit : (groups size : ℕ) → groups ≤ maxRows → size ≤ maxBlock → groups * size ≤ 8_388_608
+groups-fit groups size h k = mul-le-mul h k
+
+-- the answer to checks that follow those of a matrix
+module _ (a k b : Checked) (v w : Answer) (e : k ≡ (a >>= (λ _. b))) (ev : v ≡ answerOf a) where
+  pub first-refused : (r : Refusal) → v ≡ Refused r → Refused r ≡ answerOf k
+  unfolding answerOf
+  first-refused r h = rw (e ∙ checks-stop a b v ev r h)
+
+  pub then-told : v ≡ Accepted → w ≡ answerOf b → w ≡ answerOf k
+  then-told h ew = ew ∙ ap answerOf (sym (e ∙ checks-pass a b v ev h))
+
+-- the answer and the lists: a refusal leaves them by its cause
+module _ {B : Type 0} (z : B) (k : Checked) (x w : List B) (o : Outcome (List B)) (v : Answer) (eo : o ≡ (k >>= (λ _. done x))) (ev : v ≡ answerOf k) where
+  pub told-refused : (r : Refusal) (y : List B) → v ≡ Refused r → y ≡ resultLeft z (refused r) w → (Refused r ≡ answerOf o) × (y ≡ resultLeft z o w)
+  told-refused r y h ey = refuse-left z o w y r (eo ∙ checks-stop k (done x) v ev r h) ey
+
+  pub told-done : (y : List B) → v ≡ Accepted → y ≡ padded z (length w) x → (Accepted ≡ answerOf o) × (y ≡ resultLeft z o w)
+  told-done y h ey = accept-left z o w y x (eo ∙ checks-pass k (done x) v ev h) ey
+
+  -- a work list beside it
+  pub work-refused : {A : Type 0} (a : A) (u s : List A) (r : Refusal) → v ≡ Refused r → s ≡ resultLeft a (refused r) u → s ≡ workLeft a o u
+  work-refused a u s r h es = es ∙ sym (refused-work a o u r (eo ∙ checks-stop k (done x) v ev r h))
+
+  pub work-done : {A : Type 0} (a : A) (u s : List A) → v ≡ Accepted → s ≡ replicate (length u) a → s ≡ workLeft a o u
+  unfolding workLeft
+  work-done a u s h es = es ∙ sym (rw (eo ∙ checks-pass k (done x) v ev h))
 
 -- ---- in order
 
@@ -57,56 +82,31 @@ module _ (rows cols size : ℕ) (ids : List ℕ) (groups lent : ℕ) where
       not-multiple h = rw (eq-eqb rows cols e1, le-leb 1 size e2, le-leb size maxBlock e3, ne-eqb (rows % size) 0 h)
 
       module _ (e4 : rows % size ≡ 0) where
-        pub many-groups : rows / size < groups → Refused SetupMisfit ≡ answerOf (constantChecks rows cols size ids groups lent)
+        pub too-large : maxCoarse < groups * size → Refused (CoarseTooLarge (groups * size)) ≡ answerOf (constantChecks rows cols size ids groups lent)
         unfolding constantChecks require _>>=_ answerOf
-        many-groups h = rw (eq-eqb rows cols e1, le-leb 1 size e2, le-leb size maxBlock e3, eq-eqb (rows % size) 0 e4, lt-leb groups (rows / size) h)
+        too-large h = rw (eq-eqb rows cols e1, le-leb 1 size e2, le-leb size maxBlock e3, eq-eqb (rows % size) 0 e4, lt-leb (groups * size) maxCoarse h)
 
-        module _ (e5 : groups ≤ rows / size) where
-          pub too-large : maxCoarse < groups * size → Refused (CoarseTooLarge (groups * size)) ≡ answerOf (constantChecks rows cols size ids groups lent)
+        module _ (e5 : groups * size ≤ maxCoarse) where
+          pub short-list : lent < groups * size * (groups * size) → Refused (CoarseListTooShort (groups * size)) ≡ answerOf (constantChecks rows cols size ids groups lent)
           unfolding constantChecks require _>>=_ answerOf
-          too-large h = rw (eq-eqb rows cols e1, le-leb 1 size e2, le-leb size maxBlock e3, eq-eqb (rows % size) 0 e4, le-leb groups (rows / size) e5, lt-leb (groups * size) maxCoarse h)
+          short-list h = rw (eq-eqb rows cols e1, le-leb 1 size e2, le-leb size maxBlock e3, eq-eqb (rows % size) 0 e4, le-leb (groups * size) maxCoarse e5, lt-leb (groups * size * (groups * size)) lent h)
 
-          module _ (e6 : groups * size ≤ maxCoarse) where
+          module _ (e6 : groups * size * (groups * size) ≤ lent) where
             pub other-ids : (length ids ≡ rows / size → ⊥) → Refused SetupMisfit ≡ answerOf (constantChecks rows cols size ids groups lent)
             unfolding constantChecks require _>>=_ answerOf
-            other-ids h = rw (eq-eqb rows cols e1, le-leb 1 size e2, le-leb size maxBlock e3, eq-eqb (rows % size) 0 e4, le-leb groups (rows / size) e5, le-leb (groups * size) maxCoarse e6, ne-eqb (length ids) (rows / size) h)
+            other-ids h = rw (eq-eqb rows cols e1, le-leb 1 size e2, le-leb size maxBlock e3, eq-eqb (rows % size) 0 e4, le-leb (groups * size) maxCoarse e5, le-leb (groups * size * (groups * size)) lent e6, ne-eqb (length ids) (rows / size) h)
 
             module _ (e7 : length ids ≡ rows / size) where
               pub id-outside : outside groups ids ≡ true → Refused SetupMisfit ≡ answerOf (constantChecks rows cols size ids groups lent)
               unfolding constantChecks require _>>=_ answerOf
-              id-outside h = rw (eq-eqb rows cols e1, le-leb 1 size e2, le-leb size maxBlock e3, eq-eqb (rows % size) 0 e4, le-leb groups (rows / size) e5, le-leb (groups * size) maxCoarse e6, eq-eqb (length ids) (rows / size) e7, h)
+              id-outside h = rw (eq-eqb rows cols e1, le-leb 1 size e2, le-leb size maxBlock e3, eq-eqb (rows % size) 0 e4, le-leb (groups * size) maxCoarse e5, le-leb (groups * size * (groups * size)) lent e6, eq-eqb (length ids) (rows / size) e7, h)
 
-              module _ (e8 : outside groups ids ≡ false) where
-                pub short-list : lent < groups * size * (groups * size) → Refused ListTooShort ≡ answerOf (constantChecks rows cols size ids groups lent)
-                unfolding constantChecks require _>>=_ answerOf
-                short-list h = rw (
-                  eq-eqb rows cols e1,
-                  le-leb 1 size e2,
-                  le-leb size maxBlock e3,
-                  eq-eqb (rows % size) 0 e4,
-                  le-leb groups (rows / size) e5,
-                  le-leb (groups * size) maxCoarse e6,
-                  eq-eqb (length ids) (rows / size) e7,
-                  e8,
-                  lt-leb (groups * size * (groups * size)) lent h,
-                )
-
-                pub all-passed : groups * size * (groups * size) ≤ lent → (Accepted ≡ answerOf (constantChecks rows cols size ids groups lent)) × ConstantFacts rows cols size ids groups lent
-                unfolding constantChecks require _>>=_ answerOf
-                all-passed h = (
-                  rw (
-                    eq-eqb rows cols e1,
-                    le-leb 1 size e2,
-                    le-leb size maxBlock e3,
-                    eq-eqb (rows % size) 0 e4,
-                    le-leb groups (rows / size) e5,
-                    le-leb (groups * size) maxCoarse e6,
-                    eq-eqb (length ids) (rows / size) e7,
-                    e8,
-                    le-leb (groups * size * (groups * size)) lent h,
-                  ),
-                  record { same = e1; some = e2; whole = e4; small = e6; nodes = e7; below = e8; room = h },
-                )
+              pub all-passed : outside groups ids ≡ false → (Accepted ≡ answerOf (constantChecks rows cols size ids groups lent)) × ConstantFacts rows cols size ids groups lent
+              unfolding constantChecks require _>>=_ answerOf
+              all-passed h = (
+                rw (eq-eqb rows cols e1, le-leb 1 size e2, le-leb size maxBlock e3, eq-eqb (rows % size) 0 e4, le-leb (groups * size) maxCoarse e5, le-leb (groups * size * (groups * size)) lent e6, eq-eqb (length ids) (rows / size) e7, h),
+                record { same = e1; some = e2; whole = e4; small = e5; nodes = e7; below = h; room = e6 },
+              )
 
 -- ---- what an accepted call has
 
@@ -125,29 +125,21 @@ grouped-of rows cols size ids groups lent f =
     within : (i : ℕ) → i < rows → getD ids (i / size) 0 * size + i % size < groups * size
     within i h = omega (arith, mul-le-mul-right size (leb-false groups (getD ids (i / size) 0) (none-any (λ c. leb groups c) 0 ids (f .below) (i / size) (known i h))), mod-lt i (f .some))
 
--- ---- the whole call: validate, the checks, the result
+-- ---- the whole call: its checks, and the result
 
-module _ {B : Type 0} (z : B) (v k : Answer) (a : Checked) (b : Checked) (x : List B) (w : List B) (o : Outcome (List B)) (eo : o ≡ (a >>= (λ _. b >>= (λ _. done x)))) (ev : v ≡ answerOf a) (ek : k ≡ answerOf b) where
-  pub stopped-first : (r : Refusal) → v ≡ Refused r → (Refused r ≡ answerOf o) × (w ≡ resultOrKept z o w)
-  unfolding answerOf resultOrKept
-  stopped-first r e = let q : o ≡ refused r = eo ∙ stops a r (λ _. b >>= (λ _. done x)) (refused-is a r (sym ev ∙ e)) in (rw q, rw q)
+module _ (a : Matrix) (size : ℕ) (ids : List ℕ) (groups lent : ℕ) where
+  pub many-groups : maxRows < groups → Refused TooLarge ≡ answerOf (constantChecked a size ids groups lent)
+  unfolding constantChecked require _>>=_ answerOf
+  many-groups h = rw (lt-leb groups maxRows h)
 
-  pub stopped-then : (r : Refusal) → v ≡ Accepted → k ≡ Refused r → (Refused r ≡ answerOf o) × (w ≡ resultOrKept z o w)
-  unfolding answerOf resultOrKept
-  stopped-then r e f =
-      let q : o ≡ refused r = eo ∙ goes-on a tt (λ _. b >>= (λ _. done x)) (accepted-done a (sym ev ∙ e)) ∙ stops b r (λ _. done x) (refused-is b r (sym ek ∙ f)) in
-      (rw q, rw q)
+  -- the matrix, and then the checks over sizes and ids
+  pub few-groups : groups ≤ maxRows → constantChecked a size ids groups lent ≡ (validOf a >>= (λ _. constantChecks (a .rows) (a .cols) size ids groups lent))
+  unfolding constantChecked require _>>=_
+  few-groups h = rw (le-leb groups maxRows h)
 
-  pub went-through : (y : List B) → v ≡ Accepted → k ≡ Accepted → y ≡ padded z (length w) x → (Accepted ≡ answerOf o) × (y ≡ resultOrKept z o w)
-  unfolding answerOf resultOrKept
-  went-through y e f ey =
-      let q : o ≡ done x = eo ∙ goes-on a tt (λ _. b >>= (λ _. done x)) (accepted-done a (sym ev ∙ e)) ∙ goes-on b tt (λ _. done x) (accepted-done b (sym ek ∙ f)) in
-      (rw q, ey ∙ rw q)
-
-pub constant-call : (a : Matrix) (size : ℕ) (ids : List ℕ) (groups lent : ℕ)
-    → constantCoarseCall a size ids groups lent ≡ (validOf a >>= (λ _. constantChecks (a .rows) (a .cols) size ids groups lent >>= (λ _. done (averagedSquare (groups * size) (square (groups * size) (constantEntry a (coarseColumn size ids)))))))
-unfolding constantCoarseCall
-constant-call a size ids groups lent = refl
+  pub constant-call : constantCoarseCall a size ids groups lent ≡ (constantChecked a size ids groups lent >>= (λ _. done (averagedSquare (groups * size) (square (groups * size) (constantEntry a (coarseColumn size ids))))))
+  unfolding constantCoarseCall
+  constant-call = refl
 
 pub constant-square : (rows cols : ℕ) (ptr idx : List ℕ) (vals : List Float) (size c : ℕ) (ids : List ℕ) (n : ℕ) → rows ≡ cols
     → padded zeroᶠ n (averagedSquare c (square c (constantEntry (csr rows rows ptr idx vals) (coarseColumn size ids)))) ≡ padded zeroᶠ n (averagedSquare c (square c (constantEntry (csr rows cols ptr idx vals) (coarseColumn size ids))))
@@ -205,7 +197,7 @@ module _ (rows c : ℕ) (ptr idx : List ℕ) (count : ℕ) where
               },
             )
 
--- ---- 9, 17, 26, 13
+-- ---- 9, 17, 18, 26
 
 module _ (rows cols c : ℕ) (ptr idx : List ℕ) (count ints floats : ℕ) where
   pub smoothed-square : (rows ≡ cols → ⊥) → Refused NotSquare ≡ answerOf (galerkinChecks rows cols c ptr idx count ints floats)
@@ -218,45 +210,32 @@ module _ (rows cols c : ℕ) (ptr idx : List ℕ) (count ints floats : ℕ) wher
     smoothed-large h = rw (eq-eqb rows cols e1, lt-leb c maxCoarse h)
 
     module _ (e2 : c ≤ maxCoarse) where
-      pub smoothed-misfit : transferFits rows c ptr idx count ≡ false → Refused SetupMisfit ≡ answerOf (galerkinChecks rows cols c ptr idx count ints floats)
+      pub smoothed-ints : ints < 2 * c → Refused (CoarseListTooShort c) ≡ answerOf (galerkinChecks rows cols c ptr idx count ints floats)
       unfolding galerkinChecks require _>>=_ answerOf
-      smoothed-misfit h = rw (eq-eqb rows cols e1, le-leb c maxCoarse e2, h)
+      smoothed-ints h = rw (eq-eqb rows cols e1, le-leb c maxCoarse e2, lt-leb (2 * c) ints h)
 
-      module _ (e3 : transferFits rows c ptr idx count ≡ true) where
-        pub smoothed-ints : ints < 2 * c → Refused ListTooShort ≡ answerOf (galerkinChecks rows cols c ptr idx count ints floats)
+      module _ (e3 : 2 * c ≤ ints) where
+        pub smoothed-floats : floats < c * c + c → Refused (CoarseListTooShort c) ≡ answerOf (galerkinChecks rows cols c ptr idx count ints floats)
         unfolding galerkinChecks require _>>=_ answerOf
-        smoothed-ints h = rw (eq-eqb rows cols e1, le-leb c maxCoarse e2, e3, lt-leb (2 * c) ints h)
+        smoothed-floats h = rw (eq-eqb rows cols e1, le-leb c maxCoarse e2, le-leb (2 * c) ints e3, lt-leb (c * c + c) floats h)
 
-        pub smoothed-floats : 2 * c ≤ ints → floats < c * c + c → Refused ListTooShort ≡ answerOf (galerkinChecks rows cols c ptr idx count ints floats)
-        unfolding galerkinChecks require _>>=_ answerOf
-        smoothed-floats h k = rw (eq-eqb rows cols e1, le-leb c maxCoarse e2, e3, le-leb (2 * c) ints h, lt-leb (c * c + c) floats k)
+        module _ (e4 : c * c + c ≤ floats) where
+          pub smoothed-misfit : transferFits rows c ptr idx count ≡ false → Refused SetupMisfit ≡ answerOf (galerkinChecks rows cols c ptr idx count ints floats)
+          unfolding galerkinChecks require _>>=_ answerOf
+          smoothed-misfit h = rw (eq-eqb rows cols e1, le-leb c maxCoarse e2, le-leb (2 * c) ints e3, le-leb (c * c + c) floats e4, h)
 
-        pub smoothed-passed : 2 * c ≤ ints → c * c + c ≤ floats → Walk rows c ptr idx count
-            → (Accepted ≡ answerOf (galerkinChecks rows cols c ptr idx count ints floats)) × GalerkinFacts rows cols c ptr idx count ints floats
-        unfolding galerkinChecks require _>>=_ answerOf
-        smoothed-passed h k w = (rw (eq-eqb rows cols e1, le-leb c maxCoarse e2, e3, le-leb (2 * c) ints h, le-leb (c * c + c) floats k), record { same = e1; small = e2; walk = w; ints-room = h; floats-room = k })
+          pub smoothed-passed : transferFits rows c ptr idx count ≡ true → Walk rows c ptr idx count → (Accepted ≡ answerOf (galerkinChecks rows cols c ptr idx count ints floats)) × GalerkinFacts rows cols c ptr idx count ints floats
+          unfolding galerkinChecks require _>>=_ answerOf
+          smoothed-passed h w = (rw (eq-eqb rows cols e1, le-leb c maxCoarse e2, le-leb (2 * c) ints e3, le-leb (c * c + c) floats e4, h), record { same = e1; small = e2; walk = w; ints-room = e3; floats-room = e4 })
 
--- ---- the whole call, with a work list too
+-- ---- the whole call
 
-module _ {A B : Type 0} (y : A) (z : B) (v k : Answer) (a b : Checked) (x : List B) (u : List A) (w : List B) (o : Outcome (List B)) (eo : o ≡ (a >>= (λ _. b >>= (λ _. done x)))) (ev : v ≡ answerOf a) (ek : k ≡ answerOf b) where
-  pub both-first : (r : Refusal) → v ≡ Refused r → (Refused r ≡ answerOf o) × (u ≡ workOrKept y o u) × (w ≡ resultOrKept z o w)
-  unfolding answerOf resultOrKept workOrKept
-  both-first r e = let q : o ≡ refused r = eo ∙ stops a r (λ _. b >>= (λ _. done x)) (refused-is a r (sym ev ∙ e)) in (rw q, rw q, rw q)
-
-  pub both-then : (r : Refusal) → v ≡ Accepted → k ≡ Refused r → (Refused r ≡ answerOf o) × (u ≡ workOrKept y o u) × (w ≡ resultOrKept z o w)
-  unfolding answerOf resultOrKept workOrKept
-  both-then r e f =
-      let q : o ≡ refused r = eo ∙ goes-on a tt (λ _. b >>= (λ _. done x)) (accepted-done a (sym ev ∙ e)) ∙ stops b r (λ _. done x) (refused-is b r (sym ek ∙ f)) in
-      (rw q, rw q, rw q)
-
-  pub both-through : (s : List A) (t : List B) → v ≡ Accepted → k ≡ Accepted → s ≡ replicate (length u) y → t ≡ padded z (length w) x → (Accepted ≡ answerOf o) × (s ≡ workOrKept y o u) × (t ≡ resultOrKept z o w)
-  unfolding answerOf resultOrKept workOrKept
-  both-through s t e f es et =
-      let q : o ≡ done x = eo ∙ goes-on a tt (λ _. b >>= (λ _. done x)) (accepted-done a (sym ev ∙ e)) ∙ goes-on b tt (λ _. done x) (accepted-done b (sym ek ∙ f)) in
-      (rw q, es ∙ rw q, et ∙ rw q)
+pub galerkin-checked : (a : Matrix) (c : ℕ) (ptr idx : List ℕ) (count ints floats : ℕ) → galerkinChecked a c ptr idx count ints floats ≡ (validOf a >>= (λ _. galerkinChecks (a .rows) (a .cols) c ptr idx count ints floats))
+unfolding galerkinChecked
+galerkin-checked a c ptr idx count ints floats = refl
 
 pub galerkin-call : (a : Matrix) (c : ℕ) (ptr idx : List ℕ) (weights : List Float) (ints floats : ℕ)
-    → galerkinCoarseCall a c ptr idx weights ints floats ≡ (validOf a >>= (λ _. galerkinChecks (a .rows) (a .cols) c ptr idx (length weights) ints floats >>= (λ _. done (averagedSquare c (square c (galerkinEntry a (rowOf ptr idx weights)))))))
+    → galerkinCoarseCall a c ptr idx weights ints floats ≡ (galerkinChecked a c ptr idx (length weights) ints floats >>= (λ _. done (averagedSquare c (square c (galerkinEntry a (rowOf ptr idx weights))))))
 unfolding galerkinCoarseCall
 galerkin-call a c ptr idx weights ints floats = refl
 

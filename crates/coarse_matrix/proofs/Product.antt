@@ -14,9 +14,10 @@ use Rattle.definitions.specs.Lists.{upTo, keep, square, padded}
 use Rattle.definitions.specs.Numbers.{_*ᶠ_, zeroᶠ, total}
 use Rattle.definitions.specs.Matrix.{Matrix, Entry, valuesWhere, entriesOf, rowOf, stored, csr}
 use Rattle.definitions.specs.Coarse.{weightedSum, weightsAt, productTerms, galerkinTerms, galerkinEntry, averagedSquare}
-use Rattle.averaging.specs.Averaging.{averagedIn}
-use Rattle.averaging.proofs.Lists.{square-is, tail-zeros}
-use Rattle.averaging.proofs.Laws.{average-fits, length-averaged}
+use Rattle.definitions.specs.Refusal.{resultLeft}
+use Rattle.averaging.specs.Averaging.{averageCall}
+use Rattle.averaging.proofs.Lists.{square-is}
+use Rattle.averaging.proofs.Laws.{average-fits}
 use Rattle.averaging.proofs.Places.{place}
 use Rattle.csr32.proofs.Stored.{where-append, where-hit, where-miss, where-none}
 use Rattle.laws.proofs.Growing.{flatMap-snoc, upTo-snoc, rows-none}
@@ -197,19 +198,14 @@ rows-more a transfer c r i₀ i₁ i₂ f₀ f₁ f₂ p q =
 
 -- ---- all rows, averaged, and zeros after them
 
-pub galerkin-law : (a : Matrix) (transfer : ℕ → List Entry) (c : ℕ) (i₀ i₁ : List ℕ) (f₀ f₁ v z : List Float) → c ≤ 2_048 → c * c ≤ length f₀ → RowsAdded a transfer c (a .rows) i₀ i₁ f₀ f₁ → v ≡ averagedIn c f₁
-    → z ≡ replicate (length (take (length v - c * c) (drop (c * c) v))) zeroᶠ
-    → take (c * c) v ++ (z ++ drop (length v - c * c) (drop (c * c) v)) ≡ padded zeroᶠ (length f₀) (averagedSquare c (square c (galerkinEntry a transfer)))
-unfolding padded galerkinEntry galerkinTerms
-galerkin-law a transfer c i₀ i₁ f₀ f₁ v z h k p ev ez =
+pub galerkin-law : (a : Matrix) (transfer : ℕ → List Entry) (c : ℕ) (i₀ i₁ : List ℕ) (f₀ f₁ v : List Float) → c ≤ 2_048 → c * c ≤ length f₀ → RowsAdded a transfer c (a .rows) i₀ i₁ f₀ f₁
+    → v ≡ resultLeft zeroᶠ (averageCall c f₁) f₁ → v ≡ padded zeroᶠ (length f₀) (averagedSquare c (square c (galerkinEntry a transfer)))
+unfolding galerkinEntry galerkinTerms
+galerkin-law a transfer c i₀ i₁ f₀ f₁ v h k p ev =
     let k₁ : c * c ≤ length f₁ = omega (arith, p .floats-long) in
     let front : take (c * c) f₁ ≡ square c (galerkinEntry a transfer) =
     square-is nan c (galerkinEntry a transfer) (take (c * c) f₁) (length-take-le (c * c) f₁ k₁) (λ i j hi hj. getD-take (c * c) f₁ (i * c + j) nan (place i j c c hi hj) ∙ p .entries i j hi hj) in
-    let s = averagedSquare c (square c (galerkinEntry a transfer)) in
-    let ev′ : v ≡ s ++ drop (c * c) f₁ = ev ∙ average-fits c f₁ h k₁ ∙ rw front in
-    let nv : length v ≡ length f₀ = ap length ev′ ∙ length-append s (drop (c * c) f₁) ∙ rw (length-averaged c (square c (galerkinEntry a transfer)), length-drop (c * c) f₁, p .floats-long) (omega arith) in
-    let tv : take (c * c) v ≡ s = rw ev′ (take-at s (drop (c * c) f₁) (c * c) (length-averaged c (square c (galerkinEntry a transfer)))) in
-    tail-zeros (c * c) v z zeroᶠ (omega arith) ez ∙ rw (tv, nv, length-averaged c (square c (galerkinEntry a transfer)))
+    ev ∙ average-fits c f₁ h k₁ ∙ rw (front, p .floats-long)
 
 -- ---- rows by their pointers
 

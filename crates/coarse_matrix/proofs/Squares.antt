@@ -7,14 +7,15 @@ use native.Mathlib.Omega.{arith}
 use native.Mathlib.Nat.{mul-le-mul-right}
 use native.Mathlib.Numerals.{add-one}
 use lib.Dec.{eqb}
-use lib.ListN.{length, getD, take, drop, replicate, length-append, length-replicate, getD-replicate}
+use lib.ListN.{length, getD, take, drop, replicate, length-append, length-drop, length-replicate, getD-replicate}
 use lib.Seq.{slice, slice-cons, slice-empty, getD-take, length-take-le, take-all, take-at, drop-at}
 use lib.Ieee.{Float, nan}
 use borrow.Author.Tests.{eqb-true, eqb-false, eq-eqb, ne-eqb}
 use Rattle.definitions.specs.Lists.{upTo, square, padded}
-use Rattle.averaging.specs.Averaging.{averagedIn}
-use Rattle.averaging.proofs.Lists.{square-is, take-zeros, drop-zeros}
-use Rattle.averaging.proofs.Laws.{average-fits, length-averaged}
+use Rattle.definitions.specs.Refusal.{resultLeft}
+use Rattle.averaging.specs.Averaging.{averageCall}
+use Rattle.averaging.proofs.Lists.{square-is, take-zeros}
+use Rattle.averaging.proofs.Laws.{average-fits}
 use Rattle.averaging.proofs.Places.{same-row, place}
 use Rattle.definitions.specs.Numbers.{zeroᶠ, total}
 use Rattle.definitions.specs.Matrix.{Entry, valuesWhere, rowOf, entriesOf, csr, stored}
@@ -121,20 +122,19 @@ module _ (n c : ℕ) (ptr idx : List ℕ) (vals : List Float) (column : ℕ → 
 
   -- averaged, with zeros after it
   pub constant-law : (w z l u v : List Float) → c ≤ 2_048 → c * c ≤ length w → z ≡ replicate (length w) zeroᶠ → l ≡ scattered (rowPuts column c (rowOf ptr idx vals)) n (take (c * c - 0) z)
-      → u ≡ l ++ drop (c * c - 0) z → v ≡ averagedIn c u → v ≡ padded zeroᶠ (length w) (averagedSquare c (square c (constantEntry (csr n n ptr idx vals) column)))
-  unfolding constantEntry padded
+      → u ≡ l ++ drop (c * c - 0) z → v ≡ resultLeft zeroᶠ (averageCall c u) u → v ≡ padded zeroᶠ (length w) (averagedSquare c (square c (constantEntry (csr n n ptr idx vals) column)))
+  unfolding constantEntry
   constant-law w z l u v h k ez el eu ev =
       let q : c * c - 0 ≡ c * c = omega arith in
       let tz : take (c * c - 0) z ≡ replicate (c * c) zeroᶠ = rw (q, ez) (take-zeros (c * c) (length w) zeroᶠ k) in
-      let dz : drop (c * c - 0) z ≡ replicate (length w - c * c) zeroᶠ = rw (q, ez) (drop-zeros (c * c) (length w) zeroᶠ k) in
       let el′ : l ≡ scattered (rowPuts column c (rowOf ptr idx vals)) n (replicate (c * c) zeroᶠ) = el ∙ rw tz in
       let nl : length l ≡ c * c = ap length el′ ∙ length-scattered (rowPuts column c (rowOf ptr idx vals)) (replicate (c * c) zeroᶠ) n ∙ length-replicate (c * c) zeroᶠ in
       let all : take (c * c) l ≡ l = take-all (c * c) l (omega arith) in
       let is : l ≡ square c (constantEntry (csr n n ptr idx vals) column) = sym all ∙ rw el′ (square-law (rowPuts column c (rowOf ptr idx vals)) n c (c * c) (constantEntry (csr n n ptr idx vals) column) (omega arith) (λ i j p g. ap total (constant-terms i j g))) in
-      let nu : c * c ≤ length u = rw eu (rw (length-append l (drop (c * c - 0) z), nl) (omega arith)) in
+      let nz : length z ≡ length w = ap length ez ∙ length-replicate (length w) zeroᶠ in
+      let nu : length u ≡ length w = rw eu (rw (length-append l (drop (c * c - 0) z), nl, length-drop (c * c - 0) z) (omega arith)) in
       let tu : take (c * c) u ≡ l = rw eu (take-at l (drop (c * c - 0) z) (c * c) nl) in
-      let du : drop (c * c) u ≡ replicate (length w - c * c) zeroᶠ = rw eu (drop-at l (drop (c * c - 0) z) (c * c) nl ∙ dz) in
-      ev ∙ average-fits c u h nu ∙ rw (tu, du, is, length-averaged c (square c (constantEntry (csr n n ptr idx vals) column)))
+      ev ∙ average-fits c u h (omega arith) ∙ rw (tu, is, nu)
 
 -- ---- steps of loops over stored entries
 

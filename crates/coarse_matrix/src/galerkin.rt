@@ -274,7 +274,5 @@ pub(crate) fn galerkin_into(
 {
     galerkin_sum(ptr, idx, vals, n, tptr, tidx, weights, c, ints, floats);
     average(c, floats);
-    let square = c * c;
-    zero_floats(&mut floats[square..]);
     zero_ints(ints);
 }

@@ -1,20 +1,25 @@
 // The coarse matrix, by the basis that is constant over a group and by the smoothed one.
+use causes::leave_floats;
+use causes::leave_ints;
 use csr32::column_outside;
 use csr32::pointer_falls;
 use csr32::validate;
 use definitions::Answer;
 use definitions::MAX_BLOCK;
 use definitions::MAX_COARSE;
+use definitions::MAX_ROWS;
 use definitions::Refusal;
 ghost use mathlib.Core.Path.{_≡_};
 ghost use mathlib.Core.Bool.{true};
 ghost use Prim.Native.Nat.{_≤_};
 ghost use lib.ListN.{length};
 ghost use Rattle.definitions.specs.Numbers.{zeroᶠ};
-ghost use Rattle.definitions.specs.Matrix.{csr};
+ghost use Rattle.definitions.specs.Matrix.{csr, maxRows};
+ghost use Rattle.definitions.specs.Refusal.{resultLeft, workLeft};
 ghost use Rattle.definitions.specs.Answers.{answerOf};
 ghost use Rattle.definitions.specs.declared.Answer.the-variants.{Accepted};
-ghost use Rattle.coarse_matrix.specs.Calls.{resultOrKept, constantChecks, constantCoarseCall, ConstantFacts, transferFits, galerkinChecks, galerkinCoarseCall, workOrKept, GalerkinFacts};
+ghost use Rattle.csr32.specs.Rows.{Rows};
+ghost use Rattle.coarse_matrix.specs.Calls.{constantChecks, constantChecked, constantCoarseCall, ConstantFacts, transferFits, galerkinChecks, galerkinChecked, galerkinCoarseCall, GalerkinFacts};
 ghost use Rattle.coarse_matrix.specs.Scatter.{Walk};
 
 mod constant;
@@ -29,6 +34,7 @@ fn constant_checks(
     groups: usize,
     lent: usize,
 ) -> Answer
+    requires { ⌜ groups ≤ maxRows ⌝ }
     ensures { λ r. ⌜ (r ≡ answerOf (constantChecks rows cols size (now (ids .entry)) groups lent)) × (r ≡ Accepted → ConstantFacts rows cols size (now (ids .entry)) groups lent) ⌝ }
 {
     if rows != cols {
@@ -43,24 +49,44 @@ fn constant_checks(
     if rows % size != 0 {
         return Answer::Refused(Refusal::NotMultiple);
     }
-    let nodes = rows / size;
-    if nodes < groups {
-        return Answer::Refused(Refusal::SetupMisfit);
-    }
     let c = groups * size;
     if MAX_COARSE < c {
         return Answer::Refused(Refusal::CoarseTooLarge(c as u64));
     }
-    if ids.len() != nodes {
+    if lent < c * c {
+        return Answer::Refused(Refusal::CoarseListTooShort(c as u64));
+    }
+    if ids.len() != rows / size {
         return Answer::Refused(Refusal::SetupMisfit);
     }
     if column_outside(ids, groups) {
         return Answer::Refused(Refusal::SetupMisfit);
     }
-    if lent < c * c {
-        return Answer::Refused(Refusal::ListTooShort);
-    }
     Answer::Accepted
+}
+
+// All checks of the call, in their order.
+fn constant_check(
+    rows: usize,
+    cols: usize,
+    row_ptr: &[u32],
+    col_idx: &[u32],
+    values: &[f64],
+    size: usize,
+    ids: &[u32],
+    groups: usize,
+    lent: usize,
+) -> Answer
+    ensures { λ r. ⌜ (r ≡ answerOf (constantChecked (csr rows cols (now («row_ptr» .entry)) (now («col_idx» .entry)) (now (values .entry))) size (now (ids .entry)) groups lent)) × (r ≡ Accepted → Rows (csr rows cols (now («row_ptr» .entry)) (now («col_idx» .entry)) (now (values .entry))) × ConstantFacts rows cols size (now (ids .entry)) groups lent) ⌝ }
+{
+    if MAX_ROWS < groups {
+        return Answer::Refused(Refusal::TooLarge);
+    }
+    let valid = validate(rows, cols, row_ptr, col_idx, values);
+    match valid {
+        Answer::Refused(cause) => Answer::Refused(cause),
+        Answer::Accepted => constant_checks(rows, cols, size, ids, groups, lent),
+    }
 }
 
 // The coarse matrix of the basis that is constant over a group, averaged with its transpose, with zeros after it.
@@ -75,29 +101,36 @@ pub fn constant_coarse(
     groups: usize,
     coarse: &mut [f64],
 ) -> Answer
-    ensures { λ r. ⌜ (r ≡ answerOf (constantCoarseCall (csr rows cols (now («row_ptr» .entry)) (now («col_idx» .entry)) (now (values .entry))) «block_size» (now (ids .entry)) groups (length (now (coarse .entry))))) × (now (coarse .exit) ≡ resultOrKept zeroᶠ (constantCoarseCall (csr rows cols (now («row_ptr» .entry)) (now («col_idx» .entry)) (now (values .entry))) «block_size» (now (ids .entry)) groups (length (now (coarse .entry)))) (now (coarse .entry))) ⌝ }
+    ensures { λ r. ⌜ (r ≡ answerOf (constantCoarseCall (csr rows cols (now («row_ptr» .entry)) (now («col_idx» .entry)) (now (values .entry))) «block_size» (now (ids .entry)) groups (length (now (coarse .entry))))) × (now (coarse .exit) ≡ resultLeft zeroᶠ (constantCoarseCall (csr rows cols (now («row_ptr» .entry)) (now («col_idx» .entry)) (now (values .entry))) «block_size» (now (ids .entry)) groups (length (now (coarse .entry)))) (now (coarse .entry))) ⌝ }
 {
-    let valid = validate(rows, cols, row_ptr, col_idx, values);
-    match valid {
-        Answer::Refused(cause) => Answer::Refused(cause),
+    let checked = constant_check(
+        rows,
+        cols,
+        row_ptr,
+        col_idx,
+        values,
+        block_size,
+        ids,
+        groups,
+        coarse.len(),
+    );
+    match checked {
+        Answer::Refused(cause) => {
+            leave_floats(cause, coarse);
+            Answer::Refused(cause)
+        }
         Answer::Accepted => {
-            let checked = constant_checks(rows, cols, block_size, ids, groups, coarse.len());
-            match checked {
-                Answer::Refused(cause) => Answer::Refused(cause),
-                Answer::Accepted => {
-                    constant::constant_into(
-                        row_ptr,
-                        col_idx,
-                        values,
-                        ids,
-                        block_size,
-                        rows,
-                        groups * block_size,
-                        coarse,
-                    );
-                    Answer::Accepted
-                }
-            }
+            constant::constant_into(
+                row_ptr,
+                col_idx,
+                values,
+                ids,
+                block_size,
+                rows,
+                groups * block_size,
+                coarse,
+            );
+            Answer::Accepted
         }
     }
 }
@@ -150,16 +183,38 @@ fn galerkin_checks(
     if MAX_COARSE < c {
         return Answer::Refused(Refusal::CoarseTooLarge(c as u64));
     }
+    if ints < 2 * c {
+        return Answer::Refused(Refusal::CoarseListTooShort(c as u64));
+    }
+    if floats < c * c + c {
+        return Answer::Refused(Refusal::CoarseListTooShort(c as u64));
+    }
     if transfer_fits(rows, c, ptr, idx, count) {
-        if ints < 2 * c {
-            return Answer::Refused(Refusal::ListTooShort);
-        }
-        if floats < c * c + c {
-            return Answer::Refused(Refusal::ListTooShort);
-        }
-        Answer::Accepted
-    } else {
-        Answer::Refused(Refusal::SetupMisfit)
+        return Answer::Accepted;
+    }
+    Answer::Refused(Refusal::SetupMisfit)
+}
+
+// All checks of the call, in their order.
+fn galerkin_check(
+    rows: usize,
+    cols: usize,
+    row_ptr: &[u32],
+    col_idx: &[u32],
+    values: &[f64],
+    c: usize,
+    ptr: &[u32],
+    idx: &[u32],
+    count: usize,
+    ints: usize,
+    floats: usize,
+) -> Answer
+    ensures { λ r. ⌜ (r ≡ answerOf (galerkinChecked (csr rows cols (now («row_ptr» .entry)) (now («col_idx» .entry)) (now (values .entry))) c (now (ptr .entry)) (now (idx .entry)) count ints floats)) × (r ≡ Accepted → Rows (csr rows cols (now («row_ptr» .entry)) (now («col_idx» .entry)) (now (values .entry))) × GalerkinFacts rows cols c (now (ptr .entry)) (now (idx .entry)) count ints floats) ⌝ }
+{
+    let valid = validate(rows, cols, row_ptr, col_idx, values);
+    match valid {
+        Answer::Refused(cause) => Answer::Refused(cause),
+        Answer::Accepted => galerkin_checks(rows, cols, c, ptr, idx, count, ints, floats),
     }
 }
 
@@ -177,40 +232,41 @@ pub fn galerkin_coarse(
     ints: &mut [u32],
     floats: &mut [f64],
 ) -> Answer
-    ensures { λ r. ⌜ (r ≡ answerOf (galerkinCoarseCall (csr rows cols (now («row_ptr» .entry)) (now («col_idx» .entry)) (now (values .entry))) c (now («transfer_ptr» .entry)) (now («transfer_idx» .entry)) (now (weights .entry)) (length (now (ints .entry))) (length (now (floats .entry))))) × (now (ints .exit) ≡ workOrKept 0 (galerkinCoarseCall (csr rows cols (now («row_ptr» .entry)) (now («col_idx» .entry)) (now (values .entry))) c (now («transfer_ptr» .entry)) (now («transfer_idx» .entry)) (now (weights .entry)) (length (now (ints .entry))) (length (now (floats .entry)))) (now (ints .entry))) × (now (floats .exit) ≡ resultOrKept zeroᶠ (galerkinCoarseCall (csr rows cols (now («row_ptr» .entry)) (now («col_idx» .entry)) (now (values .entry))) c (now («transfer_ptr» .entry)) (now («transfer_idx» .entry)) (now (weights .entry)) (length (now (ints .entry))) (length (now (floats .entry)))) (now (floats .entry))) ⌝ }
+    ensures { λ r. ⌜ (r ≡ answerOf (galerkinCoarseCall (csr rows cols (now («row_ptr» .entry)) (now («col_idx» .entry)) (now (values .entry))) c (now («transfer_ptr» .entry)) (now («transfer_idx» .entry)) (now (weights .entry)) (length (now (ints .entry))) (length (now (floats .entry))))) × (now (ints .exit) ≡ workLeft 0 (galerkinCoarseCall (csr rows cols (now («row_ptr» .entry)) (now («col_idx» .entry)) (now (values .entry))) c (now («transfer_ptr» .entry)) (now («transfer_idx» .entry)) (now (weights .entry)) (length (now (ints .entry))) (length (now (floats .entry)))) (now (ints .entry))) × (now (floats .exit) ≡ resultLeft zeroᶠ (galerkinCoarseCall (csr rows cols (now («row_ptr» .entry)) (now («col_idx» .entry)) (now (values .entry))) c (now («transfer_ptr» .entry)) (now («transfer_idx» .entry)) (now (weights .entry)) (length (now (ints .entry))) (length (now (floats .entry)))) (now (floats .entry))) ⌝ }
 {
-    let valid = validate(rows, cols, row_ptr, col_idx, values);
-    match valid {
-        Answer::Refused(cause) => Answer::Refused(cause),
+    let checked = galerkin_check(
+        rows,
+        cols,
+        row_ptr,
+        col_idx,
+        values,
+        c,
+        transfer_ptr,
+        transfer_idx,
+        weights.len(),
+        ints.len(),
+        floats.len(),
+    );
+    match checked {
+        Answer::Refused(cause) => {
+            leave_ints(cause, ints);
+            leave_floats(cause, floats);
+            Answer::Refused(cause)
+        }
         Answer::Accepted => {
-            let checked = galerkin_checks(
+            galerkin::galerkin_into(
+                row_ptr,
+                col_idx,
+                values,
                 rows,
-                cols,
-                c,
                 transfer_ptr,
                 transfer_idx,
-                weights.len(),
-                ints.len(),
-                floats.len(),
+                weights,
+                c,
+                ints,
+                floats,
             );
-            match checked {
-                Answer::Refused(cause) => Answer::Refused(cause),
-                Answer::Accepted => {
-                    galerkin::galerkin_into(
-                        row_ptr,
-                        col_idx,
-                        values,
-                        rows,
-                        transfer_ptr,
-                        transfer_idx,
-                        weights,
-                        c,
-                        ints,
-                        floats,
-                    );
-                    Answer::Accepted
-                }
-            }
+            Answer::Accepted
         }
     }
 }

@@ -1,8 +1,8 @@
 -- How large the numbers on the way to the whole root are.
 use Prim.Native.Nat.{ℕ, _+_, _*_, _/_, _%_, _^_, _≤_, _<_}
-use native.Mathlib.Nat.{le-refl, le-trans, le-of-lt, lt-of-lt-of-le, lt-of-le-of-lt, mul-le-mul, div-lt-iff-lt-mul}
+use native.Mathlib.Nat.{le-refl, le-of-lt, lt-of-lt-of-le, lt-of-le-of-lt, mul-le-mul, div-lt-iff-lt-mul}
 use native.Mathlib.Omega.{arith}
-use lib.Dec.{lit≤, lit<}
+use lib.Dec.{lit<}
 use Rattle.laws.proofs.RootSquares.{sq-lt}
 
 -- a quotient by d or more is at most what d itself would give
@@ -12,33 +12,39 @@ quotient a d q s h D g = div-lt-iff-lt-mul (lt-of-lt-of-le D g) .1 (lt-of-lt-of-
 -- ---- Newton's steps: the first in 32 bits, in place, and the second
 
 abbrev pub first : ℕ → ℕ → ℕ
-first a t = t * 64 % 4294967296 + a / 4194304 / t
+first a t = t * 128 % 4294967296 + a / 8388608 / t
 
 abbrev pub placed : ℕ → ℕ → ℕ
 placed a t = first a t * 128 % 18446744073709551616
+
+abbrev pub near : ℕ → ℕ → ℕ
+near a t = (placed a t + a / placed a t) / 2
 
 pub record Steps (a t : ℕ) : Type 0 where
   pub first-lt : first a t < 2 ^ 32
   pub placed-pos : 0 < placed a t
   pub sum-lt : placed a t + a / placed a t < 2 ^ 64
-  pub last-lt : (placed a t + a / placed a t) / 2 < 2 ^ 30
+  pub last-lt : near a t < 2 ^ 30
+
+pub quotient-lt : (a t : ℕ) → a < 2 ^ 54 → 2 ^ 11 ≤ t → a / 8388608 / t < 2 ^ 20
+quotient-lt a t A l = quotient (a / 8388608) (2 ^ 11) (2 ^ 20) t (omega arith) (lit< tt) l
 
 pub steps : (a t : ℕ) → a < 2 ^ 54 → 2 ^ 11 ≤ t → t < 2 ^ 14 → Steps a t
 steps a t A l h =
-    let q : a / 4194304 / t < 2 ^ 21 = quotient (a / 4194304) (2 ^ 11) (2 ^ 21) t (omega arith) (lit< tt) l in
+    let q = quotient-lt a t A l in
     let s = placed a t in
-    let lo : 2 ^ 24 ≤ s = omega arith in
+    let lo : 2 ^ 25 ≤ s = omega arith in
     let hi : s < 2 ^ 29 = omega arith in
-    let p : a / s < 2 ^ 30 = quotient a (2 ^ 24) (2 ^ 30) s A (lit< tt) lo in
-    record { first-lt = omega arith; placed-pos = lt-of-lt-of-le (lit< {m = 0} {n = 2 ^ 24} tt) lo; sum-lt = omega arith; last-lt = omega arith }
+    let p : a / s < 2 ^ 29 = quotient a (2 ^ 25) (2 ^ 29) s A (lit< tt) lo in
+    record { first-lt = omega arith; placed-pos = lt-of-lt-of-le (lit< {m = 0} {n = 2 ^ 25} tt) lo; sum-lt = omega arith; last-lt = omega arith }
 
 -- ---- squares
 
 pub square-fits : (s : ℕ) → s < 2 ^ 31 → s * s < 2 ^ 64
 square-fits s h = lt-of-le-of-lt (mul-le-mul (le-of-lt h) (le-of-lt h)) (lit< {m = 2 ^ 31 * 2 ^ 31} {n = 2 ^ 64} tt)
 
-pub square-pos : (a s : ℕ) → 2 ^ 52 ≤ a → a < s * s → 1 ≤ s
-square-pos a s A h = sq-lt 0 s (lt-of-le-of-lt (le-trans (lit≤ {m = 0} {n = 2 ^ 52} tt) A) h)
+pub square-pos : {a : ℕ} (s : ℕ) → a < s * s → 1 ≤ s
+square-pos {a} s h = sq-lt 0 s (omega arith)
 
 pub root-small : (a s : ℕ) → a < 2 ^ 54 → s * s ≤ a → s < 2 ^ 27
 root-small a s h g = sq-lt s (2 ^ 27) (lt-of-le-of-lt g h)

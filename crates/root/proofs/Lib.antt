@@ -1,4 +1,5 @@
 mod Bounds
+mod Correction
 mod Division
 mod Exponent
 mod Pattern

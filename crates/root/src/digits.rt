@@ -12,27 +12,29 @@ pub struct Rooted {
     pub rest: u64,
 }
 
-// Near the root of a: two of Newton's steps from t * 2^14, the first in 32 bits. How near t is makes no difference but to the time.
+// Near the root of a: two of Newton's steps from t * 2^15, the first in 32 bits. How near t is makes no difference but to the time.
 fn newton(a: u64, t: u32) -> u64
     requires { ⌜ (a < 2 ^ 54) × (2 ^ 11 ≤ t) × (t < 2 ^ 14) ⌝ }
     ensures { λ r. ⌜ r < 2 ^ 30 ⌝ }
 {
-    let q = (a >> 22) as u32 / t;
-    let s = (((t << 6) + q) as u64) << 7;
+    let q = (a >> 23) as u32 / t;
+    let s = (((t << 7) + q) as u64) << 7;
     (s + a / s) / 2
 }
 
-// The whole root of a, from any start: at most one step down and none up where it comes from `newton` and the right table.
+// The whole root of a, from any start. By the right table one correction is enough, one step down: `newton` comes to the root or to one more. That is the
+// law `one-correction` (proofs/Correction.antt): the table starts less than 2^20 below the root, so the first of the two steps ends at most 2^13 + 1 from
+// it, and a step from there ends at the root or one above.
 fn whole_root(a: u64, near: u64) -> u64
     requires { ⌜ (2 ^ 52 ≤ a) × (a < 2 ^ 54) × (near < 2 ^ 30) ⌝ }
     ensures { λ r. ⌜ IsRoot a r ⌝ }
 {
     let mut s = near;
-    while s * s > a {
-        s -= 1;
-    }
     while (s + 1) * (s + 1) <= a {
         s += 1;
+    }
+    while s * s > a {
+        s -= 1;
     }
     s
 }
@@ -42,7 +44,7 @@ pub(crate) fn with_rest(table: &StartTable, a: u64) -> Rooted
     requires { ⌜ (2 ^ 52 ≤ a) × (a < 2 ^ 54) ⌝ }
     ensures { λ r. ⌜ Rest (a * 2 ^ 52) (r .root) (r .rest) ⌝ }
 {
-    let t = start(table, (a >> 44) as usize) as u32;
+    let t = start(table, (a >> 46) as usize) as u32;
     let s = whole_root(a, newton(a, t));
     let n = (a - s * s) << 25;
     let q = n / s;

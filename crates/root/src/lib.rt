@@ -19,7 +19,7 @@ use fields::split;
 use starts::starts;
 
 // Its type has a name, so that callers do not say how long it is.
-pub type StartTable = [u16; 768];
+pub type StartTable = [u16; 192];
 
 // The root's pattern, for a positive finite value's.
 fn root_bits(table: &StartTable, b: u64) -> u64
@@ -31,9 +31,9 @@ fn root_bits(table: &StartTable, b: u64) -> u64
     rebuilt(halved(s.e), nearest(r.root, r.rest))
 }
 
-// The table that the search starts from: for k from 256 to 1023 the largest t with t * t <= 65,536 k.
+// The table that the search starts from: for k from 64 to 255 the largest t with t * t <= 65,536 k.
 pub fn table() -> StartTable
-    ensures { λ r. ⌜ r ≡ wholeRoots 768 256 ⌝ }
+    ensures { λ r. ⌜ r ≡ wholeRoots 192 64 ⌝ }
 {
     starts()
 }

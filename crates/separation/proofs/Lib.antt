@@ -26,4 +26,5 @@ pub mod FiniteSetup
 pub mod Theorem
 pub mod Calls
 pub mod Instance
+pub mod Instances
 pub mod Sharp

@@ -1,4 +1,5 @@
-// The stages of setup that have no entry point of their own, exported for the benchmarks. Each answers 0 where it is accepted, else 253, which no cause has.
+// The stages of setup that have no entry point of their own, exported for the benchmarks. Each answers 0, or the number of the cause that refuses it.
+use causes::number_of;
 use definitions::Answer;
 use definitions::FactorAnswer;
 use definitions::TransferAnswer;
@@ -9,37 +10,37 @@ ghost use Prim.Native.Nat.{_*_};
 ghost use Rattle.definitions.specs.Numbers.{zeroᶠ, largest};
 ghost use Rattle.definitions.specs.Refusal.{resultLeft, workLeft};
 ghost use Rattle.definitions.specs.Matrix.{csr};
-ghost use Rattle.definitions.specs.Answers.{answerOf, transferAnswer, factorAnswer};
+ghost use Rattle.definitions.specs.Answers.{answerOf, transferAnswer, factorAnswer, answerNumber, transferNumber, factorNumber};
 ghost use Rattle.adjacency.specs.Within.{neighboursWithin};
 ghost use Rattle.transfer.specs.Call.{smoothedTransferCall, transferInts, transferFloats};
-ghost use Rattle.coarse_matrix.specs.Calls.{resultOrKept, workOrKept, constantCoarseCall, galerkinCoarseCall};
+ghost use Rattle.coarse_matrix.specs.Calls.{constantCoarseCall, galerkinCoarseCall};
 ghost use Rattle.coarse_factor.specs.Calls.{coarseFactorCall, coarseInverseCall};
-ghost use Rattle.setup_stages.specs.Told.{told as toldOf, toldTransfer, toldFactor, listsBy};
+ghost use Rattle.setup_stages.specs.Policy.{listsBy};
 
-fn told(answer: Answer) -> u64
-    ensures { λ r. ⌜ r ≡ toldOf answer ⌝ }
+fn number(answer: Answer) -> u64
+    ensures { λ r. ⌜ r ≡ answerNumber answer ⌝ }
 {
     match answer {
         Answer::Accepted => 0,
-        Answer::Refused(_) => 253,
+        Answer::Refused(cause) => number_of(cause),
     }
 }
 
-fn told_transfer(answer: TransferAnswer) -> u64
-    ensures { λ r. ⌜ r ≡ toldTransfer answer ⌝ }
+fn transfer_number(answer: TransferAnswer) -> u64
+    ensures { λ r. ⌜ r ≡ transferNumber answer ⌝ }
 {
     match answer {
         TransferAnswer::Count(_) => 0,
-        TransferAnswer::Refused(_) => 253,
+        TransferAnswer::Refused(cause) => number_of(cause),
     }
 }
 
-fn told_factor(answer: FactorAnswer) -> u64
-    ensures { λ r. ⌜ r ≡ toldFactor answer ⌝ }
+fn factor_number(answer: FactorAnswer) -> u64
+    ensures { λ r. ⌜ r ≡ factorNumber answer ⌝ }
 {
     match answer {
         FactorAnswer::Factored(_) => 0,
-        FactorAnswer::Refused(_) => 253,
+        FactorAnswer::Refused(cause) => number_of(cause),
     }
 }
 
@@ -54,7 +55,7 @@ fn lists_by(strong: u64) -> TwoLevelAggregation
 }
 
 #[no_mangle]
-pub extern "C" fn stage_neighbours(
+pub extern "C" fn yelomawin_bench_neighbours(
     rows: u64,
     cols: u64,
     row_ptr: &[u32],
@@ -66,7 +67,7 @@ pub extern "C" fn stage_neighbours(
     ints: &mut [u32],
     floats: &mut [f64],
 ) -> u64
-    ensures { λ r. ⌜ r ≡ toldOf (answerOf (neighboursWithin (listsBy strong) (csr rows cols (now («row_ptr» .entry)) (now («col_idx» .entry)) (now (values .entry))) «block_size» base (length (now (ints .entry))) (length (now (floats .entry))))) ⌝ }
+    ensures { λ r. ⌜ r ≡ answerNumber (answerOf (neighboursWithin (listsBy strong) (csr rows cols (now («row_ptr» .entry)) (now («col_idx» .entry)) (now (values .entry))) «block_size» base (length (now (ints .entry))) (length (now (floats .entry))))) ⌝ }
     ensures { λ _. ⌜ now (ints .exit) ≡ resultLeft 0 (neighboursWithin (listsBy strong) (csr rows cols (now («row_ptr» .entry)) (now («col_idx» .entry)) (now (values .entry))) «block_size» base (length (now (ints .entry))) (length (now (floats .entry)))) (now (ints .entry)) ⌝ }
     ensures { λ _. ⌜ now (floats .exit) ≡ workLeft zeroᶠ (neighboursWithin (listsBy strong) (csr rows cols (now («row_ptr» .entry)) (now («col_idx» .entry)) (now (values .entry))) «block_size» base (length (now (ints .entry))) (length (now (floats .entry)))) (now (floats .entry)) ⌝ }
 {
@@ -83,11 +84,11 @@ pub extern "C" fn stage_neighbours(
         ints,
         floats,
     );
-    told(a)
+    number(a)
 }
 
 #[no_mangle]
-pub extern "C" fn stage_transfer(
+pub extern "C" fn yelomawin_bench_transfer(
     rows: u64,
     cols: u64,
     row_ptr: &[u32],
@@ -101,7 +102,7 @@ pub extern "C" fn stage_transfer(
     ints: &mut [u32],
     floats: &mut [f64],
 ) -> u64
-    ensures { λ r. ⌜ r ≡ toldTransfer (transferAnswer (smoothedTransferCall (csr rows cols (now («row_ptr» .entry)) (now («col_idx» .entry)) (now (values .entry))) «block_size» (now (ids .entry)) groups (now (diagonal .entry)) damping (length (now (ints .entry))) (length (now (floats .entry))))) ⌝ }
+    ensures { λ r. ⌜ r ≡ transferNumber (transferAnswer (smoothedTransferCall (csr rows cols (now («row_ptr» .entry)) (now («col_idx» .entry)) (now (values .entry))) «block_size» (now (ids .entry)) groups (now (diagonal .entry)) damping (length (now (ints .entry))) (length (now (floats .entry))))) ⌝ }
     ensures { λ _. ⌜ now (ints .exit) ≡ transferInts (smoothedTransferCall (csr rows cols (now («row_ptr» .entry)) (now («col_idx» .entry)) (now (values .entry))) «block_size» (now (ids .entry)) groups (now (diagonal .entry)) damping (length (now (ints .entry))) (length (now (floats .entry)))) (now (ints .entry)) ⌝ }
     ensures { λ _. ⌜ now (floats .exit) ≡ transferFloats (smoothedTransferCall (csr rows cols (now («row_ptr» .entry)) (now («col_idx» .entry)) (now (values .entry))) «block_size» (now (ids .entry)) groups (now (diagonal .entry)) damping (length (now (ints .entry))) (length (now (floats .entry)))) (now (floats .entry)) ⌝ }
 {
@@ -119,11 +120,11 @@ pub extern "C" fn stage_transfer(
         ints,
         floats,
     );
-    told_transfer(a)
+    transfer_number(a)
 }
 
 #[no_mangle]
-pub extern "C" fn stage_constant_coarse(
+pub extern "C" fn yelomawin_bench_constant_coarse(
     rows: u64,
     cols: u64,
     row_ptr: &[u32],
@@ -134,8 +135,8 @@ pub extern "C" fn stage_constant_coarse(
     groups: u64,
     coarse: &mut [f64],
 ) -> u64
-    ensures { λ r. ⌜ r ≡ toldOf (answerOf (constantCoarseCall (csr rows cols (now («row_ptr» .entry)) (now («col_idx» .entry)) (now (values .entry))) «block_size» (now (ids .entry)) groups (length (now (coarse .entry))))) ⌝ }
-    ensures { λ _. ⌜ now (coarse .exit) ≡ resultOrKept zeroᶠ (constantCoarseCall (csr rows cols (now («row_ptr» .entry)) (now («col_idx» .entry)) (now (values .entry))) «block_size» (now (ids .entry)) groups (length (now (coarse .entry)))) (now (coarse .entry)) ⌝ }
+    ensures { λ r. ⌜ r ≡ answerNumber (answerOf (constantCoarseCall (csr rows cols (now («row_ptr» .entry)) (now («col_idx» .entry)) (now (values .entry))) «block_size» (now (ids .entry)) groups (length (now (coarse .entry))))) ⌝ }
+    ensures { λ _. ⌜ now (coarse .exit) ≡ resultLeft zeroᶠ (constantCoarseCall (csr rows cols (now («row_ptr» .entry)) (now («col_idx» .entry)) (now (values .entry))) «block_size» (now (ids .entry)) groups (length (now (coarse .entry)))) (now (coarse .entry)) ⌝ }
 {
     let a = coarse_matrix::constant_coarse(
         rows as usize,
@@ -148,11 +149,11 @@ pub extern "C" fn stage_constant_coarse(
         groups as usize,
         coarse,
     );
-    told(a)
+    number(a)
 }
 
 #[no_mangle]
-pub extern "C" fn stage_galerkin_coarse(
+pub extern "C" fn yelomawin_bench_galerkin_coarse(
     rows: u64,
     cols: u64,
     row_ptr: &[u32],
@@ -165,9 +166,9 @@ pub extern "C" fn stage_galerkin_coarse(
     ints: &mut [u32],
     floats: &mut [f64],
 ) -> u64
-    ensures { λ r. ⌜ r ≡ toldOf (answerOf (galerkinCoarseCall (csr rows cols (now («row_ptr» .entry)) (now («col_idx» .entry)) (now (values .entry))) c (now («transfer_ptr» .entry)) (now («transfer_idx» .entry)) (now (weights .entry)) (length (now (ints .entry))) (length (now (floats .entry))))) ⌝ }
-    ensures { λ _. ⌜ now (ints .exit) ≡ workOrKept 0 (galerkinCoarseCall (csr rows cols (now («row_ptr» .entry)) (now («col_idx» .entry)) (now (values .entry))) c (now («transfer_ptr» .entry)) (now («transfer_idx» .entry)) (now (weights .entry)) (length (now (ints .entry))) (length (now (floats .entry)))) (now (ints .entry)) ⌝ }
-    ensures { λ _. ⌜ now (floats .exit) ≡ resultOrKept zeroᶠ (galerkinCoarseCall (csr rows cols (now («row_ptr» .entry)) (now («col_idx» .entry)) (now (values .entry))) c (now («transfer_ptr» .entry)) (now («transfer_idx» .entry)) (now (weights .entry)) (length (now (ints .entry))) (length (now (floats .entry)))) (now (floats .entry)) ⌝ }
+    ensures { λ r. ⌜ r ≡ answerNumber (answerOf (galerkinCoarseCall (csr rows cols (now («row_ptr» .entry)) (now («col_idx» .entry)) (now (values .entry))) c (now («transfer_ptr» .entry)) (now («transfer_idx» .entry)) (now (weights .entry)) (length (now (ints .entry))) (length (now (floats .entry))))) ⌝ }
+    ensures { λ _. ⌜ now (ints .exit) ≡ workLeft 0 (galerkinCoarseCall (csr rows cols (now («row_ptr» .entry)) (now («col_idx» .entry)) (now (values .entry))) c (now («transfer_ptr» .entry)) (now («transfer_idx» .entry)) (now (weights .entry)) (length (now (ints .entry))) (length (now (floats .entry)))) (now (ints .entry)) ⌝ }
+    ensures { λ _. ⌜ now (floats .exit) ≡ resultLeft zeroᶠ (galerkinCoarseCall (csr rows cols (now («row_ptr» .entry)) (now («col_idx» .entry)) (now (values .entry))) c (now («transfer_ptr» .entry)) (now («transfer_idx» .entry)) (now (weights .entry)) (length (now (ints .entry))) (length (now (floats .entry)))) (now (floats .entry)) ⌝ }
 {
     let a = coarse_matrix::galerkin_coarse(
         rows as usize,
@@ -182,23 +183,23 @@ pub extern "C" fn stage_galerkin_coarse(
         ints,
         floats,
     );
-    told(a)
+    number(a)
 }
 
 #[no_mangle]
-pub extern "C" fn stage_coarse_factor(c: u64, m: &[f64], lower: &mut [f64]) -> u64
-    ensures { λ r. ⌜ r ≡ toldFactor (factorAnswer (largest (take (c * c) (now (m .entry)))) (coarseFactorCall c (now (m .entry)) (length (now (lower .entry))))) ⌝ }
+pub extern "C" fn yelomawin_bench_coarse_factor(c: u64, m: &[f64], lower: &mut [f64]) -> u64
+    ensures { λ r. ⌜ r ≡ factorNumber (factorAnswer (largest (take (c * c) (now (m .entry)))) (coarseFactorCall c (now (m .entry)) (length (now (lower .entry))))) ⌝ }
     ensures { λ _. ⌜ now (lower .exit) ≡ resultLeft zeroᶠ (coarseFactorCall c (now (m .entry)) (length (now (lower .entry)))) (now (lower .entry)) ⌝ }
 {
     let a = coarse_factor::coarse_factor(c as usize, m, lower);
-    told_factor(a)
+    factor_number(a)
 }
 
 #[no_mangle]
-pub extern "C" fn stage_coarse_inverse(c: u64, lower: &[f64], inverse: &mut [f64]) -> u64
-    ensures { λ r. ⌜ r ≡ toldOf (answerOf (coarseInverseCall c (now (lower .entry)) (length (now (inverse .entry))))) ⌝ }
+pub extern "C" fn yelomawin_bench_coarse_inverse(c: u64, lower: &[f64], inverse: &mut [f64]) -> u64
+    ensures { λ r. ⌜ r ≡ answerNumber (answerOf (coarseInverseCall c (now (lower .entry)) (length (now (inverse .entry))))) ⌝ }
     ensures { λ _. ⌜ now (inverse .exit) ≡ resultLeft zeroᶠ (coarseInverseCall c (now (lower .entry)) (length (now (inverse .entry)))) (now (inverse .entry)) ⌝ }
 {
     let a = coarse_factor::coarse_inverse(c as usize, lower, inverse);
-    told(a)
+    number(a)
 }

@@ -1,5 +1,5 @@
 -- Checks one after the other, and the lists when all is done.
-use Prim.Native.Nat.{ℕ, _+_, _-_, _*_, _%_, _≤_}
+use Prim.Native.Nat.{ℕ, _+_, _-_, _*_, _%_, _<_, _≤_}
 use mathlib.Core.Path.{_≡_, refl, ap, sym, _∙_}
 use mathlib.Core.List.{List, [], _++_, map, append-nil}
 use native.Mathlib.Omega.{arith}
@@ -8,24 +8,23 @@ use lib.Seq.{length-take-le}
 use lib.Ieee.{Float}
 use Rattle.definitions.specs.Lists.{padded, pointersFrom, joinedLists}
 use Rattle.definitions.specs.Numbers.{zeroᶠ}
-use Rattle.definitions.specs.Refusal.{Outcome, refused, done, Checked, _>>=_}
+use Rattle.definitions.specs.Refusal.{Outcome, refused, done, Checked, require, _>>=_, resultLeft}
 use lib.Dec.{leb}
-use borrow.Author.Tests.{leb-true}
-use Rattle.definitions.specs.Matrix.{Matrix, Entry}
+use borrow.Author.Tests.{le-leb, lt-leb}
+use Rattle.definitions.specs.Matrix.{Matrix, Entry, maxRows, validOf}
 use Rattle.csr32.specs.Rows.{Rows, rows-of}
 use Rattle.transfer.specs.Touched.{Grouped}
 use Rattle.definitions.specs.Answers.{transferAnswer, answerOf}
-use Rattle.transfer.specs.Call.{transferChecked, roomChecked, smoothedTransferCall, transferInts, transferFloats}
+use Rattle.transfer.specs.Call.{shapeChecked, groupsChecked, transferChecked, smoothedTransferCall, transferInts, transferFloats}
 use Rattle.definitions.specs.declared.TransferAnswer.{TransferAnswer}
 use Rattle.definitions.specs.declared.TransferAnswer.the-variants.{Count, Refused as NoTransfer}
 use Rattle.definitions.specs.Transfer.{transferOf}
 use Rattle.transfer.proofs.Checking.{shape-facts, groups-facts}
 use Rattle.definitions.specs.declared.Refusal.{Refusal}
+use Rattle.definitions.specs.declared.Refusal.the-variants.{TooLarge}
 use Rattle.definitions.specs.declared.Answer.{Answer}
 use Rattle.definitions.specs.declared.Answer.the-variants.{Accepted, Refused}
-use Rattle.csr32.specs.Calls.{accepted-done, refused-is, goes-on, stops}
-use Rattle.laws.proofs.Tests.{both-true}
-use Rattle.laws.proofs.Outcomes.{last-true}
+use Rattle.csr32.specs.Calls.{accepted-done, refused-is, goes-on, stops, passed}
 use Rattle.transfer.specs.Weights.{Built, Left}
 
 module _ (o : Checked) (next : Unit {0} → Checked) (q : Answer) (e : q ≡ answerOf o) where
@@ -69,15 +68,26 @@ is-accepted o e = rw e
 pub taken-apart : (a : Matrix) (size : ℕ) (ids : List ℕ) (groups diagonal ints floats : ℕ) → answerOf (transferChecked a size ids groups diagonal ints floats) ≡ Accepted
     → Rows a × ((a .cols ≡ a .rows) × (1 ≤ size) × (size ≤ 8) × (a .rows % size ≡ 0) × (diagonal ≡ a .rows)) × ((groups * size ≤ 2_048) × Grouped size ids (a .rows) (groups * size))
     × ((2 * a .rows + length (a .values) + 1 + 2 * (groups * size) ≤ ints) × (a .rows + length (a .values) + groups * size ≤ floats))
-unfolding transferChecked roomChecked
+unfolding transferChecked
 taken-apart a size ids groups diagonal ints floats h =
-    let p1 = split _ _ (accepted-done _ h) in
+    let p0 = split _ _ (accepted-done _ h) in
+    let p1 = split _ _ (p0 .1) in
     let p2 = split _ _ (p1 .1) in
-    let p3 = split _ _ (p2 .1) in
-    let s = shape-facts (a .rows) (a .cols) size diagonal (is-accepted _ (p2 .0)) in
-    let g = groups-facts (a .rows) size ids groups (s .1) (s .3) (is-accepted _ (p3 .0)) in
-    let r = both-true (leb (2 * a .rows + length (a .values) + 1 + 2 * (groups * size)) ints) (leb (a .rows + length (a .values) + groups * size) floats) (last-true _ _ (p3 .1)) in
-    (rows-of a (p1 .0), s, g, (leb-true _ _ (r .0), leb-true _ _ (r .1)))
+    let s = shape-facts (a .rows) (a .cols) (length (a .values)) size ints floats (is-accepted _ (p2 .0)) in
+    let g = groups-facts (a .rows) (length (a .values)) size ids groups diagonal ints floats (s .1) (s .3) (is-accepted _ (p2 .1)) in
+    (rows-of a (p1 .0), (s .0, s .1, s .2, s .3, g .0), g .1, g .2)
+
+-- 1 for the groups, then the rest
+module _ (a : Matrix) (size : ℕ) (ids : List ℕ) (groups diagonal ints floats : ℕ) where
+  pub many-groups : maxRows < groups → Refused TooLarge ≡ answerOf (transferChecked a size ids groups diagonal ints floats)
+  unfolding transferChecked require _>>=_ answerOf
+  many-groups h = rw (lt-leb groups maxRows h)
+
+  pub few-groups : (v : Answer) → groups ≤ maxRows
+      → v ≡ answerOf (validOf a >>= (λ _. shapeChecked (a .rows) (a .cols) (length (a .values)) size ints floats >>= (λ _. groupsChecked (a .rows) (length (a .values)) size ids groups diagonal ints floats)))
+      → v ≡ answerOf (transferChecked a size ids groups diagonal ints floats)
+  unfolding transferChecked
+  few-groups v h e = e ∙ ap answerOf (sym (goes-on (require (leb groups maxRows) TooLarge) tt (λ _. validOf a >>= (λ _. shapeChecked (a .rows) (a .cols) (length (a .values)) size ints floats >>= (λ _. groupsChecked (a .rows) (length (a .values)) size ids groups diagonal ints floats))) (passed _ TooLarge (le-leb groups maxRows h))))
 
 -- ---- the whole call
 
@@ -90,14 +100,14 @@ module _ (a : Matrix) (size : ℕ) (ids : List ℕ) (groups : ℕ) (d : List Flo
   Answered r ints' floats' = (r ≡ transferAnswer call) × ((ints' ≡ transferInts call ints) × (floats' ≡ transferFloats call floats))
 
   module _ (q : Answer) (e : q ≡ answerOf (transferChecked a size ids groups (length d) (length ints) (length floats))) where
-    pub call-stops : (r : Refusal) → q ≡ Refused r → Answered (NoTransfer r) ints floats
-    unfolding smoothedTransferCall transferAnswer transferInts transferFloats
-    call-stops r h =
+    pub call-stops : (r : Refusal) (ints' : List ℕ) (floats' : List Float) → q ≡ Refused r → ints' ≡ resultLeft 0 (refused r) ints → floats' ≡ resultLeft zeroᶠ (refused r) floats → Answered (NoTransfer r) ints' floats'
+    unfolding smoothedTransferCall transferAnswer transferInts transferFloats _>>=_
+    call-stops r ints' floats' h ei ef =
         let s = stops (transferChecked a size ids groups (length d) (length ints) (length floats)) r (λ _. done (transferOf a d damping size ids (groups * size))) (refused-is _ r (sym e ∙ h)) in
-        (rw s, (rw s, rw s))
+        (rw s, (ei ∙ rw s, ef ∙ rw s))
 
     pub call-goes : (n : ℕ) (ints' : List ℕ) (floats' : List Float) → q ≡ Accepted → Left (transferOf a d damping size ids (groups * size)) n ints ints' floats floats' → Answered (Count n) ints' floats'
-    unfolding smoothedTransferCall transferAnswer transferInts transferFloats
+    unfolding smoothedTransferCall transferAnswer transferInts transferFloats resultLeft _>>=_
     call-goes n ints' floats' h l =
         let s = goes-on (transferChecked a size ids groups (length d) (length ints) (length floats)) tt (λ _. done (transferOf a d damping size ids (groups * size))) (accepted-done _ (sym e ∙ h)) in
         (rw s (ap Count (l .many)), (rw s (l .columns), rw s (l .weights)))

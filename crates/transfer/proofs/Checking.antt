@@ -14,70 +14,85 @@ use Rattle.definitions.specs.Lists.{any}
 use Rattle.definitions.specs.Refusal.{require, _>>=_}
 use Rattle.definitions.specs.Answers.{answerOf}
 use Rattle.definitions.specs.Block.{maxBlock}
+use Rattle.definitions.specs.Setup.{maxCoarse}
 use Rattle.definitions.specs.Transfer.{coarseColumn}
-use Rattle.definitions.specs.declared.Refusal.the-variants.{NotSquare, BlockSize, NotMultiple, ListTooShort, CoarseTooLarge, WrongLength, SetupMisfit}
+use Rattle.definitions.specs.declared.Refusal.the-variants.{NotSquare, BlockSize, NotMultiple, ListTooShort, CoarseTooLarge, CoarseListTooShort, WrongLength, SetupMisfit}
 use Rattle.definitions.specs.declared.Answer.the-variants.{Accepted, Refused}
 use Rattle.csr32.specs.Calls.{accepted-done}
 use Rattle.laws.proofs.Tests.{both-true}
 use Rattle.laws.proofs.Outcomes.{test-true, last-true}
 use Rattle.transfer.specs.Touched.{Grouped, Below}
-use Rattle.transfer.specs.Call.{shapeChecked, groupsChecked, roomChecked}
+use Rattle.transfer.specs.Call.{shapeChecked, groupsChecked}
 
--- ---- shape
+-- ---- 9, 10, 12, 13
 
-module _ (rows cols size diagonal : ℕ) where
-  pub shape-1 : (cols ≡ rows → ⊥) → Refused NotSquare ≡ answerOf (shapeChecked rows cols size diagonal)
+module _ (rows cols entries size ints floats : ℕ) where
+  pub not-square : (cols ≡ rows → ⊥) → Refused NotSquare ≡ answerOf (shapeChecked rows cols entries size ints floats)
   unfolding shapeChecked require _>>=_ answerOf
-  shape-1 n = let e = ne-eqb cols rows n in rw e
+  not-square n = rw (ne-eqb cols rows n)
 
   module _ (square : cols ≡ rows) where
-    pub shape-2 : size < 1 → Refused BlockSize ≡ answerOf (shapeChecked rows cols size diagonal)
+    pub size-none : size < 1 → Refused BlockSize ≡ answerOf (shapeChecked rows cols entries size ints floats)
     unfolding shapeChecked require _>>=_ answerOf
-    shape-2 h = let e = eq-eqb cols rows square in let f = lt-leb 1 size h in rw (e, f)
+    size-none h = rw (eq-eqb cols rows square, lt-leb 1 size h)
 
-    pub shape-3 : 1 ≤ size → 8 < size → Refused BlockSize ≡ answerOf (shapeChecked rows cols size diagonal)
+    pub size-large : 1 ≤ size → maxBlock < size → Refused BlockSize ≡ answerOf (shapeChecked rows cols entries size ints floats)
     unfolding shapeChecked require _>>=_ answerOf
-    shape-3 l h = let e = eq-eqb cols rows square in let f = le-leb 1 size l in let g = lt-leb size 8 h in rw (e, f, g)
+    size-large l h = rw (eq-eqb cols rows square, le-leb 1 size l, lt-leb size maxBlock h)
 
-    module _ (some : 1 ≤ size) (few : size ≤ 8) where
-      pub shape-4 : (rows % size ≡ 0 → ⊥) → Refused NotMultiple ≡ answerOf (shapeChecked rows cols size diagonal)
+    module _ (some : 1 ≤ size) (few : size ≤ maxBlock) where
+      pub not-multiple : (rows % size ≡ 0 → ⊥) → Refused NotMultiple ≡ answerOf (shapeChecked rows cols entries size ints floats)
       unfolding shapeChecked require _>>=_ answerOf
-      shape-4 n = let e = eq-eqb cols rows square in let f = le-leb 1 size some in let g = le-leb size 8 few in let h = ne-eqb (rows % size) 0 n in rw (e, f, g, h)
+      not-multiple n = rw (eq-eqb cols rows square, le-leb 1 size some, le-leb size maxBlock few, ne-eqb (rows % size) 0 n)
 
       module _ (whole : rows % size ≡ 0) where
-        pub shape-5 : (diagonal ≡ rows → ⊥) → Refused (WrongLength rows diagonal) ≡ answerOf (shapeChecked rows cols size diagonal)
+        pub ints-short : ints < 2 * rows + entries + 1 → Refused ListTooShort ≡ answerOf (shapeChecked rows cols entries size ints floats)
         unfolding shapeChecked require _>>=_ answerOf
-        shape-5 n = let e = eq-eqb cols rows square in let f = le-leb 1 size some in let g = le-leb size 8 few in let h = eq-eqb (rows % size) 0 whole in let k = ne-eqb diagonal rows n in rw (e, f, g, h, k)
+        ints-short h = rw (eq-eqb cols rows square, le-leb 1 size some, le-leb size maxBlock few, eq-eqb (rows % size) 0 whole, lt-leb (2 * rows + entries + 1) ints h)
 
-        pub shape-6 : diagonal ≡ rows → Accepted ≡ answerOf (shapeChecked rows cols size diagonal)
+        pub floats-short : 2 * rows + entries + 1 ≤ ints → floats < rows + entries → Refused ListTooShort ≡ answerOf (shapeChecked rows cols entries size ints floats)
         unfolding shapeChecked require _>>=_ answerOf
-        shape-6 n = let e = eq-eqb cols rows square in let f = le-leb 1 size some in let g = le-leb size 8 few in let h = eq-eqb (rows % size) 0 whole in let k = eq-eqb diagonal rows n in rw (e, f, g, h, k)
+        floats-short l h = rw (eq-eqb cols rows square, le-leb 1 size some, le-leb size maxBlock few, eq-eqb (rows % size) 0 whole, le-leb (2 * rows + entries + 1) ints l, lt-leb (rows + entries) floats h)
 
--- ---- groups
+        pub shape-passed : 2 * rows + entries + 1 ≤ ints → rows + entries ≤ floats → Accepted ≡ answerOf (shapeChecked rows cols entries size ints floats)
+        unfolding shapeChecked require _>>=_ answerOf
+        shape-passed l h = rw (eq-eqb cols rows square, le-leb 1 size some, le-leb size maxBlock few, eq-eqb (rows % size) 0 whole, le-leb (2 * rows + entries + 1) ints l, le-leb (rows + entries) floats h)
 
-module _ (rows size : ℕ) (ids : List ℕ) (count : ℕ) where
-  pub groups-1 : rows < count → Refused SetupMisfit ≡ answerOf (groupsChecked rows size ids count)
+-- ---- 17, 18, 25, 26
+
+module _ (rows entries size : ℕ) (ids : List ℕ) (count diagonal ints floats : ℕ) where
+  pub too-large : maxCoarse < count * size → Refused (CoarseTooLarge (count * size)) ≡ answerOf (groupsChecked rows entries size ids count diagonal ints floats)
   unfolding groupsChecked require _>>=_ answerOf
-  groups-1 h = let e = lt-leb count rows h in rw e
+  too-large h = rw (lt-leb (count * size) maxCoarse h)
 
-  module _ (few : count ≤ rows) where
-    pub groups-2 : 2_048 < count * size → Refused (CoarseTooLarge (count * size)) ≡ answerOf (groupsChecked rows size ids count)
+  module _ (small : count * size ≤ maxCoarse) where
+    pub coarse-ints : ints < 2 * rows + entries + 1 + 2 * (count * size) → Refused (CoarseListTooShort (count * size)) ≡ answerOf (groupsChecked rows entries size ids count diagonal ints floats)
     unfolding groupsChecked require _>>=_ answerOf
-    groups-2 h = let e = le-leb count rows few in let f = lt-leb (count * size) 2_048 h in rw (e, f)
+    coarse-ints h = rw (le-leb (count * size) maxCoarse small, lt-leb (2 * rows + entries + 1 + 2 * (count * size)) ints h)
 
-    module _ (small : count * size ≤ 2_048) where
-      pub groups-3 : (length ids ≡ rows / size → ⊥) → Refused SetupMisfit ≡ answerOf (groupsChecked rows size ids count)
+    module _ (wide : 2 * rows + entries + 1 + 2 * (count * size) ≤ ints) where
+      pub coarse-floats : floats < rows + entries + count * size → Refused (CoarseListTooShort (count * size)) ≡ answerOf (groupsChecked rows entries size ids count diagonal ints floats)
       unfolding groupsChecked require _>>=_ answerOf
-      groups-3 n = let e = le-leb count rows few in let f = le-leb (count * size) 2_048 small in let g = ne-eqb (length ids) (rows / size) n in rw (e, f, g)
+      coarse-floats h = rw (le-leb (count * size) maxCoarse small, le-leb (2 * rows + entries + 1 + 2 * (count * size)) ints wide, lt-leb (rows + entries + count * size) floats h)
 
-      module _ (long : length ids ≡ rows / size) where
-        pub groups-4 : any (λ g. leb count g) ids ≡ true → Refused SetupMisfit ≡ answerOf (groupsChecked rows size ids count)
+      module _ (long : rows + entries + count * size ≤ floats) where
+        pub wrong-diagonal : (diagonal ≡ rows → ⊥) → Refused (WrongLength rows diagonal) ≡ answerOf (groupsChecked rows entries size ids count diagonal ints floats)
         unfolding groupsChecked require _>>=_ answerOf
-        groups-4 h = let e = le-leb count rows few in let f = le-leb (count * size) 2_048 small in let g = eq-eqb (length ids) (rows / size) long in rw (e, f, g, h)
+        wrong-diagonal n = rw (le-leb (count * size) maxCoarse small, le-leb (2 * rows + entries + 1 + 2 * (count * size)) ints wide, le-leb (rows + entries + count * size) floats long, ne-eqb diagonal rows n)
 
-        pub groups-5 : any (λ g. leb count g) ids ≡ false → Accepted ≡ answerOf (groupsChecked rows size ids count)
-        unfolding groupsChecked require _>>=_ answerOf
-        groups-5 h = let e = le-leb count rows few in let f = le-leb (count * size) 2_048 small in let g = eq-eqb (length ids) (rows / size) long in rw (e, f, g, h)
+        module _ (full : diagonal ≡ rows) where
+          pub other-ids : (length ids ≡ rows / size → ⊥) → Refused SetupMisfit ≡ answerOf (groupsChecked rows entries size ids count diagonal ints floats)
+          unfolding groupsChecked require _>>=_ answerOf
+          other-ids n = rw (le-leb (count * size) maxCoarse small, le-leb (2 * rows + entries + 1 + 2 * (count * size)) ints wide, le-leb (rows + entries + count * size) floats long, eq-eqb diagonal rows full, ne-eqb (length ids) (rows / size) n)
+
+          module _ (each : length ids ≡ rows / size) where
+            pub id-outside : any (λ g. leb count g) ids ≡ true → Refused SetupMisfit ≡ answerOf (groupsChecked rows entries size ids count diagonal ints floats)
+            unfolding groupsChecked require _>>=_ answerOf
+            id-outside h = rw (le-leb (count * size) maxCoarse small, le-leb (2 * rows + entries + 1 + 2 * (count * size)) ints wide, le-leb (rows + entries + count * size) floats long, eq-eqb diagonal rows full, eq-eqb (length ids) (rows / size) each, h)
+
+            pub groups-passed : any (λ g. leb count g) ids ≡ false → Accepted ≡ answerOf (groupsChecked rows entries size ids count diagonal ints floats)
+            unfolding groupsChecked require _>>=_ answerOf
+            groups-passed h = rw (le-leb (count * size) maxCoarse small, le-leb (2 * rows + entries + 1 + 2 * (count * size)) ints wide, le-leb (rows + entries + count * size) floats long, eq-eqb diagonal rows full, eq-eqb (length ids) (rows / size) each, h)
 
 -- some id is outside: what is left decides
 module _ (groups : ℕ) (ids : List ℕ) (i : ℕ) where
@@ -93,31 +108,16 @@ module _ (groups : ℕ) (ids : List ℕ) (i : ℕ) where
   unfolding any
   id-end e = rw (e, drop-length ids)
 
--- ---- room
-
-module _ (rows entries c ints floats : ℕ) where
-  pub room-1 : ints < 2 * rows + entries + 1 + 2 * c → Refused ListTooShort ≡ answerOf (roomChecked rows entries c ints floats)
-  unfolding roomChecked require _>>=_ answerOf
-  room-1 h = let e = lt-leb (2 * rows + entries + 1 + 2 * c) ints h in rw e
-
-  pub room-2 : 2 * rows + entries + 1 + 2 * c ≤ ints → floats < rows + entries + c → Refused ListTooShort ≡ answerOf (roomChecked rows entries c ints floats)
-  unfolding roomChecked require _>>=_ answerOf
-  room-2 l h = let e = le-leb (2 * rows + entries + 1 + 2 * c) ints l in let f = lt-leb (rows + entries + c) floats h in rw (e, f)
-
-  pub room-3 : 2 * rows + entries + 1 + 2 * c ≤ ints → rows + entries + c ≤ floats → Accepted ≡ answerOf (roomChecked rows entries c ints floats)
-  unfolding roomChecked require _>>=_ answerOf
-  room-3 l h = let e = le-leb (2 * rows + entries + 1 + 2 * c) ints l in let f = le-leb (rows + entries + c) floats h in rw (e, f)
-
 -- ---- what passed checks say
 
-pub shape-facts : (rows cols size diagonal : ℕ) → answerOf (shapeChecked rows cols size diagonal) ≡ Accepted → (cols ≡ rows) × (1 ≤ size) × (size ≤ 8) × (rows % size ≡ 0) × (diagonal ≡ rows)
+pub shape-facts : (rows cols entries size ints floats : ℕ) → answerOf (shapeChecked rows cols entries size ints floats) ≡ Accepted → (cols ≡ rows) × (1 ≤ size) × (size ≤ 8) × (rows % size ≡ 0)
 unfolding shapeChecked
-shape-facts rows cols size diagonal h =
+shape-facts rows cols entries size ints floats h =
     let p1 = test-true _ _ _ _ (accepted-done _ h) in
     let p2 = test-true _ _ _ _ (p1 .1) in
     let s = both-true (leb 1 size) (leb size maxBlock) (p2 .0) in
     let p3 = test-true _ _ _ _ (p2 .1) in
-    (eqb-true _ _ (p1 .0), leb-true _ _ (s .0), leb-true _ _ (s .1), eqb-true _ _ (p3 .0), eqb-true _ _ (last-true _ _ (p3 .1)))
+    (eqb-true _ _ (p1 .0), leb-true _ _ (s .0), leb-true _ _ (s .1), eqb-true _ _ (p3 .0))
 
 none-any : (groups : ℕ) (xs : List ℕ) → any (λ g. leb groups g) xs ≡ false → Below groups xs
 unfolding any
@@ -137,22 +137,29 @@ none-any groups (x ∷ xs) e (suc k) h = none-any groups xs (right (leb groups x
 within-law : (id size groups r : ℕ) → id < groups → r < size → id * size + r < groups * size
 within-law id size groups r h l = omega (arith, mul-le-mul-right size h)
 
-pub groups-facts : (rows size : ℕ) (ids : List ℕ) (groups : ℕ) → 1 ≤ size → rows % size ≡ 0 → answerOf (groupsChecked rows size ids groups) ≡ Accepted → (groups * size ≤ 2_048) × Grouped size ids rows (groups * size)
+pub groups-facts : (rows entries size : ℕ) (ids : List ℕ) (groups diagonal ints floats : ℕ) → 1 ≤ size → rows % size ≡ 0 → answerOf (groupsChecked rows entries size ids groups diagonal ints floats) ≡ Accepted
+    → (diagonal ≡ rows) × ((groups * size ≤ 2_048) × Grouped size ids rows (groups * size)) × ((2 * rows + entries + 1 + 2 * (groups * size) ≤ ints) × (rows + entries + groups * size ≤ floats))
 unfolding groupsChecked coarseColumn
-groups-facts rows size ids groups some whole h =
+groups-facts rows entries size ids groups diagonal ints floats some whole h =
     let p1 = test-true _ _ _ _ (accepted-done _ h) in
     let p2 = test-true _ _ _ _ (p1 .1) in
-    let s = both-true (eqb (length ids) (rows / size)) (not (any (λ g. leb groups g) ids)) (last-true _ _ (p2 .1)) in
-    let small : groups * size ≤ 2_048 = leb-true _ _ (p2 .0) in
+    let r = both-true (leb (2 * rows + entries + 1 + 2 * (groups * size)) ints) (leb (rows + entries + groups * size) floats) (p2 .0) in
+    let p3 = test-true _ _ _ _ (p2 .1) in
+    let s = both-true (eqb (length ids) (rows / size)) (not (any (λ g. leb groups g) ids)) (last-true _ _ (p3 .1)) in
+    let small : groups * size ≤ 2_048 = leb-true _ _ (p1 .0) in
     let long : length ids ≡ rows / size = eqb-true _ _ (s .0) in
     let below = none-any groups ids (not-true _ (s .1)) in
     let full : rows / size * size ≡ rows = omega (arith, div-add-mod' rows size, whole) in
     let known : (i : ℕ) → i < rows → i / size < length ids = λ i l. rw long (div-lt-iff-lt-mul some .1 (rw full l)) in (
-      small,
-      record {
-        some = some;
-        known = known;
-        within = λ i l. within-law (getD ids (i / size) 0) size groups (i % size) (below (i / size) (known i l)) (mod-lt i some);
-        small = omega arith;
-      },
+      eqb-true _ _ (p3 .0),
+      (
+        small,
+        record {
+          some = some;
+          known = known;
+          within = λ i l. within-law (getD ids (i / size) 0) size groups (i % size) (below (i / size) (known i l)) (mod-lt i some);
+          small = omega arith;
+        },
+      ),
+      (leb-true _ _ (r .0), leb-true _ _ (r .1)),
     )

@@ -5,53 +5,46 @@ use mathlib.Core.List.{List, _++_, map}
 use lib.Dec.{eqb, leb}
 use lib.ListN.{length}
 use lib.Ieee.{Float}
-use Rattle.definitions.specs.Lists.{any, padded, pointersFrom, joinedLists}
+use Rattle.definitions.specs.Lists.{any, pointersFrom, joinedLists}
 use Rattle.definitions.specs.Numbers.{zeroᶠ}
-use Rattle.definitions.specs.Refusal.{Outcome, Checked, refused, done, require, _>>=_}
-use Rattle.definitions.specs.Matrix.{Matrix, Entry, validOf}
+use Rattle.definitions.specs.Refusal.{Outcome, Checked, done, require, _>>=_, resultLeft}
+use Rattle.definitions.specs.Matrix.{Matrix, Entry, maxRows, validOf}
 use Rattle.definitions.specs.Block.{maxBlock}
 use Rattle.definitions.specs.Setup.{maxCoarse}
 use Rattle.definitions.specs.Transfer.{transferOf}
-use Rattle.definitions.specs.declared.Refusal.the-variants.{NotSquare, BlockSize, NotMultiple, ListTooShort, CoarseTooLarge, WrongLength, SetupMisfit}
-use Rattle.definitions.specs.declared.TransferAnswer.{TransferAnswer}
-use Rattle.definitions.specs.declared.TransferAnswer.the-variants.{Count, Refused}
+use Rattle.definitions.specs.declared.Refusal.the-variants.{TooLarge, NotSquare, BlockSize, NotMultiple, ListTooShort, CoarseTooLarge, CoarseListTooShort, WrongLength, SetupMisfit}
 
--- 9, 10, 12, and 25 for the diagonal
-unfoldable pub shapeChecked : ℕ → ℕ → ℕ → ℕ → Checked
-shapeChecked rows cols size diagonal = do
+-- 9, 10, 12, and 13 for pointers, columns and weights
+unfoldable pub shapeChecked : ℕ → ℕ → ℕ → ℕ → ℕ → ℕ → Checked
+shapeChecked rows cols entries size ints floats = do
   _ ← require (eqb cols rows) NotSquare
   _ ← require (leb 1 size && leb size maxBlock) BlockSize
   _ ← require (eqb (rows % size) 0) NotMultiple
-  require (eqb diagonal rows) (WrongLength rows diagonal)
+  require (leb (2 * rows + entries + 1) ints && leb (rows + entries) floats) ListTooShort
 
--- 26 where there are more groups than rows, 17, and 26 for the ids
-unfoldable pub groupsChecked : ℕ → ℕ → List ℕ → ℕ → Checked
-groupsChecked rows size ids groups = do
-  _ ← require (leb groups rows) SetupMisfit
+-- 17, 18 for the sums of a row besides, 25 for the diagonal, and 26: an id for each node, below the groups
+unfoldable pub groupsChecked : ℕ → ℕ → ℕ → List ℕ → ℕ → ℕ → ℕ → ℕ → Checked
+groupsChecked rows entries size ids groups diagonal ints floats = do
   _ ← require (leb (groups * size) maxCoarse) (CoarseTooLarge (groups * size))
+  _ ← require (leb (2 * rows + entries + 1 + 2 * (groups * size)) ints && leb (rows + entries + groups * size) floats) (CoarseListTooShort (groups * size))
+  _ ← require (eqb diagonal rows) (WrongLength rows diagonal)
   require (eqb (length ids) (rows / size) && not (any (λ g. leb groups g) ids)) SetupMisfit
 
--- 13
-unfoldable pub roomChecked : ℕ → ℕ → ℕ → ℕ → ℕ → Checked
-roomChecked rows entries c ints floats = require (leb (2 * rows + entries + 1 + 2 * c) ints && leb (rows + entries + c) floats) ListTooShort
-
--- 1 to 8, and all of these
+-- 1 for the groups as for rows, 1 to 8, and all of these
 unfoldable pub transferChecked : Matrix → ℕ → List ℕ → ℕ → ℕ → ℕ → ℕ → Checked
 transferChecked a size ids groups diagonal ints floats = do
+  _ ← require (leb groups maxRows) TooLarge
   _ ← validOf a
-  _ ← shapeChecked (a .rows) (a .cols) size diagonal
-  _ ← groupsChecked (a .rows) size ids groups
-  roomChecked (a .rows) (length (a .values)) (groups * size) ints floats
+  _ ← shapeChecked (a .rows) (a .cols) (length (a .values)) size ints floats
+  groupsChecked (a .rows) (length (a .values)) size ids groups diagonal ints floats
 
 unfoldable pub smoothedTransferCall : Matrix → ℕ → List ℕ → ℕ → List Float → Float → ℕ → ℕ → Outcome (List (List Entry))
 smoothedTransferCall a size ids groups d damping ints floats = transferChecked a size ids groups (length d) ints floats >>= (λ _. done (transferOf a d damping size ids (groups * size)))
 
--- pointers, then columns, then zeros; a refused call leaves the list as it was
+-- pointers, then columns
 unfoldable pub transferInts : Outcome (List (List Entry)) → List ℕ → List ℕ
-transferInts (done t) lent = padded 0 (length lent) (pointersFrom 0 t ++ map (λ (e : Entry). e .col) (joinedLists t))
-transferInts (refused r) lent = lent
+transferInts call lent = resultLeft 0 (call >>= (λ t. done (pointersFrom 0 t ++ map (λ (e : Entry). e .col) (joinedLists t)))) lent
 
--- weights, then zeros
+-- weights
 unfoldable pub transferFloats : Outcome (List (List Entry)) → List Float → List Float
-transferFloats (done t) lent = padded zeroᶠ (length lent) (map (λ (e : Entry). e .value) (joinedLists t))
-transferFloats (refused r) lent = lent
+transferFloats call lent = resultLeft zeroᶠ (call >>= (λ t. done (map (λ (e : Entry). e .value) (joinedLists t)))) lent

@@ -8,12 +8,21 @@ ghost use mathlib.Core.Path.{_≡_};
 ghost use Prim.Native.Nat.{_≤_};
 ghost use lib.Dec.{leb};
 ghost use Rattle.definitions.specs.Lists.{any};
+ghost use Rattle.definitions.specs.Block.{maxBlock};
 ghost use Rattle.definitions.specs.Matrix.{maxRows, maxEntries};
 ghost use Rattle.definitions.specs.Answers.{answerOf};
-ghost use Rattle.transfer.specs.Call.{shapeChecked, groupsChecked, roomChecked};
+ghost use Rattle.transfer.specs.Call.{shapeChecked, groupsChecked};
 
-pub(crate) fn shape(rows: usize, cols: usize, size: usize, diagonal: usize) -> Answer
-    ensures { λ r. ⌜ r ≡ answerOf (shapeChecked rows cols size diagonal) ⌝ }
+pub(crate) fn shape(
+    rows: usize,
+    cols: usize,
+    entries: usize,
+    size: usize,
+    ints: usize,
+    floats: usize,
+) -> Answer
+    requires { ⌜ (rows ≤ maxRows) × (entries ≤ maxEntries) ⌝ }
+    ensures { λ r. ⌜ r ≡ answerOf (shapeChecked rows cols entries size ints floats) ⌝ }
 {
     if cols != rows {
         return Answer::Refused(Refusal::NotSquare);
@@ -27,10 +36,11 @@ pub(crate) fn shape(rows: usize, cols: usize, size: usize, diagonal: usize) -> A
     if rows % size != 0 {
         return Answer::Refused(Refusal::NotMultiple);
     }
-    if diagonal != rows {
-        let expected = rows as u64;
-        let actual = diagonal as u64;
-        return Answer::Refused(Refusal::WrongLength { expected, actual });
+    if ints < 2 * rows + entries + 1 {
+        return Answer::Refused(Refusal::ListTooShort);
+    }
+    if floats < rows + entries {
+        return Answer::Refused(Refusal::ListTooShort);
     }
     Answer::Accepted
 }
@@ -49,35 +59,39 @@ fn id_outside(ids: &[u32], groups: usize) -> bool
     false
 }
 
-pub(crate) fn groups(rows: usize, size: usize, ids: &[u32], count: usize) -> Answer
-    requires { ⌜ (rows ≤ maxRows) × (1 ≤ size) × (size ≤ 8) ⌝ }
-    ensures { λ r. ⌜ r ≡ answerOf (groupsChecked rows size (now (ids .entry)) count) ⌝ }
+pub(crate) fn groups(
+    rows: usize,
+    entries: usize,
+    size: usize,
+    ids: &[u32],
+    count: usize,
+    diagonal: usize,
+    ints: usize,
+    floats: usize,
+) -> Answer
+    requires { ⌜ (rows ≤ maxRows) × (entries ≤ maxEntries) × (1 ≤ size) × (size ≤ maxBlock) × (count ≤ maxRows) ⌝ }
+    ensures { λ r. ⌜ r ≡ answerOf (groupsChecked rows entries size (now (ids .entry)) count diagonal ints floats) ⌝ }
 {
-    if rows < count {
-        return Answer::Refused(Refusal::SetupMisfit);
-    }
     let c = count * size;
     if MAX_COARSE < c {
         return Answer::Refused(Refusal::CoarseTooLarge(c as u64));
+    }
+    if ints < 2 * rows + entries + 1 + 2 * c {
+        return Answer::Refused(Refusal::CoarseListTooShort(c as u64));
+    }
+    if floats < rows + entries + c {
+        return Answer::Refused(Refusal::CoarseListTooShort(c as u64));
+    }
+    if diagonal != rows {
+        let expected = rows as u64;
+        let actual = diagonal as u64;
+        return Answer::Refused(Refusal::WrongLength { expected, actual });
     }
     if ids.len() != rows / size {
         return Answer::Refused(Refusal::SetupMisfit);
     }
     if id_outside(ids, count) {
         return Answer::Refused(Refusal::SetupMisfit);
-    }
-    Answer::Accepted
-}
-
-pub(crate) fn room(rows: usize, entries: usize, c: usize, ints: usize, floats: usize) -> Answer
-    requires { ⌜ (rows ≤ maxRows) × (entries ≤ maxEntries) × (c ≤ 2_048) ⌝ }
-    ensures { λ r. ⌜ r ≡ answerOf (roomChecked rows entries c ints floats) ⌝ }
-{
-    if ints < 2 * rows + entries + 1 + 2 * c {
-        return Answer::Refused(Refusal::ListTooShort);
-    }
-    if floats < rows + entries + c {
-        return Answer::Refused(Refusal::ListTooShort);
     }
     Answer::Accepted
 }

@@ -6,7 +6,10 @@ mod stored;
 mod touched;
 mod weights;
 
+use causes::leave_floats;
+use causes::leave_ints;
 use definitions::Answer;
+use definitions::MAX_ROWS;
 use definitions::Refusal;
 use definitions::TransferAnswer;
 ghost use mathlib.Core.Path.{_≡_};
@@ -36,20 +39,16 @@ fn check(
 ) -> Answer
     ensures { λ r. ⌜ r ≡ answerOf (transferChecked (csr rows cols (now (ptr .entry)) (now (idx .entry)) (now (vals .entry))) size (now (ids .entry)) groups diagonal ints floats) ⌝ }
 {
+    if MAX_ROWS < groups {
+        return Answer::Refused(Refusal::TooLarge);
+    }
     let valid = csr32::validate(rows, cols, ptr, idx, vals);
     match valid {
         Answer::Accepted => {
-            let shaped = checks::shape(rows, cols, size, diagonal);
+            let shaped = checks::shape(rows, cols, vals.len(), size, ints, floats);
             match shaped {
                 Answer::Accepted => {
-                    let grouped = checks::groups(rows, size, ids, groups);
-                    match grouped {
-                        Answer::Accepted => {
-                            let c = groups * size;
-                            checks::room(rows, vals.len(), c, ints, floats)
-                        }
-                        Answer::Refused(cause) => Answer::Refused(cause),
-                    }
+                    checks::groups(rows, vals.len(), size, ids, groups, diagonal, ints, floats)
                 }
                 Answer::Refused(cause) => Answer::Refused(cause),
             }
@@ -146,6 +145,10 @@ pub fn smoothed_transfer(
             );
             TransferAnswer::Count(n as u64)
         }
-        Answer::Refused(cause) => TransferAnswer::Refused(cause),
+        Answer::Refused(cause) => {
+            leave_ints(cause, ints);
+            leave_floats(cause, floats);
+            TransferAnswer::Refused(cause)
+        }
     }
 }

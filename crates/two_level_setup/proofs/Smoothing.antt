@@ -3,7 +3,7 @@ use mathlib.Core.Path.{_≡_, refl, ap, sym, _∙_, subst}
 use mathlib.Core.List.{List, [], _∷_, _++_, map, flatMap, append-assoc}
 use Prim.Native.Nat.{ℕ, zero, suc, _+_, _-_, _*_, _%_, _≤_, _<_}
 use native.Mathlib.Omega.{arith}
-use native.Mathlib.Nat.{le-trans, div-le-self}
+use native.Mathlib.Nat.{le-trans}
 use lib.ListN.{length, getD, take, drop, replicate, length-append}
 use lib.Seq.{length-take-le}
 use lib.Ieee.{Float, ne}
@@ -11,8 +11,8 @@ use borrow.Author.Tests.{le-leb, eq-eqb}
 use borrow.Rule.Slice.PartMut.{putMid, mid-len, take-put}
 use Rattle.definitions.specs.Lists.{padded, between, pointersFrom, joinedLists}
 use Rattle.definitions.specs.Numbers.{zeroᶠ, total}
-use Rattle.definitions.specs.Refusal.{Outcome, refused, done, resultLeft, workLeft}
-use Rattle.definitions.specs.Matrix.{Matrix, Entry, validOf, storedAt}
+use Rattle.definitions.specs.Refusal.{Outcome, refused, done, _>>=_, resultLeft, workLeft}
+use Rattle.definitions.specs.Matrix.{Matrix, Entry, maxRows, validOf, storedAt}
 use Rattle.definitions.specs.Diagonal.{diagonalFrom, diagonalOf, diagonalCall, diagonalLeft}
 use Rattle.definitions.specs.Block.{maxBlock}
 use Rattle.definitions.specs.Groups.{Grouping}
@@ -29,7 +29,7 @@ use Rattle.definitions.specs.declared.SetupAnswer.{SetupAnswer}
 use Rattle.definitions.specs.declared.SetupAnswer.the-variants.{Refused as NoSetup}
 use Rattle.definitions.specs.declared.TwoLevelBasis.the-variants.{JacobiSmoothed}
 use Rattle.definitions.specs.declared.Refusal.{Refusal}
-use Rattle.definitions.specs.declared.Refusal.the-variants.{NotSquare, BlockSize, NotMultiple, ListTooShort, CoarseTooLarge, WrongLength, SetupMisfit, MissingDiagonal}
+use Rattle.definitions.specs.declared.Refusal.the-variants.{TooLarge, NotSquare, BlockSize, NotMultiple, ListTooShort, CoarseTooLarge, CoarseListTooShort, WrongLength, SetupMisfit, MissingDiagonal}
 use Rattle.laws.proofs.Lists.{Each, each-tab, each-keep, length-tab, part-mid}
 use Rattle.laws.proofs.Csr.{columnsOf, numbersOf, pointers-length, columns-length, values-length}
 use Rattle.laws.proofs.Counting.{rows-within}
@@ -38,7 +38,7 @@ use Rattle.csr32.specs.Calls.{goes-on, stops, passed, refused-is}
 use Rattle.numbers.specs.Copied.{copied}
 use Rattle.two_level_grouping.proofs.Kept.{put-tail, copied-zeros, front-cleared}
 use Rattle.two_level_grouping.specs.Front.{Front, front-rows}
-use Rattle.transfer.specs.Call.{shapeChecked, groupsChecked, roomChecked, transferChecked, smoothedTransferCall, transferInts as intsLeft, transferFloats as floatsLeft}
+use Rattle.transfer.specs.Call.{shapeChecked, groupsChecked, transferChecked, smoothedTransferCall, transferInts as intsLeft, transferFloats as floatsLeft}
 use Rattle.definitions.specs.declared.TransferAnswer.{TransferAnswer}
 use Rattle.definitions.specs.declared.TransferAnswer.the-variants.{Count, Refused as NoTransfer}
 use Rattle.two_level_setup.specs.Stages.{fromTransfer, fromDiagonal, fromRoom, smoothed-splits}
@@ -46,7 +46,7 @@ use Rattle.two_level_setup.specs.Fit.{Wide, roomOf}
 use Rattle.two_level_setup.specs.Contracts.{lentOf, roomIn, Leaves, Floats, Ids, Clear, Weighted, MovedInts, MovedFloats, CoarseStage, KeptStage, SmoothStage, EstimateStage, RoomStage}
 use Rattle.two_level_setup.proofs.Padding.{padded-front, padded-back, padded-all, padded-join, padded-none, padded-past, tail-is}
 use Rattle.two_level_setup.proofs.Parts.{padded-full, put-behind, put-padded, tail-cleared}
-use Rattle.two_level_setup.proofs.Matrices.{none-outside, ids-read}
+use Rattle.two_level_setup.proofs.Matrices.{none-outside, few-groups, ids-read}
 use Rattle.two_level_setup.proofs.Building.{leaves-refused, leaves-same, put-zeros}
 
 map-over : {B : Type 0} (h : Entry → B) (xs ys : List Entry) → map h (xs ++ ys) ≡ map h xs ++ map h ys
@@ -194,17 +194,18 @@ module _ (a : Matrix) (o : Options) (groups : ℕ) (ints : List ℕ) (floats : L
 
     transfer-passes : (ids : List ℕ) (d : List Float) → length ids ≡ nodeCount a o → Each (λ g. g < groups) ids → length d ≡ a .rows
         → smoothedTransferCall a (o .block) ids groups d damping (length workInts) (length weighed) ≡ done (rowsOf d ids (groups * o .block))
-    unfolding smoothedTransferCall transferChecked shapeChecked groupsChecked roomChecked
+    unfolding smoothedTransferCall transferChecked shapeChecked groupsChecked
     transfer-passes ids d li b ld =
-        goes-on _ tt _ (goes-on (validOf a) tt _ (front .valid)
+        goes-on _ tt _ (goes-on _ tt _ (passed _ TooLarge (le-leb groups maxRows (few-groups a o groups front (w .few))))
+        ∙ goes-on (validOf a) tt _ (front .valid)
         ∙ goes-on _ tt _ (goes-on _ tt _ (passed _ NotSquare (eq-eqb (a .cols) (a .rows) (front .square)))
         ∙ goes-on _ tt _ (passed _ BlockSize (rw (le-leb 1 (o .block) (front .least), le-leb (o .block) maxBlock (front .most))))
         ∙ goes-on _ tt _ (passed _ NotMultiple (eq-eqb (a .rows % o .block) 0 (front .whole)))
-        ∙ passed _ (WrongLength (a .rows) (length d)) (eq-eqb (length d) (a .rows) ld))
-        ∙ goes-on _ tt _ (goes-on _ tt _ (passed _ SetupMisfit (le-leb groups (a .rows) (omega (arith, w .few, div-le-self (a .rows) (o .block)))))
+        ∙ passed _ ListTooShort (rw (le-leb (2 * a .rows + length (a .values) + 1) (length workInts) (omega (arith, w .workInts)), le-leb (a .rows + length (a .values)) (length weighed) (rw weighed-long (omega arith)))))
         ∙ goes-on _ tt _ (passed _ (CoarseTooLarge (groups * o .block)) (le-leb (groups * o .block) 2048 (w .small)))
+        ∙ goes-on _ tt _ (passed _ (CoarseListTooShort (groups * o .block)) (rw (le-leb (2 * a .rows + length (a .values) + 1 + 2 * (groups * o .block)) (length workInts) (omega (arith, w .workInts)), le-leb (a .rows + length (a .values) + groups * o .block) (length weighed) (rw weighed-long (omega arith)))))
+        ∙ goes-on _ tt _ (passed _ (WrongLength (a .rows) (length d)) (eq-eqb (length d) (a .rows) ld))
         ∙ passed _ SetupMisfit (rw (eq-eqb (length ids) (nodeCount a o) li, none-outside groups b)))
-        ∙ passed _ ListTooShort (rw (le-leb (2 * a .rows + length (a .values) + 1 + 2 * (groups * o .block)) (length workInts) (omega (arith, w .workInts)), le-leb (a .rows + length (a .values) + groups * o .block) (length weighed) (rw weighed-long (omega arith)))))
 
     abbrev call : Outcome (List (List Entry))
     call = smoothedTransferCall a (o .block) (between 0 (nodeCount a o) ints) groups read damping (length workInts) (length weighed)
@@ -250,7 +251,7 @@ module _ (a : Matrix) (o : Options) (groups : ℕ) (ints : List ℕ) (floats : L
       pub transfer-built : (n transfers : ℕ) → x ≡ Count n → (n ≤ a .rows + length (a .values) → transfers ≡ n) → (workInts1 : List ℕ) (back : List Float) → workInts1 ≡ intsLeft call workInts → back ≡ floatsLeft call weighed
           → (r : SetupAnswer) (y : Lent) → length workInts1 ≡ length workInts → length (after back) ≡ length workFloats
           → KeptStage a o groups transfers damping (lentOf ints floats workInts1 (after back)) r y → SmoothStage a o groups damping lists r y
-      unfolding intsLeft floatsLeft transferInts transferFloats
+      unfolding intsLeft floatsLeft resultLeft _>>=_ transferInts transferFloats
       transfer-built n transfers e tr workInts1 back ei eb r y li lf k factors g d l fl i cl =
           let ws = rowsOf d (g .ids) (g .count * o .block) in
           let is : call ≡ done ws = call-is factors g d l fl i in

@@ -13,7 +13,7 @@ use Rattle.definitions.specs.Refusal.{Outcome, refused, done, resultLeft}
 use Rattle.definitions.specs.Coarse.{packedLength, coarseFactor, resolved, coarsePart, inverseOf, averagedSquare, averaged, entryIn, packedSolve, unit}
 use Rattle.definitions.specs.declared.Options.{Options}
 use Rattle.definitions.specs.declared.Refusal.{Refusal}
-use Rattle.definitions.specs.declared.Refusal.the-variants.{CoarseTooLarge, ListTooShort}
+use Rattle.definitions.specs.declared.Refusal.the-variants.{CoarseTooLarge, CoarseListTooShort}
 use Rattle.definitions.specs.declared.SetupAnswer.the-variants.{Built as BuiltSetup, Refused as NoSetup}
 use Rattle.definitions.specs.declared.Setup.{Setup}
 use Rattle.definitions.specs.declared.TwoLevelCoarseApplyPolicy.{TwoLevelCoarseApplyPolicy}
@@ -57,7 +57,7 @@ module _ (c start : ℕ) (floats work : List Float) (small : c ≤ 2048) (room :
         let m : length (drop start floats) ≡ length floats - start = length-drop start floats in
         let k : coarseInverseCall c (take (length floats - start) (drop start floats)) (length work) ≡ done (inverseOf c l)
         = goes-on _ tt _ (passed _ (CoarseTooLarge c) (le-leb c 2048 small))
-        ∙ goes-on _ tt _ (passed _ ListTooShort (rw (tail-is start floats, m, le-leb (packedLength c) (length floats - start) (omega (arith, packed-fits c)), le-leb (c * c) (length work) space)))
+        ∙ goes-on _ tt _ (passed _ (CoarseListTooShort c) (rw (tail-is start floats, m, le-leb (packedLength c) (length floats - start) (omega (arith, packed-fits c)), le-leb (c * c) (length work) space)))
         ∙ ap (λ x. done (inverseOf c (take (packedLength c) x))) t ∙ ap (λ x. done (inverseOf c x)) (padded-all zeroᶠ (length floats - start) (packedLength c) l n) in
         let w : work1 ≡ padded zeroᶠ (length work) (inverseOf c l) = ew ∙ ap (λ x. resultLeft zeroᶠ x work) k in
         let z : c * c - 0 ≡ c * c = omega arith in
@@ -106,7 +106,7 @@ module _ (rows entries : ℕ) (o : Options) (groups transfers : ℕ) (damping : 
     unfolding coarseFactorCall
     call-is =
         goes-on _ tt _ (passed _ (CoarseTooLarge dim) (le-leb dim 2048 small))
-        ∙ goes-on _ tt _ (passed _ ListTooShort (rw (tail-long, le-leb (dim * dim) (length work) space, le-leb (packedLength dim) (length floats - start) (omega (arith, packed-fits dim)))))
+        ∙ goes-on _ tt _ (passed _ (CoarseListTooShort dim) (rw (tail-long, le-leb (dim * dim) (length work) space, le-leb (packedLength dim) (length floats - start) (omega (arith, packed-fits dim)))))
 
     module _ (x : FactorAnswer) (ex : x ≡ factorAnswer (largest matrix) (coarseFactorCall dim work (length (take (length floats - start) (drop start floats))))) where
       answered : x ≡ factorAnswer (largest matrix) (coarseFactor dim matrix)

@@ -1,31 +1,87 @@
-use Rattle.averaging.proofs.Laws.{average-on, average-short, average-large}
-use Rattle.averaging.proofs.Places.{square-small}
+-- The checks in their order; every pair averaged, and the rest cleared.
+use Prim.Native.Nat.{_*_}
 use native.Mathlib.Omega.{arith}
+use lib.ListN.{take}
+use Rattle.definitions.specs.Coarse.{averagedSquare}
+use Rattle.definitions.specs.Numbers.{zeroᶠ}
+use Rattle.definitions.specs.declared.Refusal.the-variants.{CoarseTooLarge, CoarseListTooShort}
+use Rattle.causes.proofs.Left.{accept-left, refuse-cleared, large-clears, short-clears}
+use Rattle.averaging.specs.Averaging.{averageCall}
+use Rattle.averaging.proofs.Laws.{call-large, call-short, call-done, average-on}
+use Rattle.averaging.proofs.Places.{square-small}
 use borrow.Author.Needs.{needs}
 use Rattle.averaging.proofs.average.Statement.{statement}
 use Rattle.averaging.proofs.average.Tie as tie
-use Rattle.averaging.proofs.average.Reads as reads
-use Rattle.averaging.proofs.average.Lts as lts
-use Rattle.averaging.proofs.average_rows.Reads as average-rows-reads
 
-mul-if2 : tie.Need-mul-if2
-mul-if2 c = omega (arith, square-small (c .before .before .args .c) (omega arith))
+mul-square : tie.Need-mul-square
+mul-square c = omega (arith, square-small (c .before .before .args .c) (omega arith))
 
 average-rows-requires : tie.Need-average-rows-requires
 average-rows-requires c κs = search needs
+
+mul-zero-floats : tie.Need-mul-zero-floats
+mul-zero-floats c = search needs
+
+sub-zero-floats : tie.Need-sub-zero-floats
+sub-zero-floats c = search needs
+
+part-zero-floats-start : tie.Need-part-zero-floats-start
+part-zero-floats-start c = search needs
+
+part-zero-floats-end : tie.Need-part-zero-floats-end
+part-zero-floats-end c = search needs
+
+zero-floats-requires : tie.Need-zero-floats-requires
+zero-floats-requires c κs = search needs
 
 same-length : tie.Need-same-length
 same-length c = search needs
 
 returns : tie.Need-returns
-returns c = average-on (c .before .before .before .before .before .before .before .args .c) (c .before .before .before .before .before .before .before .args .m .now) (c .before .before .average-rows .last .1 .0) (omega arith) (omega arith) (c .before .before .average-rows .ensures)
+returns c =
+    let a = c .before .before .before .before .before .before .before .before .before .before .before .args in
+    let r = c .before .before .before .before .before .before .average-rows in
+    accept-left zeroᶠ (averageCall (a .c) (a .m .now)) (a .m .now) _ (averagedSquare (a .c) (take (a .c * a .c) (a .m .now))) (call-done (a .c) (a .m .now) (omega arith) (omega arith))
+    (average-on (a .c) (a .m .now) (r .last .1 .0) (c .before .before .zero-floats .last .0) (omega arith) (r .ensures) (c .before .before .zero-floats .ensures))
+
+zero-floats-requires-2 : tie.Need-zero-floats-requires-2
+zero-floats-requires-2 c κs = search needs
+
+zero-floats-requires-3 : tie.Need-zero-floats-requires-3
+zero-floats-requires-3 c κs = search needs
+
+same-length-2 : tie.Need-same-length-2
+same-length-2 c = search needs
 
 returns-2 : tie.Need-returns-2
-returns-2 c = average-short (c .before .before .before .args .c) (c .before .before .before .args .m .now) (omega arith)
+returns-2 c =
+    let a = c .before .before .before .before .before .before .before .args in
+    refuse-cleared zeroᶠ (averageCall (a .c) (a .m .now)) (a .m .now) (c .before .before .zero-floats2 .last .0) (CoarseListTooShort (a .c)) (call-short (a .c) (a .m .now) (omega arith) (omega arith)) (short-clears (a .c)) (c .before .before .zero-floats2 .ensures)
+
+same-length-3 : tie.Need-same-length-3
+same-length-3 c = search needs
 
 returns-3 : tie.Need-returns-3
-returns-3 c = average-large (c .before .before .args .c) (c .before .before .args .m .now) (omega arith)
+returns-3 c =
+    let a = c .before .before .before .before .before .before .args in
+    refuse-cleared zeroᶠ (averageCall (a .c) (a .m .now)) (a .m .now) (c .before .before .zero-floats3 .last .0) (CoarseTooLarge (a .c)) (call-large (a .c) (a .m .now) (omega arith)) (large-clears (a .c)) (c .before .before .zero-floats3 .ensures)
 
 pub average-spec : {M : Type 1} → statement M
 average-spec =
-    tie.close (tie.spec mul-if2 average-rows-requires same-length returns returns-2 returns-3)
+    tie.close
+    (tie.spec
+    mul-square
+    average-rows-requires
+    mul-zero-floats
+    sub-zero-floats
+    part-zero-floats-start
+    part-zero-floats-end
+    zero-floats-requires
+    same-length
+    returns
+    zero-floats-requires-2
+    zero-floats-requires-3
+    same-length-2
+    returns-2
+    same-length-3
+    returns-3)

@@ -1,20 +1,23 @@
-use Rattle.averaging.proofs.Lists.{front-length}
-use lib.ListN.{length, take}
-use Rattle.definitions.specs.Coarse.{packedLength, inverseOf}
-use Rattle.definitions.specs.declared.Refusal.the-variants.{CoarseTooLarge, ListTooShort}
-use Rattle.coarse_factor.specs.Calls.{coarseInverseCall}
-use Rattle.averaging.proofs.Places.{square-small}
-use Rattle.coarse_factor.proofs.Cholesky.{triangle-small}
-use Rattle.coarse_factor.proofs.Fitting.{accept-left, refuse-kept, refuse-cleared, short-keeps, large-clears, inverse-large, inverse-short-factor, inverse-short, inverse-fits}
-use Prim.Native.Nat.{_-_}
+-- 17, 18, then the inverse of a factor that fits.
+use Prim.Native.Nat.{_*_, _≤_}
+use mathlib.Core.Path.{sym, _∙_}
+use mathlib.Core.Bool.{_&&_}
 use native.Mathlib.Omega.{arith}
+use lib.Dec.{leb}
+use lib.ListN.{length, take}
+use Rattle.definitions.specs.Numbers.{zeroᶠ}
+use Rattle.definitions.specs.Refusal.{done}
+use Rattle.definitions.specs.Coarse.{packedLength, inverseOf}
+use Rattle.definitions.specs.declared.Refusal.the-variants.{CoarseTooLarge, CoarseListTooShort}
+use Rattle.averaging.proofs.Lists.{front-length}
+use Rattle.averaging.proofs.Places.{square-small}
+use Rattle.causes.proofs.Left.{accept-left, refuse-cleared, large-clears, short-clears}
+use Rattle.coarse_factor.specs.Calls.{coarseInverseCall}
+use Rattle.coarse_factor.proofs.Cholesky.{triangle-small}
+use Rattle.coarse_factor.proofs.Fitting.{covered, large, short, fit, inverse-checked, inverse-front}
 use borrow.Author.Needs.{needs}
 use Rattle.coarse_factor.proofs.coarse_inverse.Statement.{statement}
 use Rattle.coarse_factor.proofs.coarse_inverse.Tie as tie
-use Rattle.coarse_factor.proofs.coarse_inverse.Reads as reads
-use Rattle.coarse_factor.proofs.coarse_inverse.Lts as lts
-use Rattle.coarse_factor.proofs.inverse.invert.Reads as invert-reads
-use Rattle.numbers.proofs.zero_floats.Reads as zero-floats-reads
 
 add-packed : tie.Need-add-packed
 add-packed c = search needs
@@ -22,8 +25,11 @@ add-packed c = search needs
 mul-packed : tie.Need-mul-packed
 mul-packed c = omega (arith, triangle-small (c .before .before .before .args .c) (omega arith))
 
-mul-if3 : tie.Need-mul-if3
-mul-if3 c = omega (arith, square-small (c .before .before .before .before .args .c) (omega arith))
+mul-long-enough : tie.Need-mul-long-enough
+mul-long-enough c = omega (arith, square-small (c .before .before .before .args .c) (omega arith))
+
+long-enough-requires : tie.Need-long-enough-requires
+long-enough-requires c κs = search needs
 
 mul-invert : tie.Need-mul-invert
 mul-invert c = search needs
@@ -35,10 +41,13 @@ part-invert-start : tie.Need-part-invert-start
 part-invert-start c = search needs
 
 part-invert-end : tie.Need-part-invert-end
-part-invert-end c = search needs
+part-invert-end c = let a = c .before .before .before .before .before .args in let h : packedLength (a .c) ≤ length (a .lower .now) = covered (packedLength (a .c)) (length (a .lower .now)) (a .c * a .c) (length (a .inverse .now)) (sym (c .before .long-enough .ensures) ∙ c .if2 .taken) .0 in omega (arith, h)
 
 invert-requires : tie.Need-invert-requires
-invert-requires c κs = (front-length (c .before .before .before .before .before .before .before .args .lower .now) (packedLength (c .before .before .before .before .before .before .before .args .c)) (omega arith), omega arith, omega arith)
+invert-requires c κs =
+    let a = c .before .before .before .before .before .before .before .args in
+    let h = covered (packedLength (a .c)) (length (a .lower .now)) (a .c * a .c) (length (a .inverse .now)) (sym (c .before .before .before .long-enough .ensures) ∙ c .before .before .if2 .taken) in
+    (front-length (a .lower .now) (packedLength (a .c)) (h .0), h .1, omega arith)
 
 same-length : tie.Need-same-length
 same-length c = search needs
@@ -46,29 +55,33 @@ same-length c = search needs
 returns : tie.Need-returns
 returns c =
     let a = c .before .before .before .before .before .before .before .before .before .before .args in
-    accept-left (coarseInverseCall (a .c) (a .lower .now) (length (a .inverse .now))) (a .inverse .now) (inverseOf (a .c) (take (packedLength (a .c) - 0) (a .lower .now))) (c .before .before .invert .last .1 .1 .0)
-    (inverse-fits (a .c) (a .lower .now) (length (a .inverse .now)) (omega arith) (omega arith) (omega arith)) (c .before .before .invert .ensures)
+    accept-left zeroᶠ (coarseInverseCall (a .c) (a .lower .now) (length (a .inverse .now))) (a .inverse .now) (c .before .before .invert .last .1 .1 .0) (inverseOf (a .c) (take (packedLength (a .c)) (a .lower .now)))
+    (inverse-checked (a .c) (a .lower .now) (length (a .inverse .now)) ∙ fit (a .c) (leb (packedLength (a .c)) (length (a .lower .now)) && leb (a .c * a .c) (length (a .inverse .now))) (done (inverseOf (a .c) (take (packedLength (a .c)) (a .lower .now)))) (omega arith) (sym (c .before .before .before .before .before .before .long-enough .ensures) ∙ c .before .before .before .before .before .if2 .taken))
+    (c .before .before .invert .ensures ∙ inverse-front (a .c) (a .lower .now) (length (a .inverse .now)))
 
 zero-floats-requires : tie.Need-zero-floats-requires
 zero-floats-requires c κs = search needs
 
-returns-2 : tie.Need-returns-2
-returns-2 c =
-    let a = c .before .before .before .before .before .args in
-    refuse-kept (coarseInverseCall (a .c) (a .lower .now) (length (a .inverse .now))) (a .inverse .now) ListTooShort (inverse-short (a .c) (a .lower .now) (length (a .inverse .now)) (omega arith) (omega arith) (omega arith)) short-keeps
-
-returns-3 : tie.Need-returns-3
-returns-3 c =
-    let a = c .before .before .before .before .args in
-    refuse-kept (coarseInverseCall (a .c) (a .lower .now) (length (a .inverse .now))) (a .inverse .now) ListTooShort (inverse-short-factor (a .c) (a .lower .now) (length (a .inverse .now)) (omega arith) (omega arith)) short-keeps
+zero-floats-requires-2 : tie.Need-zero-floats-requires-2
+zero-floats-requires-2 c κs = search needs
 
 same-length-2 : tie.Need-same-length-2
 same-length-2 c = search needs
 
-returns-4 : tie.Need-returns-4
-returns-4 c =
+returns-2 : tie.Need-returns-2
+returns-2 c =
+    let a = c .before .before .before .before .before .before .before .before .before .args in
+    refuse-cleared zeroᶠ (coarseInverseCall (a .c) (a .lower .now) (length (a .inverse .now))) (a .inverse .now) (c .before .before .zero-floats .last .0) (CoarseListTooShort (a .c))
+    (inverse-checked (a .c) (a .lower .now) (length (a .inverse .now)) ∙ short (a .c) (leb (packedLength (a .c)) (length (a .lower .now)) && leb (a .c * a .c) (length (a .inverse .now))) (done (inverseOf (a .c) (take (packedLength (a .c)) (a .lower .now)))) (omega arith) (sym (c .before .before .before .before .before .long-enough .ensures) ∙ c .before .before .before .before .if2 .left)) (short-clears (a .c)) (c .before .before .zero-floats .ensures)
+
+same-length-3 : tie.Need-same-length-3
+same-length-3 c = search needs
+
+returns-3 : tie.Need-returns-3
+returns-3 c =
     let a = c .before .before .before .before .before .before .before .args in
-    refuse-cleared (coarseInverseCall (a .c) (a .lower .now) (length (a .inverse .now))) (a .inverse .now) (c .before .before .zero-floats .last .0) (CoarseTooLarge (a .c)) (inverse-large (a .c) (a .lower .now) (length (a .inverse .now)) (omega arith)) (large-clears (a .c)) (c .before .before .zero-floats .ensures)
+    refuse-cleared zeroᶠ (coarseInverseCall (a .c) (a .lower .now) (length (a .inverse .now))) (a .inverse .now) (c .before .before .zero-floats2 .last .0) (CoarseTooLarge (a .c))
+    (inverse-checked (a .c) (a .lower .now) (length (a .inverse .now)) ∙ large (a .c) (leb (packedLength (a .c)) (length (a .lower .now)) && leb (a .c * a .c) (length (a .inverse .now))) (done (inverseOf (a .c) (take (packedLength (a .c)) (a .lower .now)))) (omega arith)) (large-clears (a .c)) (c .before .before .zero-floats2 .ensures)
 
 pub coarse-inverse-spec : {M : Type 1} → statement M
 coarse-inverse-spec =
@@ -76,7 +89,8 @@ coarse-inverse-spec =
     (tie.spec
     add-packed
     mul-packed
-    mul-if3
+    mul-long-enough
+    long-enough-requires
     mul-invert
     sub-invert
     part-invert-start
@@ -85,7 +99,8 @@ coarse-inverse-spec =
     same-length
     returns
     zero-floats-requires
-    returns-2
-    returns-3
+    zero-floats-requires-2
     same-length-2
-    returns-4)
+    returns-2
+    same-length-3
+    returns-3)

@@ -1,81 +1,58 @@
-use Rattle.definitions.specs.declared.Refusal.the-variants.{NotSquare, BlockSize, NotMultiple, ListTooShort, CoarseTooLarge, SetupMisfit}
-use Rattle.averaging.proofs.Places.{square-small}
-use Rattle.coarse_matrix.specs.Calls.{ConstantFacts}
-use Rattle.coarse_matrix.proofs.Checks.{not-accepted, groups-fit, not-square, size-none, size-large, not-multiple, many-groups, too-large, other-ids, id-outside, short-list, all-passed}
+-- Each return is one test of the definition.
 use Prim.Native.Nat.{_*_}
 use mathlib.Core.Path.{sym, _∙_}
 use native.Mathlib.Omega.{arith}
+use Rattle.definitions.specs.declared.Refusal.the-variants.{NotSquare, BlockSize, NotMultiple, CoarseTooLarge, CoarseListTooShort, SetupMisfit}
+use Rattle.averaging.proofs.Places.{square-small}
+use Rattle.coarse_matrix.specs.Calls.{ConstantFacts}
+use Rattle.coarse_matrix.proofs.Checks.{not-accepted, groups-fit, not-square, size-none, size-large, not-multiple, too-large, short-list, other-ids, id-outside, all-passed}
 use borrow.Author.Needs.{needs}
 use Rattle.coarse_matrix.proofs.constant_checks.Statement.{statement}
 use Rattle.coarse_matrix.proofs.constant_checks.Tie as tie
-use Rattle.coarse_matrix.proofs.constant_checks.Reads as reads
-use Rattle.coarse_matrix.proofs.constant_checks.Lts as lts
-use Rattle.csr32.proofs.column_outside.Reads as column-outside-reads
 
 returns : tie.Need-returns
-returns c =
-    let a = c .before .before .args in
-    (not-square (a .rows) (a .cols) (a .size) (a .ids .now) (a .groups) (a .lent) (c .if1 .taken), not-accepted NotSquare (ConstantFacts (a .rows) (a .cols) (a .size) (a .ids .now) (a .groups) (a .lent)))
+returns c = let a = c .before .before .args in (not-square (a .rows) (a .cols) (a .size) (a .ids .now) (a .groups) (a .lent) (c .if1 .taken), not-accepted NotSquare (ConstantFacts (a .rows) (a .cols) (a .size) (a .ids .now) (a .groups) (a .lent)))
 
 returns-2 : tie.Need-returns-2
-returns-2 c =
-    let a = c .before .before .before .args in
-    (size-none (a .rows) (a .cols) (a .size) (a .ids .now) (a .groups) (a .lent) (c .before .if1 .left) (omega arith), not-accepted BlockSize (ConstantFacts (a .rows) (a .cols) (a .size) (a .ids .now) (a .groups) (a .lent)))
+returns-2 c = let a = c .before .before .before .args in (size-none (a .rows) (a .cols) (a .size) (a .ids .now) (a .groups) (a .lent) (c .before .if1 .left) (omega arith), not-accepted BlockSize (ConstantFacts (a .rows) (a .cols) (a .size) (a .ids .now) (a .groups) (a .lent)))
 
 returns-3 : tie.Need-returns-3
-returns-3 c =
-    let a = c .before .before .before .before .args in
-    (size-large (a .rows) (a .cols) (a .size) (a .ids .now) (a .groups) (a .lent) (c .before .before .if1 .left) (omega arith) (omega arith), not-accepted BlockSize (ConstantFacts (a .rows) (a .cols) (a .size) (a .ids .now) (a .groups) (a .lent)))
+returns-3 c = let a = c .before .before .before .before .args in (size-large (a .rows) (a .cols) (a .size) (a .ids .now) (a .groups) (a .lent) (c .before .before .if1 .left) (omega arith) (omega arith), not-accepted BlockSize (ConstantFacts (a .rows) (a .cols) (a .size) (a .ids .now) (a .groups) (a .lent)))
 
 rem-if4 : tie.Need-rem-if4
 rem-if4 c = search needs
 
 returns-4 : tie.Need-returns-4
-returns-4 c =
-    let a = c .before .before .before .before .before .args in
-    (not-multiple (a .rows) (a .cols) (a .size) (a .ids .now) (a .groups) (a .lent) (c .before .before .before .if1 .left) (omega arith) (omega arith) (c .if4 .taken), not-accepted NotMultiple (ConstantFacts (a .rows) (a .cols) (a .size) (a .ids .now) (a .groups) (a .lent)))
-
-div-nodes : tie.Need-div-nodes
-div-nodes c = search needs
-
-returns-5 : tie.Need-returns-5
-returns-5 c =
-    let a = c .before .before .before .before .before .before .args in
-    (many-groups (a .rows) (a .cols) (a .size) (a .ids .now) (a .groups) (a .lent) (c .before .before .before .before .if1 .left) (omega arith) (omega arith) (c .before .if4 .left) (omega arith), not-accepted SetupMisfit (ConstantFacts (a .rows) (a .cols) (a .size) (a .ids .now) (a .groups) (a .lent)))
+returns-4 c = let a = c .before .before .before .before .before .args in (not-multiple (a .rows) (a .cols) (a .size) (a .ids .now) (a .groups) (a .lent) (c .before .before .before .if1 .left) (omega arith) (omega arith) (c .if4 .taken), not-accepted NotMultiple (ConstantFacts (a .rows) (a .cols) (a .size) (a .ids .now) (a .groups) (a .lent)))
 
 mul-c : tie.Need-mul-c
-mul-c c = omega (arith, groups-fit (c .before .before .before .before .before .before .args .groups) (c .before .before .before .before .before .before .args .rows) (c .before .before .before .before .before .before .args .size) (omega arith))
+mul-c c = let a = c .before .before .before .before .before .args in omega (arith, groups-fit (a .groups) (a .size) (c .before .before .before .before .before .pre) (omega arith))
+
+returns-5 : tie.Need-returns-5
+returns-5 c = let a = c .before .before .before .before .before .before .args in (too-large (a .rows) (a .cols) (a .size) (a .ids .now) (a .groups) (a .lent) (c .before .before .before .before .if1 .left) (omega arith) (omega arith) (c .before .if4 .left) (omega arith), not-accepted (CoarseTooLarge (a .groups * a .size)) (ConstantFacts (a .rows) (a .cols) (a .size) (a .ids .now) (a .groups) (a .lent)))
+
+mul-if6 : tie.Need-mul-if6
+mul-if6 c = let a = c .before .before .before .before .before .before .args in omega (arith, square-small (a .groups * a .size) (omega arith))
 
 returns-6 : tie.Need-returns-6
-returns-6 c =
-    let a = c .before .before .before .before .before .before .before .args in
-    (too-large (a .rows) (a .cols) (a .size) (a .ids .now) (a .groups) (a .lent) (c .before .before .before .before .before .if1 .left) (omega arith) (omega arith) (c .before .before .if4 .left) (omega arith) (omega arith), not-accepted (CoarseTooLarge (a .groups * a .size)) (ConstantFacts (a .rows) (a .cols) (a .size) (a .ids .now) (a .groups) (a .lent)))
+returns-6 c = let a = c .before .before .before .before .before .before .before .args in (short-list (a .rows) (a .cols) (a .size) (a .ids .now) (a .groups) (a .lent) (c .before .before .before .before .before .if1 .left) (omega arith) (omega arith) (c .before .before .if4 .left) (omega arith) (omega arith), not-accepted (CoarseListTooShort (a .groups * a .size)) (ConstantFacts (a .rows) (a .cols) (a .size) (a .ids .now) (a .groups) (a .lent)))
+
+div-if7 : tie.Need-div-if7
+div-if7 c = search needs
 
 returns-7 : tie.Need-returns-7
-returns-7 c =
-    let a = c .before .before .before .before .before .before .before .before .args in
-    (other-ids (a .rows) (a .cols) (a .size) (a .ids .now) (a .groups) (a .lent) (c .before .before .before .before .before .before .if1 .left) (omega arith) (omega arith) (c .before .before .before .if4 .left) (omega arith) (omega arith) (c .if7 .taken), not-accepted SetupMisfit (ConstantFacts (a .rows) (a .cols) (a .size) (a .ids .now) (a .groups) (a .lent)))
+returns-7 c = let a = c .before .before .before .before .before .before .before .before .args in (other-ids (a .rows) (a .cols) (a .size) (a .ids .now) (a .groups) (a .lent) (c .before .before .before .before .before .before .if1 .left) (omega arith) (omega arith) (c .before .before .before .if4 .left) (omega arith) (omega arith) (c .if7 .taken), not-accepted SetupMisfit (ConstantFacts (a .rows) (a .cols) (a .size) (a .ids .now) (a .groups) (a .lent)))
 
 column-outside-requires : tie.Need-column-outside-requires
 column-outside-requires c κs = search needs
 
 returns-8 : tie.Need-returns-8
-returns-8 c =
-    let a = c .before .before .before .before .before .before .before .before .before .before .args in
-    (id-outside (a .rows) (a .cols) (a .size) (a .ids .now) (a .groups) (a .lent) (c .before .before .before .before .before .before .before .before .if1 .left) (omega arith) (omega arith) (c .before .before .before .before .before .if4 .left) (omega arith) (omega arith) (c .before .before .if7 .left) (sym (c .before .column-outside .ensures) ∙ c .if8 .taken), not-accepted SetupMisfit (ConstantFacts (a .rows) (a .cols) (a .size) (a .ids .now) (a .groups) (a .lent)))
-
-mul-if9 : tie.Need-mul-if9
-mul-if9 c = omega (arith, square-small (c .before .before .before .before .before .before .before .before .before .before .args .groups * c .before .before .before .before .before .before .before .before .before .before .args .size) (omega arith))
+returns-8 c = let a = c .before .before .before .before .before .before .before .before .before .before .args in (id-outside (a .rows) (a .cols) (a .size) (a .ids .now) (a .groups) (a .lent) (c .before .before .before .before .before .before .before .before .if1 .left) (omega arith) (omega arith) (c .before .before .before .before .before .if4 .left) (omega arith) (omega arith) (c .before .before .if7 .left) (sym (c .before .column-outside .ensures) ∙ c .if8 .taken), not-accepted SetupMisfit (ConstantFacts (a .rows) (a .cols) (a .size) (a .ids .now) (a .groups) (a .lent)))
 
 returns-9 : tie.Need-returns-9
 returns-9 c =
-    let a = c .before .before .before .before .before .before .before .before .before .before .before .args in
-    (short-list (a .rows) (a .cols) (a .size) (a .ids .now) (a .groups) (a .lent) (c .before .before .before .before .before .before .before .before .before .if1 .left) (omega arith) (omega arith) (c .before .before .before .before .before .before .if4 .left) (omega arith) (omega arith) (c .before .before .before .if7 .left) (sym (c .before .before .column-outside .ensures) ∙ c .before .if8 .left) (omega arith), not-accepted ListTooShort (ConstantFacts (a .rows) (a .cols) (a .size) (a .ids .now) (a .groups) (a .lent)))
-
-returns-10 : tie.Need-returns-10
-returns-10 c =
-    let a = c .before .before .before .before .before .before .before .before .before .before .before .args in
-    let f = all-passed (a .rows) (a .cols) (a .size) (a .ids .now) (a .groups) (a .lent) (c .before .before .before .before .before .before .before .before .before .if1 .left) (omega arith) (omega arith) (c .before .before .before .before .before .before .if4 .left) (omega arith) (omega arith) (c .before .before .before .if7 .left) (sym (c .before .before .column-outside .ensures) ∙ c .before .if8 .left) (omega arith) in
+    let a = c .before .before .before .before .before .before .before .before .before .before .args in
+    let f = all-passed (a .rows) (a .cols) (a .size) (a .ids .now) (a .groups) (a .lent) (c .before .before .before .before .before .before .before .before .if1 .left) (omega arith) (omega arith) (c .before .before .before .before .before .if4 .left) (omega arith) (omega arith) (c .before .before .if7 .left) (sym (c .before .column-outside .ensures) ∙ c .if8 .left) in
     (f .0, λ _. f .1)
 
 pub constant-checks-spec : {M : Type 1} → statement M
@@ -87,13 +64,12 @@ constant-checks-spec =
     returns-3
     rem-if4
     returns-4
-    div-nodes
-    returns-5
     mul-c
+    returns-5
+    mul-if6
     returns-6
+    div-if7
     returns-7
     column-outside-requires
     returns-8
-    mul-if9
-    returns-9
-    returns-10)
+    returns-9)

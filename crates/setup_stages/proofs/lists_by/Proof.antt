@@ -2,7 +2,7 @@
 use mathlib.Core.Path.{_≡_, refl}
 use Prim.Native.Nat.{ℕ, zero, suc}
 use Rattle.definitions.specs.declared.TwoLevelAggregation.the-variants.{StrongGraph}
-use Rattle.setup_stages.specs.Told.{listsBy}
+use Rattle.setup_stages.specs.Policy.{listsBy}
 use Rattle.setup_stages.proofs.lists_by.Statement.{statement}
 use Rattle.setup_stages.proofs.lists_by.Tie as tie
 

@@ -55,7 +55,7 @@ returns c =
     let m = c .before .before .before .before .before .before .add-matrix in
     constant-law (a .n) (a .c) (a .ptr .now) (a .idx .now) (a .vals .now) (coarseColumn (a .size) (a .ids .now)) (λ k h. p .1 .0 .within (getD (a .idx .now) k 0) (p .0 .within k h))
     (a .coarse .now) (z .last .0) (m .last .1 .1 .1 .1 .1 .1 .1 .0) (m .last .1 .1 .1 .1 .1 .1 .1 .0 ++ drop (a .c * a .c - 0) (z .last .0)) (c .before .before .average .last .1 .0) (p .1 .0 .small) (p .1 .1)
-    (z .ensures) (m .ensures) refl (c .before .before .average .ensures)
+    (z .ensures) (m .ensures) refl (c .before .before .average .ensures .1)
 
 pub constant-into-spec : {M : Type 1} → statement M
 constant-into-spec =

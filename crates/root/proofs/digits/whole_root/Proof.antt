@@ -1,6 +1,6 @@
--- The first loop ends at an s whose square is not above a, the second at the last such s.
+-- The first loop ends at an s whose successor's square is above a, the second at the last such s whose own square is not.
 use Prim.Native.Nat.{ℕ, _+_, _-_, _*_, _^_, _≤_, _<_}
-use mathlib.Core.Path.{subst}
+use mathlib.Core.Path.{_≡_, subst}
 use native.Mathlib.Numerals.{add-one}
 use native.Mathlib.Omega.{arith}
 use borrow.Author.Needs.{needs}
@@ -12,54 +12,58 @@ abbrev Inv-loop : tie.InvT-loop
 Inv-loop a near s₀ s = s < 2 ^ 30
 
 abbrev μ-loop : tie.MeasureT-loop
-μ-loop a near s₀ s = s
+μ-loop a near s₀ s = 2 ^ 30 - s
 
 abbrev Inv-loop2 : tie.InvT-loop2
-Inv-loop2 a near s₀ s = (s < 2 ^ 30) × (s * s ≤ a)
+Inv-loop2 a near s₀ s = (s < 2 ^ 30) × (a < (s + 1) * (s + 1))
 
 abbrev μ-loop2 : tie.MeasureT-loop2
-μ-loop2 a near s₀ s = 2 ^ 30 - s
+μ-loop2 a near s₀ s = s
 
 loop-holds : tie.Need-loop-holds Inv-loop μ-loop Inv-loop2 μ-loop2
 loop-holds c = search needs
 
+add-loop : tie.Need-add-loop Inv-loop μ-loop Inv-loop2 μ-loop2
+add-loop c = omega arith
+
+add-loop-2 : tie.Need-add-loop-2 Inv-loop μ-loop Inv-loop2 μ-loop2
+add-loop-2 c = omega arith
+
 mul-loop : tie.Need-mul-loop Inv-loop μ-loop Inv-loop2 μ-loop2
-mul-loop c = record { fits = square-fits (c .loop .s) (omega arith) }
-
-sub-s : tie.Need-sub-s Inv-loop μ-loop Inv-loop2 μ-loop2
-sub-s c = square-pos (c .before .before .args .a) (c .before .loop .s) (omega arith) (search needs)
-
-loop-less : tie.Need-loop-less Inv-loop μ-loop Inv-loop2 μ-loop2
-loop-less c = let p = sub-s c in omega arith
-
-loop-again : tie.Need-loop-again Inv-loop μ-loop Inv-loop2 μ-loop2
-loop-again c = omega arith
-
-loop2-holds : tie.Need-loop2-holds Inv-loop μ-loop Inv-loop2 μ-loop2
-loop2-holds c = search needs
-
-add-loop2 : tie.Need-add-loop2 Inv-loop μ-loop Inv-loop2 μ-loop2
-add-loop2 c = omega arith
-
-add-loop2-2 : tie.Need-add-loop2-2 Inv-loop μ-loop Inv-loop2 μ-loop2
-add-loop2-2 c = omega arith
-
-mul-loop2 : tie.Need-mul-loop2 Inv-loop μ-loop Inv-loop2 μ-loop2
-mul-loop2 c = record { fits = square-fits (c .loop2 .s + 1) (omega arith) }
+mul-loop c = record { fits = square-fits (c .loop .s + 1) (omega arith) }
 
 add-s : tie.Need-add-s Inv-loop μ-loop Inv-loop2 μ-loop2
 add-s c = omega arith
 
+loop-less : tie.Need-loop-less Inv-loop μ-loop Inv-loop2 μ-loop2
+loop-less c = omega arith
+
+loop-again : tie.Need-loop-again Inv-loop μ-loop Inv-loop2 μ-loop2
+loop-again c =
+    let s = c .before .loop .s in
+    let g = root-small (c .before .before .args .a) (s + 1) (omega arith) (c .loop-test .taken) in
+    omega arith
+
+loop2-holds : tie.Need-loop2-holds Inv-loop μ-loop Inv-loop2 μ-loop2
+loop2-holds c = search needs
+
+mul-loop2 : tie.Need-mul-loop2 Inv-loop μ-loop Inv-loop2 μ-loop2
+mul-loop2 c = record { fits = square-fits (c .loop2 .s) (omega arith) }
+
+sub-s : tie.Need-sub-s Inv-loop μ-loop Inv-loop2 μ-loop2
+sub-s c = square-pos (c .before .loop2 .s) (c .loop2-test .taken)
+
 loop2-less : tie.Need-loop2-less Inv-loop μ-loop Inv-loop2 μ-loop2
-loop2-less c = omega arith
+loop2-less c = let p = sub-s c in omega arith
 
 loop2-again : tie.Need-loop2-again Inv-loop μ-loop Inv-loop2 μ-loop2
 loop2-again c =
     let a = c .before .before .before .before .args .a in
     let s = c .before .loop2 .s in
-    let h : (s + 1) * (s + 1) ≤ a = search needs in
-    let g = root-small a (s + 1) (omega arith) h in
-    (omega arith, h)
+    let p = sub-s c in
+    let e : s ≡ s - 1 + 1 = omega arith in
+    let h : a < s * s = search needs in
+    (omega arith, subst (λ (x : ℕ). a < x * x) e h)
 
 returns : tie.Need-returns Inv-loop μ-loop Inv-loop2 μ-loop2
 returns c =
@@ -77,15 +81,15 @@ whole-root-spec =
     Inv-loop2
     μ-loop2
     loop-holds
+    add-loop
+    add-loop-2
     mul-loop
-    sub-s
+    add-s
     loop-less
     loop-again
     loop2-holds
-    add-loop2
-    add-loop2-2
     mul-loop2
-    add-s
+    sub-s
     loop2-less
     loop2-again
     returns)

@@ -20,7 +20,7 @@ cast-t : tie.Need-cast-t
 cast-t c = search needs
 
 newton-requires : tie.Need-newton-requires
-newton-requires c κs = (c .before .pre .1, c .start .ensures .0, c .start .ensures .1)
+newton-requires c κs = let e = c .start .ensures in (c .before .pre .1, omega arith, omega arith)
 
 whole-root-requires : tie.Need-whole-root-requires
 whole-root-requires c κs = search needs

@@ -1,42 +1,81 @@
 -- Each return is one test of the definition.
-use Prim.Native.Nat.{_≤_}
 use mathlib.Core.Path.{sym, _∙_}
 use native.Mathlib.Omega.{arith}
-use native.Mathlib.Nat.{mul-le-mul-right}
-use Rattle.definitions.specs.Matrix.{maxRows}
-use Rattle.transfer.proofs.Checking.{groups-1, groups-2, groups-3, groups-4, groups-5}
+use native.Mathlib.Nat.{mul-le-mul}
+use Rattle.transfer.proofs.Checking.{too-large, coarse-ints, coarse-floats, wrong-diagonal, other-ids, id-outside, groups-passed}
 use borrow.Author.Needs.{needs}
 use Rattle.transfer.proofs.checks.groups.Statement.{statement}
 use Rattle.transfer.proofs.checks.groups.Tie as tie
 
-returns : tie.Need-returns
-returns c = let a = c .before .before .args in groups-1 (a .rows) (a .size) (a .ids .now) (a .count) (c .if1 .taken)
-
 mul-c : tie.Need-mul-c
-mul-c c =
-    let a = c .before .before .args in
-    let h : a .count ≤ maxRows = omega (arith, c .if1 .left, c .before .before .pre .0) in
-    omega (arith, mul-le-mul-right (a .size) h, c .before .before .pre)
+mul-c c = let p = c .before .pre in omega (arith, mul-le-mul (p .4) (p .3))
+
+returns : tie.Need-returns
+returns c = let a = c .before .before .args in too-large (a .rows) (a .entries) (a .size) (a .ids .now) (a .count) (a .diagonal) (a .ints) (a .floats) (omega arith)
+
+mul-if2 : tie.Need-mul-if2
+mul-if2 c = search needs
+
+add-if2 : tie.Need-add-if2
+add-if2 c = search needs
+
+add-if2-2 : tie.Need-add-if2-2
+add-if2-2 c = search needs
+
+mul-if2-2 : tie.Need-mul-if2-2
+mul-if2-2 c = search needs
+
+add-if2-3 : tie.Need-add-if2-3
+add-if2-3 c = search needs
 
 returns-2 : tie.Need-returns-2
-returns-2 c = let a = c .before .before .before .args in groups-2 (a .rows) (a .size) (a .ids .now) (a .count) (c .before .if1 .left) (c .if2 .taken)
+returns-2 c = let a = c .before .before .before .args in coarse-ints (a .rows) (a .entries) (a .size) (a .ids .now) (a .count) (a .diagonal) (a .ints) (a .floats) (omega arith) (omega arith)
 
-div-if3 : tie.Need-div-if3
-div-if3 c = search needs
+add-if3 : tie.Need-add-if3
+add-if3 c = search needs
+
+add-if3-2 : tie.Need-add-if3-2
+add-if3-2 c = search needs
 
 returns-3 : tie.Need-returns-3
-returns-3 c = let a = c .before .before .before .before .args in groups-3 (a .rows) (a .size) (a .ids .now) (a .count) (c .before .before .if1 .left) (c .before .if2 .left) (c .if3 .taken)
+returns-3 c = let a = c .before .before .before .before .args in coarse-floats (a .rows) (a .entries) (a .size) (a .ids .now) (a .count) (a .diagonal) (a .ints) (a .floats) (omega arith) (omega arith) (omega arith)
+
+returns-4 : tie.Need-returns-4
+returns-4 c = let a = c .before .before .before .before .before .args in wrong-diagonal (a .rows) (a .entries) (a .size) (a .ids .now) (a .count) (a .diagonal) (a .ints) (a .floats) (omega arith) (omega arith) (omega arith) (c .if4 .taken)
+
+div-if5 : tie.Need-div-if5
+div-if5 c = search needs
+
+returns-5 : tie.Need-returns-5
+returns-5 c = let a = c .before .before .before .before .before .before .args in other-ids (a .rows) (a .entries) (a .size) (a .ids .now) (a .count) (a .diagonal) (a .ints) (a .floats) (omega arith) (omega arith) (omega arith) (c .before .if4 .left) (c .if5 .taken)
 
 id-outside-requires : tie.Need-id-outside-requires
 id-outside-requires c κs = search needs
 
-returns-4 : tie.Need-returns-4
-returns-4 c = let a = c .before .before .before .before .before .before .args in groups-4 (a .rows) (a .size) (a .ids .now) (a .count) (c .before .before .before .before .if1 .left) (c .before .before .before .if2 .left) (c .before .before .if3 .left) (sym (c .before .id-outside .ensures) ∙ c .if4 .taken)
+returns-6 : tie.Need-returns-6
+returns-6 c = let a = c .before .before .before .before .before .before .before .before .args in id-outside (a .rows) (a .entries) (a .size) (a .ids .now) (a .count) (a .diagonal) (a .ints) (a .floats) (omega arith) (omega arith) (omega arith) (c .before .before .before .if4 .left) (c .before .before .if5 .left) (sym (c .before .id-outside .ensures) ∙ c .if6 .taken)
 
-returns-5 : tie.Need-returns-5
-returns-5 c = let a = c .before .before .before .before .before .before .args in groups-5 (a .rows) (a .size) (a .ids .now) (a .count) (c .before .before .before .before .if1 .left) (c .before .before .before .if2 .left) (c .before .before .if3 .left) (sym (c .before .id-outside .ensures) ∙ c .if4 .left)
+returns-7 : tie.Need-returns-7
+returns-7 c = let a = c .before .before .before .before .before .before .before .before .args in groups-passed (a .rows) (a .entries) (a .size) (a .ids .now) (a .count) (a .diagonal) (a .ints) (a .floats) (omega arith) (omega arith) (omega arith) (c .before .before .before .if4 .left) (c .before .before .if5 .left) (sym (c .before .id-outside .ensures) ∙ c .if6 .left)
 
 pub groups-spec : {M : Type 1} → statement M
 groups-spec =
     tie.close
-    (tie.spec returns mul-c returns-2 div-if3 returns-3 id-outside-requires returns-4 returns-5)
+    (tie.spec
+    mul-c
+    returns
+    mul-if2
+    add-if2
+    add-if2-2
+    mul-if2-2
+    add-if2-3
+    returns-2
+    add-if3
+    add-if3-2
+    returns-3
+    returns-4
+    div-if5
+    returns-5
+    id-outside-requires
+    returns-6
+    returns-7)

@@ -1,0 +1,2 @@
+-- what a call leaves
+pub mod Left
