@@ -13,7 +13,7 @@ ghost use Rattle.definitions.specs.Matrix.{csr};
 ghost use Rattle.definitions.specs.Setup.{lentOf};
 ghost use Rattle.definitions.specs.declared.TwoLevelBasis.the-variants.{JacobiSmoothed};
 ghost use Rattle.two_level_setup.specs.Stages.{transferStage};
-ghost use Rattle.two_level_setup.specs.Fit.{Ample, DampingFit, roomOf};
+ghost use Rattle.two_level_setup.specs.Fit.{Ample, DampingFit};
 ghost use Rattle.two_level_setup.specs.Contracts.{roomIn, Damped, MovedInts, MovedFloats, WeightsStage, Begun, Simulates, StaysAmple};
 
 fn at_most(x: u64, most: usize) -> usize
@@ -55,7 +55,10 @@ fn damping(
     work: &mut [f64],
 ) -> EstimateAnswer
     requires { ⌜ DampingFit (csr rows cols (now «row_ptr») (now «col_idx») (now values)) setup (length (now floats)) (length (now work)) ⌝ }
-    ensures { λ r. ⌜ Damped (csr rows cols (now («row_ptr» .entry)) (now («col_idx» .entry)) (now (values .entry))) (rows * (setup .block)) (now (floats .entry)) (now (work .entry)) r (now (floats .exit)) (now (work .exit)) ⌝ }
+    ensures { λ r. ⌜ (
+        let a = csr rows cols (now («row_ptr» .entry)) (now («col_idx» .entry)) (now (values .entry)) in
+        Damped a (rows * (setup .block)) (now (floats .entry)) (now (work .entry)) r (now (floats .exit)) (now (work .exit))
+        ) ⌝ }
 {
     let used = rows * setup.block as usize;
     let end = used + rows;
@@ -91,9 +94,14 @@ fn weights(
     work_ints: &mut [u32],
     work_floats: &mut [f64],
 ) -> usize
-    requires { ⌜ Ample (csr rows cols (now «row_ptr») (now «col_idx») (now values)) setup (roomOf (length (now ints)) (length (now floats)) (length (now «work_ints»)) (length (now «work_floats»))) ⌝ }
+    requires { ⌜ Ample (csr rows cols (now «row_ptr») (now «col_idx») (now values)) setup (roomIn (now ints) (now floats) (now «work_ints») (now «work_floats»)) ⌝ }
     requires { ⌜ setup .basis ≡ JacobiSmoothed ⌝ }
-    ensures { λ r. ⌜ WeightsStage (csr rows cols (now («row_ptr» .entry)) (now («col_idx» .entry)) (now (values .entry))) setup damping (lentOf (now (ints .entry)) (now (floats .entry)) (now («work_ints» .entry)) (now («work_floats» .entry))) r (lentOf (now (ints .exit)) (now (floats .exit)) (now («work_ints» .exit)) (now («work_floats» .exit))) ⌝ }
+    ensures { λ r. ⌜ (
+        let a = csr rows cols (now («row_ptr» .entry)) (now («col_idx» .entry)) (now (values .entry)) in
+        let x = lentOf (now (ints .entry)) (now (floats .entry)) (now («work_ints» .entry)) (now («work_floats» .entry)) in
+        let y = lentOf (now (ints .exit)) (now (floats .exit)) (now («work_ints» .exit)) (now («work_floats» .exit)) in
+        WeightsStage a setup damping x r y
+        ) ⌝ }
 {
     let size = setup.block as usize;
     let nodes = setup.nodes as usize;
@@ -142,10 +150,15 @@ fn smoothed(
     work_ints: &mut [u32],
     work_floats: &mut [f64],
 ) -> SetupAnswer
-    requires { ⌜ Ample (csr rows cols (now «row_ptr») (now «col_idx») (now values)) setup (roomOf (length (now ints)) (length (now floats)) (length (now «work_ints»)) (length (now «work_floats»))) ⌝ }
+    requires { ⌜ Ample (csr rows cols (now «row_ptr») (now «col_idx») (now values)) setup (roomIn (now ints) (now floats) (now «work_ints») (now «work_floats»)) ⌝ }
     requires { ⌜ setup .basis ≡ JacobiSmoothed ⌝ }
-    ensures { λ r. ⌜ Simulates (Begun (csr rows cols (now («row_ptr» .entry)) (now («col_idx» .entry)) (now (values .entry)))) (transferStage (csr rows cols (now («row_ptr» .entry)) (now («col_idx» .entry)) (now (values .entry)))) setup (lentOf (now (ints .entry)) (now (floats .entry)) (now («work_ints» .entry)) (now («work_floats» .entry))) r (lentOf (now (ints .exit)) (now (floats .exit)) (now («work_ints» .exit)) (now («work_floats» .exit))) ⌝ }
-    ensures { λ r. ⌜ StaysAmple (csr rows cols (now («row_ptr» .entry)) (now («col_idx» .entry)) (now (values .entry))) (roomIn (now (ints .entry)) (now (floats .entry)) (now («work_ints» .entry)) (now («work_floats» .entry))) r ⌝ }
+    ensures { λ r. ⌜ (
+        let a = csr rows cols (now («row_ptr» .entry)) (now («col_idx» .entry)) (now (values .entry)) in
+        let room = roomIn (now (ints .entry)) (now (floats .entry)) (now («work_ints» .entry)) (now («work_floats» .entry)) in
+        let x = lentOf (now (ints .entry)) (now (floats .entry)) (now («work_ints» .entry)) (now («work_floats» .entry)) in
+        let y = lentOf (now (ints .exit)) (now (floats .exit)) (now («work_ints» .exit)) (now («work_floats» .exit)) in
+        (Simulates (Begun a) (transferStage a) setup x r y) × (StaysAmple a room r)
+        ) ⌝ }
 {
     let estimate = damping(
         rows,
@@ -194,9 +207,14 @@ pub(crate) fn transfer(
     work_ints: &mut [u32],
     work_floats: &mut [f64],
 ) -> SetupAnswer
-    requires { ⌜ Ample (csr rows cols (now «row_ptr») (now «col_idx») (now values)) setup (roomOf (length (now ints)) (length (now floats)) (length (now «work_ints»)) (length (now «work_floats»))) ⌝ }
-    ensures { λ r. ⌜ Simulates (Begun (csr rows cols (now («row_ptr» .entry)) (now («col_idx» .entry)) (now (values .entry)))) (transferStage (csr rows cols (now («row_ptr» .entry)) (now («col_idx» .entry)) (now (values .entry)))) setup (lentOf (now (ints .entry)) (now (floats .entry)) (now («work_ints» .entry)) (now («work_floats» .entry))) r (lentOf (now (ints .exit)) (now (floats .exit)) (now («work_ints» .exit)) (now («work_floats» .exit))) ⌝ }
-    ensures { λ r. ⌜ StaysAmple (csr rows cols (now («row_ptr» .entry)) (now («col_idx» .entry)) (now (values .entry))) (roomIn (now (ints .entry)) (now (floats .entry)) (now («work_ints» .entry)) (now («work_floats» .entry))) r ⌝ }
+    requires { ⌜ Ample (csr rows cols (now «row_ptr») (now «col_idx») (now values)) setup (roomIn (now ints) (now floats) (now «work_ints») (now «work_floats»)) ⌝ }
+    ensures { λ r. ⌜ (
+        let a = csr rows cols (now («row_ptr» .entry)) (now («col_idx» .entry)) (now (values .entry)) in
+        let room = roomIn (now (ints .entry)) (now (floats .entry)) (now («work_ints» .entry)) (now («work_floats» .entry)) in
+        let x = lentOf (now (ints .entry)) (now (floats .entry)) (now («work_ints» .entry)) (now («work_floats» .entry)) in
+        let y = lentOf (now (ints .exit)) (now (floats .exit)) (now («work_ints» .exit)) (now («work_floats» .exit)) in
+        (Simulates (Begun a) (transferStage a) setup x r y) × (StaysAmple a room r)
+        ) ⌝ }
 {
     let basis = setup.basis;
     match basis {

@@ -10,7 +10,6 @@ use definitions::Setup;
 use definitions::SetupAnswer;
 ghost use mathlib.Core.Path.{_≡_};
 ghost use Prim.Native.Nat.{_*_, _≤_};
-ghost use lib.ListN.{length};
 ghost use Rattle.definitions.specs.Matrix.{csr};
 ghost use Rattle.definitions.specs.Setup.{covers, lentOf};
 ghost use Rattle.two_level_setup.specs.Stages.{optionsOf, coarseLevelOf, buildOf};
@@ -124,9 +123,15 @@ fn coarse_level(
     work_ints: &mut [u32],
     work_floats: &mut [f64],
 ) -> SetupAnswer
-    requires { ⌜ Fit (csr rows cols (now «row_ptr») (now «col_idx») (now values)) (optionsOf setup) (roomOf (length (now ints)) (length (now floats)) (length (now «work_ints»)) (length (now «work_floats»))) ⌝ }
+    requires { ⌜ Fit (csr rows cols (now «row_ptr») (now «col_idx») (now values)) (optionsOf setup) (roomIn (now ints) (now floats) (now «work_ints») (now «work_floats»)) ⌝ }
     requires { ⌜ Counted (csr rows cols (now «row_ptr») (now «col_idx») (now values)) setup ⌝ }
-    ensures { λ r. ⌜ Simulates (Begun (csr rows cols (now («row_ptr» .entry)) (now («col_idx» .entry)) (now (values .entry)))) (coarseLevelOf (csr rows cols (now («row_ptr» .entry)) (now («col_idx» .entry)) (now (values .entry))) (roomIn (now (ints .entry)) (now (floats .entry)) (now («work_ints» .entry)) (now («work_floats» .entry)))) setup (lentOf (now (ints .entry)) (now (floats .entry)) (now («work_ints» .entry)) (now («work_floats» .entry))) r (lentOf (now (ints .exit)) (now (floats .exit)) (now («work_ints» .exit)) (now («work_floats» .exit))) ⌝ }
+    ensures { λ r. ⌜ (
+        let a = csr rows cols (now («row_ptr» .entry)) (now («col_idx» .entry)) (now (values .entry)) in
+        let room = roomIn (now (ints .entry)) (now (floats .entry)) (now («work_ints» .entry)) (now («work_floats» .entry)) in
+        let x = lentOf (now (ints .entry)) (now (floats .entry)) (now («work_ints» .entry)) (now («work_floats» .entry)) in
+        let y = lentOf (now (ints .exit)) (now (floats .exit)) (now («work_ints» .exit)) (now («work_floats» .exit)) in
+        Simulates (Begun a) (coarseLevelOf a room) setup x r y
+        ) ⌝ }
 {
     let checked = room(
         rows,
@@ -184,8 +189,13 @@ pub(crate) fn build(
     work_ints: &mut [u32],
     work_floats: &mut [f64],
 ) -> SetupAnswer
-    requires { ⌜ Fit (csr rows cols (now «row_ptr») (now «col_idx») (now values)) options (roomOf (length (now ints)) (length (now floats)) (length (now «work_ints»)) (length (now «work_floats»))) ⌝ }
-    ensures { λ r. ⌜ Leaves (buildOf (csr rows cols (now («row_ptr» .entry)) (now («col_idx» .entry)) (now (values .entry))) options (roomIn (now (ints .entry)) (now (floats .entry)) (now («work_ints» .entry)) (now («work_floats» .entry)))) r (lentOf (now (ints .exit)) (now (floats .exit)) (now («work_ints» .exit)) (now («work_floats» .exit))) ⌝ }
+    requires { ⌜ Fit (csr rows cols (now «row_ptr») (now «col_idx») (now values)) options (roomIn (now ints) (now floats) (now «work_ints») (now «work_floats»)) ⌝ }
+    ensures { λ r. ⌜ (
+        let a = csr rows cols (now («row_ptr» .entry)) (now («col_idx» .entry)) (now (values .entry)) in
+        let room = roomIn (now (ints .entry)) (now (floats .entry)) (now («work_ints» .entry)) (now («work_floats» .entry)) in
+        let y = lentOf (now (ints .exit)) (now (floats .exit)) (now («work_ints» .exit)) (now («work_floats» .exit)) in
+        Leaves (buildOf a options room) r y
+        ) ⌝ }
 {
     let answer = fine(
         rows,

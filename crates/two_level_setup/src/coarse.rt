@@ -11,8 +11,8 @@ ghost use lib.ListN.{length};
 ghost use Rattle.definitions.specs.Matrix.{csr};
 ghost use Rattle.definitions.specs.Setup.{lentOf};
 ghost use Rattle.two_level_setup.specs.Stages.{coarseStage};
-ghost use Rattle.two_level_setup.specs.Fit.{Ample, MatrixFit, roomOf};
-ghost use Rattle.two_level_setup.specs.Contracts.{MatrixStage, Inverted, Stored, Factored, Weighed, Simulates};
+ghost use Rattle.two_level_setup.specs.Fit.{Ample, MatrixFit};
+ghost use Rattle.two_level_setup.specs.Contracts.{roomIn, MatrixStage, Inverted, Stored, Factored, Weighed, Simulates};
 
 // The coarse matrix, to the front of the work floats.
 fn matrix(
@@ -27,8 +27,11 @@ fn matrix(
     work_ints: &mut [u32],
     work_floats: &mut [f64],
 )
-    requires { ⌜ MatrixFit (csr rows cols (now «row_ptr») (now «col_idx») (now values)) setup (roomOf (length (now ints)) (length (now floats)) (length (now «work_ints»)) (length (now «work_floats»))) ⌝ }
-    ensures { λ _. ⌜ MatrixStage (csr rows cols (now («row_ptr» .entry)) (now («col_idx» .entry)) (now (values .entry))) setup (now (ints .entry)) (now (floats .entry)) (now («work_ints» .entry)) (now («work_floats» .entry)) (now («work_ints» .exit)) (now («work_floats» .exit)) ⌝ }
+    requires { ⌜ MatrixFit (csr rows cols (now «row_ptr») (now «col_idx») (now values)) setup (roomIn (now ints) (now floats) (now «work_ints») (now «work_floats»)) ⌝ }
+    ensures { λ _. ⌜ (
+        let a = csr rows cols (now («row_ptr» .entry)) (now («col_idx» .entry)) (now (values .entry)) in
+        MatrixStage a setup (now (ints .entry)) (now (floats .entry)) (now («work_ints» .entry)) (now («work_floats» .entry)) (now («work_ints» .exit)) (now («work_floats» .exit))
+        ) ⌝ }
 {
     let size = setup.block as usize;
     let nodes = setup.nodes as usize;
@@ -134,8 +137,13 @@ pub(crate) fn coarse(
     work_ints: &mut [u32],
     work_floats: &mut [f64],
 ) -> SetupAnswer
-    requires { ⌜ Ample (csr rows cols (now «row_ptr») (now «col_idx») (now values)) setup (roomOf (length (now ints)) (length (now floats)) (length (now «work_ints»)) (length (now «work_floats»))) ⌝ }
-    ensures { λ r. ⌜ Simulates (Weighed (csr rows cols (now («row_ptr» .entry)) (now («col_idx» .entry)) (now (values .entry)))) (coarseStage (csr rows cols (now («row_ptr» .entry)) (now («col_idx» .entry)) (now (values .entry)))) setup (lentOf (now (ints .entry)) (now (floats .entry)) (now («work_ints» .entry)) (now («work_floats» .entry))) r (lentOf (now (ints .exit)) (now (floats .exit)) (now («work_ints» .exit)) (now («work_floats» .exit))) ⌝ }
+    requires { ⌜ Ample (csr rows cols (now «row_ptr») (now «col_idx») (now values)) setup (roomIn (now ints) (now floats) (now «work_ints») (now «work_floats»)) ⌝ }
+    ensures { λ r. ⌜ (
+        let a = csr rows cols (now («row_ptr» .entry)) (now («col_idx» .entry)) (now (values .entry)) in
+        let x = lentOf (now (ints .entry)) (now (floats .entry)) (now («work_ints» .entry)) (now («work_floats» .entry)) in
+        let y = lentOf (now (ints .exit)) (now (floats .exit)) (now («work_ints» .exit)) (now («work_floats» .exit)) in
+        Simulates (Weighed a) (coarseStage a) setup x r y
+        ) ⌝ }
 {
     let c = setup.coarse as usize;
     let few = 2 * c;

@@ -8,13 +8,12 @@ use definitions::SetupAnswer;
 use definitions::TwoLevelCoarseApplyPolicy;
 ghost use mathlib.Core.Path.{_≡_};
 ghost use Prim.Native.Nat.{_*_, _≤_};
-ghost use lib.ListN.{length};
 ghost use Rattle.definitions.specs.Matrix.{csr};
 ghost use Rattle.definitions.specs.Setup.{lentOf};
 ghost use Rattle.definitions.specs.Coarse.{resolved};
 ghost use Rattle.two_level_setup.specs.Stages.{started, fineOf};
-ghost use Rattle.two_level_setup.specs.Fit.{Fit, roomOf};
-ghost use Rattle.two_level_setup.specs.Contracts.{Leaves};
+ghost use Rattle.two_level_setup.specs.Fit.{Fit};
+ghost use Rattle.two_level_setup.specs.Contracts.{roomIn, Leaves};
 
 // Auto takes the inverse from a coarse dimension of 1,024 on.
 fn resolve(policy: TwoLevelCoarseApplyPolicy, c: u64) -> TwoLevelCoarseApplyPolicy
@@ -75,8 +74,12 @@ pub(crate) fn fine(
     work_ints: &mut [u32],
     work_floats: &mut [f64],
 ) -> SetupAnswer
-    requires { ⌜ Fit (csr rows cols (now «row_ptr») (now «col_idx») (now values)) options (roomOf (length (now ints)) (length (now floats)) (length (now «work_ints»)) (length (now «work_floats»))) ⌝ }
-    ensures { λ r. ⌜ Leaves (fineOf (csr rows cols (now («row_ptr» .entry)) (now («col_idx» .entry)) (now (values .entry))) options) r (lentOf (now (ints .exit)) (now (floats .exit)) (now («work_ints» .exit)) (now («work_floats» .exit))) ⌝ }
+    requires { ⌜ Fit (csr rows cols (now «row_ptr») (now «col_idx») (now values)) options (roomIn (now ints) (now floats) (now «work_ints») (now «work_floats»)) ⌝ }
+    ensures { λ r. ⌜ (
+        let a = csr rows cols (now («row_ptr» .entry)) (now («col_idx» .entry)) (now (values .entry)) in
+        let y = lentOf (now (ints .exit)) (now (floats .exit)) (now («work_ints» .exit)) (now («work_floats» .exit)) in
+        Leaves (fineOf a options) r y
+        ) ⌝ }
 {
     let size = options.block as usize;
     let answer = block_factor::blocks(rows, cols, row_ptr, col_idx, values, size, floats);

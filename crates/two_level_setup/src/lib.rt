@@ -9,16 +9,18 @@ use definitions::Options;
 use definitions::Refusal;
 use definitions::SetupAnswer;
 ghost use mathlib.Core.Path.{_≡_};
-ghost use lib.ListN.{length};
 ghost use Rattle.definitions.specs.Matrix.{csr};
 ghost use Rattle.definitions.specs.Setup.{setupOf, setupLeft, lengthsOf, lentOf};
 ghost use Rattle.definitions.specs.Answers.{setupAnswer};
-ghost use Rattle.two_level_setup.specs.Fit.{Fit, roomOf};
+ghost use Rattle.two_level_setup.specs.Fit.{Fit};
 ghost use Rattle.two_level_setup.specs.Stages.{builtFor};
-ghost use Rattle.two_level_setup.specs.Contracts.{Zeroed};
+ghost use Rattle.two_level_setup.specs.Contracts.{roomIn, Zeroed};
 
 fn zero_all(ints: &mut [u32], floats: &mut [f64], work_ints: &mut [u32], work_floats: &mut [f64])
-    ensures { λ _. ⌜ Zeroed (lentOf (now (ints .entry)) (now (floats .entry)) (now («work_ints» .entry)) (now («work_floats» .entry))) (lentOf (now (ints .exit)) (now (floats .exit)) (now («work_ints» .exit)) (now («work_floats» .exit))) ⌝ }
+    ensures { λ _. ⌜ (
+        let x = lentOf (now (ints .entry)) (now (floats .entry)) (now («work_ints» .entry)) (now («work_floats» .entry)) in
+        Zeroed x (lentOf (now (ints .exit)) (now (floats .exit)) (now («work_ints» .exit)) (now («work_floats» .exit)))
+        ) ⌝ }
 {
     numbers::zero_ints(ints);
     numbers::zero_floats(floats);
@@ -39,7 +41,7 @@ fn build_or_clear(
     work_ints: &mut [u32],
     work_floats: &mut [f64],
 ) -> SetupAnswer
-    requires { ⌜ Fit (csr rows cols (now «row_ptr») (now «col_idx») (now values)) options (roomOf (length (now ints)) (length (now floats)) (length (now «work_ints»)) (length (now «work_floats»))) ⌝ }
+    requires { ⌜ Fit (csr rows cols (now «row_ptr») (now «col_idx») (now values)) options (roomIn (now ints) (now floats) (now «work_ints») (now «work_floats»)) ⌝ }
     ensures { λ r. ⌜ (
         let x = lentOf (now (ints .entry)) (now (floats .entry)) (now («work_ints» .entry)) (now («work_floats» .entry)) in
         let built = builtFor (csr rows cols (now («row_ptr» .entry)) (now («col_idx» .entry)) (now (values .entry))) options (lengthsOf x) in

@@ -1,5 +1,5 @@
 -- What was built is left; a refusal from the blocks on leaves zeros.
-use Rattle.two_level_setup.proofs.Settling.{cleared-built, cleared-refused}
+use Rattle.two_level_setup.proofs.Checks.{cleared-built, cleared-refused}
 use Rattle.definitions.specs.Setup.{lengthsOf, lentOf}
 use Rattle.definitions.specs.Matrix.{csr}
 use borrow.Author.Needs.{needs}

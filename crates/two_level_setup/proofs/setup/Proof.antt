@@ -1,5 +1,5 @@
 -- The checks in their order, then what is built.
-use Rattle.two_level_setup.proofs.Settling.{stopped, front-holds, short, fits, went}
+use Rattle.two_level_setup.proofs.Checks.{stopped, front-holds, short, fits, went}
 use Rattle.two_level_setup.proofs.FineParts.{bounds}
 use Rattle.definitions.specs.Setup.{lengthsOf, lentOf}
 use Rattle.definitions.specs.Matrix.{csr}

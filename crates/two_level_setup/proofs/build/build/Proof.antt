@@ -1,5 +1,5 @@
 -- The fine level, then the coarse one.
-use Rattle.two_level_setup.proofs.Settling.{level-fits, built-refused, built-whole}
+use Rattle.two_level_setup.proofs.Levels.{level-fits, built-refused, built-whole}
 use Rattle.definitions.specs.Matrix.{csr}
 use Rattle.definitions.specs.Setup.{lentOf}
 use borrow.Author.Needs.{needs}

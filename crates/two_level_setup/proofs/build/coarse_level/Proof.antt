@@ -1,5 +1,6 @@
 -- Room, then the transfer, then the coarse part: each reads what the one before it leaves.
-use Rattle.two_level_setup.proofs.Settling.{ample-of, room-refused, level-refused, level-built}
+use Rattle.two_level_setup.proofs.Rooms.{ample-of}
+use Rattle.two_level_setup.proofs.Levels.{room-refused, level-refused, level-built}
 use Rattle.two_level_setup.proofs.Bases.{ample-same}
 use Rattle.two_level_setup.proofs.FineParts.{bounds}
 use Rattle.two_level_setup.specs.Stages.{optionsOf}

@@ -1,5 +1,5 @@
 -- Each length in turn.
-use Rattle.two_level_setup.proofs.Settling.{short-ints, short-floats, short-work, last-length}
+use Rattle.two_level_setup.proofs.Rooms.{short-ints, short-floats, short-work, last-length}
 use Rattle.two_level_setup.proofs.build.long_enough.Statement.{statement}
 use Rattle.two_level_setup.proofs.build.long_enough.Tie as tie
 

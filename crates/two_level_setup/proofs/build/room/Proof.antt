@@ -1,5 +1,5 @@
 -- 17, then 18.
-use Rattle.two_level_setup.proofs.Settling.{too-large, no-room, has-room}
+use Rattle.two_level_setup.proofs.Rooms.{too-large, no-room, has-room}
 use Rattle.two_level_setup.specs.Fit.{roomOf}
 use Rattle.definitions.specs.Setup.{entryNeeds, coarseNeeds}
 use borrow.Author.Needs.{needs}
