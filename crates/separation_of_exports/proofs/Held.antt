@@ -23,7 +23,7 @@ use Rattle.laws.proofs.Csr.{values-length}
 use Rattle.laws.proofs.Record.{HoldsF64s, aggregation-small, basis-small, policy-small}
 use Rattle.separation.proofs.Stages.{Stages, dimension, built, sound}
 use Rattle.separation.proofs.ApplyApart.{constant-weights}
-use Rattle.separation.proofs.Columns.{ids-below}
+use Rattle.laws.proofs.GroupIds.{ids-below}
 use Rattle.separation.proofs.Fitting.{weights-bound, columns-small}
 
 -- ---- the integers
