@@ -41,7 +41,7 @@ pub struct Asking {
 pub const ROOM: usize = 2307;
 
 // A text is read piece by piece: `start`, `feed` for each piece, `finish`, all with the same list. With ROOM numbers in it every text is
-// answered as `program` says, however long and wherever it is cut (specs/Pieces.antt).
+// answered as `program` says, however long and wherever it is cut (`pieces-program`, proofs/Pieces.antt).
 pub fn start() -> Reader
     ensures { λ r. ⌜ r ≡ fresh ⌝ }
 {
