@@ -5,26 +5,11 @@ use borrow.Author.Needs.{needs}
 use Rattle.adjacency.proofs.neighbours.Statement.{statement}
 use Rattle.adjacency.proofs.neighbours.Tie as tie
 
-validate-requires : tie.Need-validate-requires
-validate-requires c κs = search needs
-
-enum-known-valid : tie.Need-enum-known-valid
-enum-known-valid c = search needs
-
-enum-told : tie.Need-enum-told
-enum-told c = search needs
-
 fits-requires : tie.Need-fits-requires
 fits-requires c κs =
     let b = c .before .before .before .before .before .before .before .before .args in
     let v = c .before .before .validate in
     small (b .aggregation) (b .rows) (b .cols) (b .row-ptr .now) (b .col-idx .now) (b .values .now) (b .block-size) (b .base) (b .work-ints .now) (b .work-floats .now) (v .result) (v .ensures) (c .enum-told .given .1)
-
-enum-known-fit : tie.Need-enum-known-fit
-enum-known-fit c = search needs
-
-enum-told-2 : tie.Need-enum-told-2
-enum-told-2 c = search needs
 
 div-build : tie.Need-div-build
 div-build c =
@@ -60,12 +45,6 @@ returns-2 c =
     let f = c .before .before .before .fits2 in
     not-fitting (b .aggregation) (b .rows) (b .cols) (b .row-ptr .now) (b .col-idx .now) (b .values .now) (b .block-size) (b .base) (b .work-ints .now) (b .work-floats .now) (v .result) (v .ensures) (c .before .before .before .before .enum-told .given .1) (f .result) (f .ensures) _ (c .before .fit .given .1)
 
-same-length : tie.Need-same-length
-same-length c = search needs
-
-same-length-2 : tie.Need-same-length-2
-same-length-2 c = search needs
-
 returns-3 : tie.Need-returns-3
 returns-3 c =
     let b = c .before .before .before .before .before .before .before .before .before .before .before .before .before .before .before .before .before .before .args in
@@ -78,16 +57,16 @@ pub neighbours-spec : {M : Type 1} → statement M
 neighbours-spec =
     tie.close
     (tie.spec
-    validate-requires
-    enum-known-valid
-    enum-told
+    (λ c κs. search needs)
+    (λ c. search needs)
+    (λ c. search needs)
     fits-requires
-    enum-known-fit
-    enum-told-2
+    (λ c. search needs)
+    (λ c. search needs)
     div-build
     build-requires
     returns
     returns-2
-    same-length
-    same-length-2
+    (λ c. search needs)
+    (λ c. search needs)
     returns-3)

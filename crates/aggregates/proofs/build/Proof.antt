@@ -22,17 +22,8 @@ use Rattle.aggregates.proofs.growth.grow_all.Reads as grow-all-reads
 use Rattle.aggregates.proofs.settle.Reads as settle-reads
 use Rattle.numbers.proofs.zero_ints.Reads as zero-ints-reads
 
-sub-zero-ints : tie.Need-sub-zero-ints
-sub-zero-ints c = search needs
-
-part-zero-ints-start : tie.Need-part-zero-ints-start
-part-zero-ints-start c = search needs
-
 part-zero-ints-end : tie.Need-part-zero-ints-end
 part-zero-ints-end c = let s = c .before in let a = s .args in omega (arith, s .pre .room, base-fits (a .base) (a .nodes) (a .w .now) (s .pre .lists))
-
-zero-ints-requires : tie.Need-zero-ints-requires
-zero-ints-requires c κs = search needs
 
 grow-all-requires : tie.Need-grow-all-requires
 grow-all-requires c κs =
@@ -46,9 +37,6 @@ grow-all-requires c κs =
       lists-still (a .base) (a .nodes) w₁ (a .w .now) front (λ o n. Lists (a .nodes) o n) (s .pre .lists),
       ((omega (arith, s .pre .few), lists-still (a .base) (a .nodes) w₁ (a .w .now) front (λ o n. a .nodes + (length n + 1) ≤ a .base) (omega (arith, s .pre .room))), front-zero (a .nodes) (a .w .now) (z .last .0) fits (z .ensures)),
     )
-
-floor-of-requires : tie.Need-floor-of-requires
-floor-of-requires c κs = search needs
 
 settle-requires : tie.Need-settle-requires
 settle-requires c κs =
@@ -76,26 +64,11 @@ long c =
     let same : length (c .settle .last .0) ≡ length (a .w .now) = c .settle .kept .0 ∙ c .before .before .before .before .before .grow-all .kept .0 ∙ front-length (a .nodes) (a .w .now) (z .last .0) fits (z .ensures) in
     rw same fits
 
-mul-zero-ints : tie.Need-mul-zero-ints
-mul-zero-ints c = search needs
-
 sub-zero-ints-2 : tie.Need-sub-zero-ints-2
 sub-zero-ints-2 c = omega (arith, long (c .before .before))
 
 part-zero-ints-start-2 : tie.Need-part-zero-ints-start-2
 part-zero-ints-start-2 c = omega (arith, long (c .before .before))
-
-part-zero-ints-end-2 : tie.Need-part-zero-ints-end-2
-part-zero-ints-end-2 c = search needs
-
-zero-ints-requires-2 : tie.Need-zero-ints-requires-2
-zero-ints-requires-2 c κs = search needs
-
-cast-result : tie.Need-cast-result
-cast-result c = search needs
-
-same-length : tie.Need-same-length
-same-length c = search needs
 
 returns : tie.Need-returns
 returns c =
@@ -124,18 +97,18 @@ pub build-spec : {M : Type 1} → statement M
 build-spec =
     tie.close
     (tie.spec
-    sub-zero-ints
-    part-zero-ints-start
+    (λ c. search needs)
+    (λ c. search needs)
     part-zero-ints-end
-    zero-ints-requires
+    (λ c κs. search needs)
     grow-all-requires
-    floor-of-requires
+    (λ c κs. search needs)
     settle-requires
-    mul-zero-ints
+    (λ c. search needs)
     sub-zero-ints-2
     part-zero-ints-start-2
-    part-zero-ints-end-2
-    zero-ints-requires-2
-    cast-result
-    same-length
+    (λ c. search needs)
+    (λ c κs. search needs)
+    (λ c. search needs)
+    (λ c. search needs)
     returns)

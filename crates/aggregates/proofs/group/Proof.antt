@@ -24,15 +24,6 @@ use Rattle.aggregates.proofs.checks.check.Reads as check-reads
 use Rattle.aggregates.proofs.checks.room_for.Reads as room-for-reads
 use Rattle.aggregates.proofs.hand_over.Reads as hand-over-reads
 
-check-requires : tie.Need-check-requires
-check-requires c κs = search needs
-
-enum-known-answer : tie.Need-enum-known-answer
-enum-known-answer c = search needs
-
-enum-told : tie.Need-enum-told
-enum-told c = search needs
-
 -- the call is accepted
 accepted : (c : tie.After-enum-told) → Accepted ≡ answerOf (groupingCall (c .before .before .before .before .before .before .before .args .nodes) (c .before .before .before .before .before .before .before .args .size) (c .before .before .before .before .before .before .before .args .offsets .now) (c .before .before .before .before .before .before .before .args .neighbours .now) (length (c .before .before .before .before .before .before .before .args .ids .now)) (length (c .before .before .before .before .before .before .before .args .work .now)))
 accepted c = sym (c .enum-told .given .1) ∙ c .before .before .check .ensures
@@ -73,12 +64,6 @@ returns c =
     let e = c .before .answer .given .1 in
     (refused-answer (groupingCall (a .nodes) (a .size) (a .offsets .now) (a .neighbours .now) (length (a .ids .now)) (length (a .work .now))) (k .result) r (k .ensures) e, (refused-left (groupingCall (a .nodes) (a .size) (a .offsets .now) (a .neighbours .now) (length (a .ids .now)) (length (a .work .now))) (k .result) r (k .ensures) e (a .ids .now), refused-work (groupingCall (a .nodes) (a .size) (a .offsets .now) (a .neighbours .now) (length (a .ids .now)) (length (a .work .now))) (k .result) r (k .ensures) e (a .work .now)))
 
-same-length : tie.Need-same-length
-same-length c = search needs
-
-same-length-2 : tie.Need-same-length-2
-same-length-2 c = search needs
-
 returns-2 : tie.Need-returns-2
 returns-2 c =
     let a = c .before .before .before .before .before .before .before .before .before .before .before .before .before .before .before .before .before .before .before .before .before .before .before .args in
@@ -105,14 +90,14 @@ pub group-spec : {M : Type 1} → statement M
 group-spec =
     tie.close
     (tie.spec
-    check-requires
-    enum-known-answer
-    enum-told
+    (λ c κs. search needs)
+    (λ c. search needs)
+    (λ c. search needs)
     room-for-requires
     place-requires
     build-requires
     hand-over-requires
     returns
-    same-length
-    same-length-2
+    (λ c. search needs)
+    (λ c. search needs)
     returns-2)

@@ -13,15 +13,6 @@ use Rattle.aggregates.proofs.group_within.Lts as lts
 use Rattle.aggregates.proofs.build.Reads as build-reads
 use Rattle.aggregates.proofs.checks.check_within.Reads as check-within-reads
 
-check-within-requires : tie.Need-check-within-requires
-check-within-requires c κs = search needs
-
-enum-known-answer : tie.Need-enum-known-answer
-enum-known-answer c = search needs
-
-enum-told : tie.Need-enum-told
-enum-told c = search needs
-
 build-requires : tie.Need-build-requires
 build-requires c κs =
     let a = c .before .before .before .before .before .before .args in
@@ -34,12 +25,6 @@ returns c =
     let r = c .before .answer .given .0 .0 in
     let e = c .before .answer .given .1 in
     (refused-answer (withinCall (a .nodes) (a .size) (a .base) (a .work .now)) (k .result) r (k .ensures) e, refused-left (withinCall (a .nodes) (a .size) (a .base) (a .work .now)) (k .result) r (k .ensures) e (a .work .now))
-
-same-length : tie.Need-same-length
-same-length c = search needs
-
-same-length-2 : tie.Need-same-length-2
-same-length-2 c = search needs
 
 returns-2 : tie.Need-returns-2
 returns-2 c =
@@ -54,11 +39,11 @@ pub group-within-spec : {M : Type 1} → statement M
 group-within-spec =
     tie.close
     (tie.spec
-    check-within-requires
-    enum-known-answer
-    enum-told
+    (λ c κs. search needs)
+    (λ c. search needs)
+    (λ c. search needs)
     build-requires
-    same-length
+    (λ c. search needs)
     returns
-    same-length-2
+    (λ c. search needs)
     returns-2)

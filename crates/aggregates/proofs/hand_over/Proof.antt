@@ -11,42 +11,6 @@ use Rattle.aggregates.proofs.hand_over.Lts as lts
 use Rattle.numbers.proofs.copy_ints.Reads as copy-ints-reads
 use Rattle.numbers.proofs.zero_ints.Reads as zero-ints-reads
 
-sub-copy-ints : tie.Need-sub-copy-ints
-sub-copy-ints c = search needs
-
-part-copy-ints-start : tie.Need-part-copy-ints-start
-part-copy-ints-start c = search needs
-
-part-copy-ints-end : tie.Need-part-copy-ints-end
-part-copy-ints-end c = search needs
-
-copy-ints-requires : tie.Need-copy-ints-requires
-copy-ints-requires c κs = search needs
-
-mul-zero-ints : tie.Need-mul-zero-ints
-mul-zero-ints c = search needs
-
-sub-zero-ints : tie.Need-sub-zero-ints
-sub-zero-ints c = search needs
-
-part-zero-ints-start : tie.Need-part-zero-ints-start
-part-zero-ints-start c = search needs
-
-part-zero-ints-end : tie.Need-part-zero-ints-end
-part-zero-ints-end c = search needs
-
-zero-ints-requires : tie.Need-zero-ints-requires
-zero-ints-requires c κs = search needs
-
-zero-ints-requires-2 : tie.Need-zero-ints-requires-2
-zero-ints-requires-2 c κs = search needs
-
-same-length : tie.Need-same-length
-same-length c = search needs
-
-same-length-2 : tie.Need-same-length-2
-same-length-2 c = search needs
-
 returns : tie.Need-returns
 returns c =
     let s = c .before .before .before .before .before .before .before .before .before .before .before .before .before .before .before .before in
@@ -61,16 +25,16 @@ pub hand-over-spec : {M : Type 1} → statement M
 hand-over-spec =
     tie.close
     (tie.spec
-    sub-copy-ints
-    part-copy-ints-start
-    part-copy-ints-end
-    copy-ints-requires
-    mul-zero-ints
-    sub-zero-ints
-    part-zero-ints-start
-    part-zero-ints-end
-    zero-ints-requires
-    zero-ints-requires-2
-    same-length
-    same-length-2
+    (λ c. search needs)
+    (λ c. search needs)
+    (λ c. search needs)
+    (λ c κs. search needs)
+    (λ c. search needs)
+    (λ c. search needs)
+    (λ c. search needs)
+    (λ c. search needs)
+    (λ c κs. search needs)
+    (λ c κs. search needs)
+    (λ c. search needs)
+    (λ c. search needs)
     returns)

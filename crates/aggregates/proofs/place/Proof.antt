@@ -17,17 +17,8 @@ add-start-2 c = omega (arith, c .before .before .before .pre .1)
 mul-copy-ints : tie.Need-mul-copy-ints
 mul-copy-ints c = omega (arith, c .before .before .before .pre .1)
 
-sub-copy-ints : tie.Need-sub-copy-ints
-sub-copy-ints c = search needs
-
 part-copy-ints-start : tie.Need-part-copy-ints-start
 part-copy-ints-start c = omega (arith, c .before .before .before .pre .1)
-
-part-copy-ints-end : tie.Need-part-copy-ints-end
-part-copy-ints-end c = search needs
-
-copy-ints-requires : tie.Need-copy-ints-requires
-copy-ints-requires c κs = search needs
 
 mul-copy-ints-2 : tie.Need-mul-copy-ints-2
 mul-copy-ints-2 c = let s = c .before .before .before .before .before .before .before in let a = s .args in omega (arith, s .pre .1, once-length (a .base) (a .nodes) (a .offsets .now) (a .neighbours .now) (a .work .now) (c .before .before .copy-ints .last .1 .0) (c .before .before .copy-ints .last .1 .0) (s .pre .0) (s .pre .1) (c .before .before .copy-ints .ensures))
@@ -37,12 +28,6 @@ sub-copy-ints-2 c = let s = c .before .before .before .before .before .before .b
 
 part-copy-ints-start-2 : tie.Need-part-copy-ints-start-2
 part-copy-ints-start-2 c = let s = c .before .before .before .before .before .before .before in let a = s .args in omega (arith, s .pre .1, once-length (a .base) (a .nodes) (a .offsets .now) (a .neighbours .now) (a .work .now) (c .before .before .copy-ints .last .1 .0) (c .before .before .copy-ints .last .1 .0) (s .pre .0) (s .pre .1) (c .before .before .copy-ints .ensures))
-
-part-copy-ints-end-2 : tie.Need-part-copy-ints-end-2
-part-copy-ints-end-2 c = search needs
-
-copy-ints-requires-2 : tie.Need-copy-ints-requires-2
-copy-ints-requires-2 c κs = search needs
 
 same-length : tie.Need-same-length
 same-length c =
@@ -63,14 +48,14 @@ place-spec =
     add-start
     add-start-2
     mul-copy-ints
-    sub-copy-ints
+    (λ c. search needs)
     part-copy-ints-start
-    part-copy-ints-end
-    copy-ints-requires
+    (λ c. search needs)
+    (λ c κs. search needs)
     mul-copy-ints-2
     sub-copy-ints-2
     part-copy-ints-start-2
-    part-copy-ints-end-2
-    copy-ints-requires-2
+    (λ c. search needs)
+    (λ c κs. search needs)
     same-length
     returns)

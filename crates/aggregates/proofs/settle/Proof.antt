@@ -19,9 +19,6 @@ renumber-requires c κs =
     let j = c .before .before .before .join-groups in
     numbered-after (a .nodes) (a .groups) (a .floor) (a .base) (offsetsAt (a .base) (a .nodes) (a .w .now)) (neighboursAt (a .base) (a .nodes) (a .w .now)) (a .w .now) (j .last .0) (s .pre) (j .ensures) (j .kept .0)
 
-same-length : tie.Need-same-length
-same-length c = search needs
-
 returns : tie.Need-returns
 returns c =
     let s = c .before .before .before .before .before .before .before .before .before in
@@ -31,4 +28,4 @@ returns c =
     settled-after (a .nodes) (a .groups) (a .floor) (r .result) (offsetsAt (a .base) (a .nodes) (a .w .now)) (neighboursAt (a .base) (a .nodes) (a .w .now)) (a .w .now) (j .last .0) (r .last .0) (j .ensures) (r .ensures .0) (r .ensures .1)
 
 pub settle-spec : {M : Type 1} → statement M
-settle-spec = tie.close (tie.spec join-groups-requires renumber-requires same-length returns)
+settle-spec = tie.close (tie.spec join-groups-requires renumber-requires (λ c. search needs) returns)

@@ -16,27 +16,6 @@ use Rattle.averaging.proofs.average.Tie as tie
 mul-square : tie.Need-mul-square
 mul-square c = omega (arith, square-small (c .before .before .args .c) (omega arith))
 
-average-rows-requires : tie.Need-average-rows-requires
-average-rows-requires c κs = search needs
-
-mul-zero-floats : tie.Need-mul-zero-floats
-mul-zero-floats c = search needs
-
-sub-zero-floats : tie.Need-sub-zero-floats
-sub-zero-floats c = search needs
-
-part-zero-floats-start : tie.Need-part-zero-floats-start
-part-zero-floats-start c = search needs
-
-part-zero-floats-end : tie.Need-part-zero-floats-end
-part-zero-floats-end c = search needs
-
-zero-floats-requires : tie.Need-zero-floats-requires
-zero-floats-requires c κs = search needs
-
-same-length : tie.Need-same-length
-same-length c = search needs
-
 returns : tie.Need-returns
 returns c =
     let a = c .before .before .before .before .before .before .before .before .before .before .before .args in
@@ -44,22 +23,10 @@ returns c =
     accept-left zeroᶠ (averageCall (a .c) (a .m .now)) (a .m .now) _ (averagedSquare (a .c) (take (a .c * a .c) (a .m .now))) (call-done (a .c) (a .m .now) (omega arith) (omega arith))
     (average-on (a .c) (a .m .now) (r .last .1 .0) (c .before .before .zero-floats .last .0) (omega arith) (r .ensures) (c .before .before .zero-floats .ensures))
 
-zero-floats-requires-2 : tie.Need-zero-floats-requires-2
-zero-floats-requires-2 c κs = search needs
-
-zero-floats-requires-3 : tie.Need-zero-floats-requires-3
-zero-floats-requires-3 c κs = search needs
-
-same-length-2 : tie.Need-same-length-2
-same-length-2 c = search needs
-
 returns-2 : tie.Need-returns-2
 returns-2 c =
     let a = c .before .before .before .before .before .before .before .args in
     refuse-cleared zeroᶠ (averageCall (a .c) (a .m .now)) (a .m .now) (c .before .before .zero-floats2 .last .0) (CoarseListTooShort (a .c)) (call-short (a .c) (a .m .now) (omega arith) (omega arith)) (short-clears (a .c)) (c .before .before .zero-floats2 .ensures)
-
-same-length-3 : tie.Need-same-length-3
-same-length-3 c = search needs
 
 returns-3 : tie.Need-returns-3
 returns-3 c =
@@ -71,17 +38,17 @@ average-spec =
     tie.close
     (tie.spec
     mul-square
-    average-rows-requires
-    mul-zero-floats
-    sub-zero-floats
-    part-zero-floats-start
-    part-zero-floats-end
-    zero-floats-requires
-    same-length
+    (λ c κs. search needs)
+    (λ c. search needs)
+    (λ c. search needs)
+    (λ c. search needs)
+    (λ c. search needs)
+    (λ c κs. search needs)
+    (λ c. search needs)
     returns
-    zero-floats-requires-2
-    zero-floats-requires-3
-    same-length-2
+    (λ c κs. search needs)
+    (λ c κs. search needs)
+    (λ c. search needs)
     returns-2
-    same-length-3
+    (λ c. search needs)
     returns-3)

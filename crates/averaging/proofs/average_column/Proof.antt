@@ -47,12 +47,6 @@ add-average-pair-2 c = omega (arith, up (c .before))
 average-pair-requires : tie.Need-average-pair-requires Inv-loop μ-loop
 average-pair-requires c κs = let l = c .before .before .loop .inv .2 .long in (omega (arith, low (c .before), l), omega (arith, up (c .before), l))
 
-add-i : tie.Need-add-i Inv-loop μ-loop
-add-i c = search needs
-
-loop-less : tie.Need-loop-less Inv-loop μ-loop
-loop-less c = omega arith
-
 loop-again : tie.Need-loop-again Inv-loop μ-loop
 loop-again c =
     let s = c .before .before .before .before .before .before .before in
@@ -82,8 +76,8 @@ average-column-spec =
     mul-average-pair-2
     add-average-pair-2
     average-pair-requires
-    add-i
-    loop-less
+    (λ c. search needs)
+    (λ c. omega arith)
     loop-again
     same-length
     returns)

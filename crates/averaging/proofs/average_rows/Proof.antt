@@ -21,12 +21,6 @@ ends c = ⊎-elim (λ w. (omega (arith, w .1), omega (arith, w .0 .taken, w .1))
 loop-holds : tie.Need-loop-holds Inv-loop μ-loop
 loop-holds c = let a = c .before .args in (omega arith, averages-none (a .c) (tile 0 0 0 (a .c)) (a .m .now) (λ x y h t. omega (arith, t)))
 
-sub-if1 : tie.Need-sub-if1 Inv-loop μ-loop
-sub-if1 c = search needs
-
-add-end : tie.Need-add-end Inv-loop μ-loop
-add-end c = search needs
-
 average-strip-requires : tie.Need-average-strip-requires Inv-loop μ-loop
 average-strip-requires c κs =
     let e = ends (c .before) in
@@ -55,8 +49,8 @@ average-rows-spec =
     Inv-loop
     μ-loop
     loop-holds
-    sub-if1
-    add-end
+    (λ c. search needs)
+    (λ c. search needs)
     average-strip-requires
     loop-less
     loop-again

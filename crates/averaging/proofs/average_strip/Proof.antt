@@ -26,20 +26,11 @@ begins c = ⊎-elim
 loop-holds : tie.Need-loop-holds Inv-loop μ-loop
 loop-holds c = let a = c .before .args in (omega arith, averages-none (a .c) (tile (a .first) (a .end) 0 0) (a .m .now) (λ x y h t. omega (arith, t)))
 
-add-from : tie.Need-add-from Inv-loop μ-loop
-add-from c = search needs
-
 average-column-requires : tie.Need-average-column-requires Inv-loop μ-loop
 average-column-requires c κs =
     let b = begins (c .before) in
     let p = c .before .before .before .before .before .pre in
     (b .1, b .2, p .1, rw (c .before .before .before .loop .inv .1 .long) (p .2))
-
-add-j : tie.Need-add-j Inv-loop μ-loop
-add-j c = search needs
-
-loop-less : tie.Need-loop-less Inv-loop μ-loop
-loop-less c = omega arith
 
 loop-again : tie.Need-loop-again Inv-loop μ-loop
 loop-again c =
@@ -61,10 +52,10 @@ average-strip-spec =
     Inv-loop
     μ-loop
     loop-holds
-    add-from
+    (λ c. search needs)
     average-column-requires
-    add-j
-    loop-less
+    (λ c. search needs)
+    (λ c. omega arith)
     loop-again
     same-length
     returns)

@@ -15,9 +15,6 @@ returns c = let a = c .before .before .before .before .args in wrong-residual (a
 returns-2 : tie.Need-returns-2
 returns-2 c = let a = c .before .before .before .before .before .args in wrong-correction (a .rows) (a .block-size) (a .factors .now) (a .residual .now) (a .correction .now) (c .before .if1 .left) (c .if2 .taken)
 
-fits-requires : tie.Need-fits-requires
-fits-requires c κs = search needs
-
 solve-blocks-requires : tie.Need-solve-blocks-requires
 solve-blocks-requires c κs =
     let a = c .before .before .before .before .before .before .before .before .args in
@@ -47,7 +44,7 @@ block-apply-spec =
     (tie.spec
     returns
     returns-2
-    fits-requires
+    (λ c κs. search needs)
     solve-blocks-requires
     same-length
     returns-3

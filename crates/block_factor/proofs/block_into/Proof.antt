@@ -6,24 +6,6 @@ use borrow.Author.Needs.{needs}
 use Rattle.block_factor.proofs.block_into.Statement.{statement}
 use Rattle.block_factor.proofs.block_into.Tie as tie
 
-gather-requires : tie.Need-gather-requires
-gather-requires c κs = search needs
-
-factor-requires : tie.Need-factor-requires
-factor-requires c κs = search needs
-
-enum-known-answer : tie.Need-enum-known-answer
-enum-known-answer c = search needs
-
-enum-told : tie.Need-enum-told
-enum-told c = search needs
-
-slice-aggregate-copy-floats : tie.Need-slice-aggregate-copy-floats
-slice-aggregate-copy-floats c = search needs
-
-copy-floats-requires : tie.Need-copy-floats-requires
-copy-floats-requires c κs = search needs
-
 returns : tie.Need-returns
 returns c =
     let x = c .before .before .before .before .before .before .before .before .before .args in
@@ -31,9 +13,6 @@ returns c =
     let f = c .before .before .before .factor in
     let p = c .before .before .before .before .before .before .before .before .before .pre .1 in
     into-refused (csr (x .rows) (x .rows) (x .row-ptr .now) (x .col-idx .now) (x .values .now)) (x .first) (x .w) (g .result) (f .result) (g .ensures .0) (g .ensures .1) (f .ensures) (square-fits (x .w) (p .1)) _ (x .place .now) (c .before .answer .given .1)
-
-same-length : tie.Need-same-length
-same-length c = search needs
 
 returns-2 : tie.Need-returns-2
 returns-2 c =
@@ -48,12 +27,12 @@ pub block-into-spec : {M : Type 1} → statement M
 block-into-spec =
     tie.close
     (tie.spec
-    gather-requires
-    factor-requires
-    enum-known-answer
-    enum-told
-    slice-aggregate-copy-floats
-    copy-floats-requires
+    (λ c κs. search needs)
+    (λ c κs. search needs)
+    (λ c. search needs)
+    (λ c. search needs)
+    (λ c. search needs)
+    (λ c κs. search needs)
     returns
-    same-length
+    (λ c. search needs)
     returns-2)

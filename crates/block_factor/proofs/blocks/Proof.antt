@@ -6,15 +6,6 @@ use borrow.Author.Needs.{needs}
 use Rattle.block_factor.proofs.blocks.Statement.{statement}
 use Rattle.block_factor.proofs.blocks.Tie as tie
 
-validate-requires : tie.Need-validate-requires
-validate-requires c κs = search needs
-
-enum-known-valid : tie.Need-enum-known-valid
-enum-known-valid c = search needs
-
-enum-told : tie.Need-enum-told
-enum-told c = search needs
-
 returns : tie.Need-returns
 returns c =
     let x = c .before .before .before .before .before .before .before .before .args in
@@ -59,9 +50,6 @@ returns-5 c =
     let v = c .before .before .before .validate in
     stopped (x .rows) (x .cols) (x .row-ptr .now) (x .col-idx .now) (x .values .now) (x .block-size) (x .factors .now) (v .result) (v .ensures) _ (c .before .valid .given .1)
 
-same-length : tie.Need-same-length
-same-length c = search needs
-
 returns-6 : tie.Need-returns-6
 returns-6 c =
     let x = c .before .before .before .before .before .before .before .before .before .before .before .before .before .before .before .args in
@@ -73,9 +61,9 @@ pub blocks-spec : {M : Type 1} → statement M
 blocks-spec =
     tie.close
     (tie.spec
-    validate-requires
-    enum-known-valid
-    enum-told
+    (λ c κs. search needs)
+    (λ c. search needs)
+    (λ c. search needs)
     returns
     returns-2
     returns-3
@@ -83,5 +71,5 @@ blocks-spec =
     returns-4
     fill-blocks-requires
     returns-5
-    same-length
+    (λ c. search needs)
     returns-6)

@@ -53,9 +53,6 @@ add-count c = omega (arith, c .before .before .before .before .pre .0 .fewRows, 
 div-count : tie.Need-div-count Inv-loop μ-loop
 div-count c = c .before .before .before .before .pre .1 .0
 
-fill-pairs-requires : tie.Need-fill-pairs-requires Inv-loop μ-loop
-fill-pairs-requires c κs = search needs
-
 mul-used : tie.Need-mul-used Inv-loop μ-loop
 mul-used c = omega (arith, c .before .before .fill-pairs .ensures .0 .0, c .before .before .before .before .before .before .before .before .pre .0 .fewRows)
 
@@ -85,12 +82,6 @@ add-end c = omega (arith, here c .ends, small (c .before .before .before .before
 mul-block-into : tie.Need-mul-block-into Inv-loop μ-loop
 mul-block-into c = omega (arith, c .before .before .loop .inv .4, small (c .before .before .before .before .before .before .before .before .before .before .before))
 
-sub-block-into : tie.Need-sub-block-into Inv-loop μ-loop
-sub-block-into c = omega arith
-
-part-block-into-start : tie.Need-part-block-into-start Inv-loop μ-loop
-part-block-into-start c = omega arith
-
 part-block-into-end : tie.Need-part-block-into-end Inv-loop μ-loop
 part-block-into-end c = inside c
 
@@ -98,12 +89,6 @@ block-into-requires : tie.Need-block-into-requires Inv-loop μ-loop
 block-into-requires c κs =
     let t = here (c .before) in
     (c .before .before .before .before .before .before .before .before .before .before .before .before .pre .0, (t .fits, t .small, place-long (c .before .before .before .loop .used) _ _ (c .before .before .before .loop .factors) refl (inside (c .before))))
-
-enum-known-answer : tie.Need-enum-known-answer Inv-loop μ-loop
-enum-known-answer c = search needs
-
-zero-floats-requires : tie.Need-zero-floats-requires Inv-loop μ-loop
-zero-floats-requires c κs = search needs
 
 same-length : tie.Need-same-length Inv-loop μ-loop
 same-length c = c .before .before .zero-floats .kept .0 ∙ still (c .before .before .before .before .before .before .before .before .before) ∙ long (c .before .before .before .before .before .before .before .before .before .before .before .before .before)
@@ -118,14 +103,8 @@ returns c =
     let o = blocks-stop (csr (x .rows) (x .rows) (x .row-ptr .now) (x .col-idx .now) (x .values .now)) (x .size) (l .k) (l .used) _ (w .result) (c .before .before .before .before .before .before .before .before .before .before .before .before .loop-test .taken) (w .ensures) refl (l .factors) _ (inside (c .before .before .before .before .before .before .before .before .before .before .before)) (b .kept .1 .1 .1 .1 .1 .1 .0) (b .ensures .1) (l .inv .5) (b .result) (b .ensures .0) _ (c .before .before .before .before .before .answer .given .1) in
     (rw (o .0, answerOf), left-cleared (factorsOf (csr (x .rows) (x .rows) (x .row-ptr .now) (x .col-idx .now) (x .values .now)) (x .size)) _ _ (x .factors .now) _ (o .0) (o .1) (still (c .before .before .before .before .before .before .before .before .before) ∙ long (c .before .before .before .before .before .before .before .before .before .before .before .before .before)) (c .before .before .zero-floats .ensures))
 
-enum-told : tie.Need-enum-told Inv-loop μ-loop
-enum-told c = search needs
-
 add-k : tie.Need-add-k Inv-loop μ-loop
 add-k c = let s = c .before .before .before .before .before .before .before .before .before .before .before .before .before .before .before .before .before in omega (arith, c .before .before .before .before .before .before .before .loop-test .taken, div-le-self (s .args .rows + (s .args .size - 1)) (s .args .size), s .pre .0 .fewRows, s .pre .1 .1)
-
-loop-less : tie.Need-loop-less Inv-loop μ-loop
-loop-less c = omega arith
 
 loop-again : tie.Need-loop-again Inv-loop μ-loop
 unfolding blockCount widthOf
@@ -152,12 +131,6 @@ sub-zero-floats c = omega (arith, c .before .loop .inv .4, long (c .before), c .
 part-zero-floats-start : tie.Need-part-zero-floats-start Inv-loop μ-loop
 part-zero-floats-start c = omega (arith, c .before .loop .inv .4, long (c .before), c .before .before .before .before .before .before .before .before .before .before .pre .1 .2)
 
-part-zero-floats-end : tie.Need-part-zero-floats-end Inv-loop μ-loop
-part-zero-floats-end c = omega arith
-
-zero-floats-requires-2 : tie.Need-zero-floats-requires-2 Inv-loop μ-loop
-zero-floats-requires-2 c κs = search needs
-
 same-length-2 : tie.Need-same-length-2 Inv-loop μ-loop
 same-length-2 c =
     let s = c .before .before .before .before .before .before .before .before .before .before .before .before .before .before in
@@ -182,7 +155,7 @@ fill-from-spec =
     sub-count
     add-count
     div-count
-    fill-pairs-requires
+    (λ c κs. search needs)
     mul-used
     mul-used-2
     loop-holds
@@ -191,22 +164,22 @@ fill-from-spec =
     mul-end
     add-end
     mul-block-into
-    sub-block-into
-    part-block-into-start
+    (λ c. omega arith)
+    (λ c. omega arith)
     part-block-into-end
     block-into-requires
-    enum-known-answer
-    zero-floats-requires
+    (λ c. search needs)
+    (λ c κs. search needs)
     same-length
     returns
-    enum-told
+    (λ c. search needs)
     add-k
-    loop-less
+    (λ c. omega arith)
     loop-again
     mul-zero-floats
     sub-zero-floats
     part-zero-floats-start
-    part-zero-floats-end
-    zero-floats-requires-2
+    (λ c. omega arith)
+    (λ c κs. search needs)
     same-length-2
     returns-2)

@@ -70,12 +70,6 @@ add-end c = omega (arith, small c)
 mul-pair-into : tie.Need-mul-pair-into Inv-loop μ-loop
 mul-pair-into c = omega (arith, small c)
 
-sub-pair-into : tie.Need-sub-pair-into Inv-loop μ-loop
-sub-pair-into c = search needs
-
-part-pair-into-start : tie.Need-part-pair-into-start Inv-loop μ-loop
-part-pair-into-start c = search needs
-
 part-pair-into-end : tie.Need-part-pair-into-end Inv-loop μ-loop
 part-pair-into-end c = inside c
 
@@ -109,9 +103,6 @@ returns c =
     let l = c .before .before .before .before .before .before .loop in
     ((l .inv .0, still (c .before .before .before)), rw (kept (used (c .before .before .before .before .before)) (end (c .before .before .before .before .before)) (l .factors) _ (omega arith) (inside (c .before .before .before .before .before)) (c .before .before .before .pair-into .kept .1 .1 .1 .1 .1 .1 .0)) (l .inv .2))
 
-same-length-2 : tie.Need-same-length-2 Inv-loop μ-loop
-same-length-2 c = search needs
-
 returns-2 : tie.Need-returns-2 Inv-loop μ-loop
 returns-2 c = let l = c .before .loop in ((l .inv .0, l .inv .1), l .inv .2)
 
@@ -130,8 +121,8 @@ fill-pairs-spec =
     mul-end-2
     add-end
     mul-pair-into
-    sub-pair-into
-    part-pair-into-start
+    (λ c. search needs)
+    (λ c. search needs)
     part-pair-into-end
     pair-into-requires
     add-k
@@ -139,5 +130,5 @@ fill-pairs-spec =
     loop-again
     same-length
     returns
-    same-length-2
+    (λ c. search needs)
     returns-2)

@@ -11,32 +11,14 @@ use borrow.Author.Needs.{needs}
 use Rattle.block_factor.proofs.pair_into.Statement.{statement}
 use Rattle.block_factor.proofs.pair_into.Tie as tie
 
-add-second : tie.Need-add-second
-add-second c = search needs
-
-gather-requires : tie.Need-gather-requires
-gather-requires c κs = search needs
-
-gather-requires-2 : tie.Need-gather-requires-2
-gather-requires-2 c κs = search needs
-
-factor-pair-requires : tie.Need-factor-pair-requires
-factor-pair-requires c κs = search needs
-
 mul-n : tie.Need-mul-n
 mul-n c = let s = c .before .before .before .before .before .before .before .before in omega (arith, square-fits (s .args .w) (s .pre .1 .1))
 
 slice-aggregate-copy-floats : tie.Need-slice-aggregate-copy-floats
 slice-aggregate-copy-floats c = sym (length-factor 0 _ _ _ (c .before .before .before .before .factor-pair .ensures (c .before .before .before .if1 .taken) .0 0))
 
-slice-relend-prefix-copy-floats : tie.Need-slice-relend-prefix-copy-floats
-slice-relend-prefix-copy-floats c = search needs
-
 slice-aggregate-copy-floats-2 : tie.Need-slice-aggregate-copy-floats-2
 slice-aggregate-copy-floats-2 c = let s = c .before .before .before .before .before .before .before .before .before .before .before .before in sym (length-take-le (s .args .w * s .args .w) (s .args .place .now) (omega (arith, s .pre .1 .2)))
-
-copy-floats-requires : tie.Need-copy-floats-requires
-copy-floats-requires c κs = search needs
 
 slice-aggregate-copy-floats-3 : tie.Need-slice-aggregate-copy-floats-3
 slice-aggregate-copy-floats-3 c = sym (length-factor 0 _ _ _ (c .before .before .before .before .before .before .before .before .before .before .before .factor-pair .ensures (c .before .before .before .before .before .before .before .before .before .before .if1 .taken) .1 0))
@@ -49,15 +31,6 @@ sub-copy-floats c = let s = c .before .before .before .before .before .before .b
 
 part-copy-floats-start : tie.Need-part-copy-floats-start
 part-copy-floats-start c = let s = c .before .before .before .before .before .before .before .before .before .before .before .before .before .before .before .before .before .before in second-there (s .args .w * s .args .w) (s .args .place .now) (c .before .before .before .before .before .copy-floats .last .1 .0) (s .pre .1 .2)
-
-part-copy-floats-end : tie.Need-part-copy-floats-end
-part-copy-floats-end c = search needs
-
-copy-floats-requires-2 : tie.Need-copy-floats-requires-2
-copy-floats-requires-2 c κs = search needs
-
-same-length : tie.Need-same-length
-same-length c = search needs
 
 returns : tie.Need-returns
 returns c = λ e.
@@ -76,21 +49,21 @@ pub pair-into-spec : {M : Type 1} → statement M
 pair-into-spec =
     tie.close
     (tie.spec
-    add-second
-    gather-requires
-    gather-requires-2
-    factor-pair-requires
+    (λ c. search needs)
+    (λ c κs. search needs)
+    (λ c κs. search needs)
+    (λ c κs. search needs)
     mul-n
     slice-aggregate-copy-floats
-    slice-relend-prefix-copy-floats
+    (λ c. search needs)
     slice-aggregate-copy-floats-2
-    copy-floats-requires
+    (λ c κs. search needs)
     slice-aggregate-copy-floats-3
     mul-copy-floats
     sub-copy-floats
     part-copy-floats-start
-    part-copy-floats-end
-    copy-floats-requires-2
-    same-length
+    (λ c. search needs)
+    (λ c κs. search needs)
+    (λ c. search needs)
     returns
     returns-2)

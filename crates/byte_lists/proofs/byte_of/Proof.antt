@@ -4,18 +4,9 @@ use borrow.Author.Needs.{needs}
 use Rattle.byte_lists.proofs.byte_of.Statement.{statement}
 use Rattle.byte_lists.proofs.byte_of.Tie as tie
 
-mul-result : tie.Need-mul-result
-mul-result c = search needs
-
-shr-result : tie.Need-shr-result
-shr-result c = search needs
-
-cast-result : tie.Need-cast-result
-cast-result c = search needs
-
 returns : tie.Need-returns
 unfolding byteOf
 returns c = refl
 
 pub byte-of-spec : {M : Type 1} → statement M
-byte-of-spec = tie.close (tie.spec mul-result shr-result cast-result returns)
+byte-of-spec = tie.close (tie.spec (λ c. search needs) (λ c. search needs) (λ c. search needs) returns)

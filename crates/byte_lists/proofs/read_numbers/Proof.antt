@@ -5,14 +5,8 @@ use borrow.Author.Needs.{needs}
 use Rattle.byte_lists.proofs.read_numbers.Statement.{statement}
 use Rattle.byte_lists.proofs.read_numbers.Tie as tie
 
-words-fit-requires : tie.Need-words-fit-requires
-words-fit-requires c κs = search needs
-
 fill-numbers-requires : tie.Need-fill-numbers-requires
 fill-numbers-requires c κs = readable-room 8 _ _ (sym (c .before .before .words-fit .ensures) ∙ c .before .if1 .taken)
-
-same-length : tie.Need-same-length
-same-length c = search needs
 
 returns : tie.Need-returns
 returns c = rw (sym (c .before .before .before .before .before .words-fit .ensures) ∙ c .before .before .before .before .if1 .taken) (refl, c .before .before .fill-numbers .ensures)
@@ -22,4 +16,4 @@ returns-2 c = rw (sym (c .before .words-fit .ensures) ∙ c .if1 .left) (refl, r
 
 pub read-numbers-spec : {M : Type 1} → statement M
 read-numbers-spec =
-    tie.close (tie.spec words-fit-requires fill-numbers-requires same-length returns returns-2)
+    tie.close (tie.spec (λ c κs. search needs) fill-numbers-requires (λ c. search needs) returns returns-2)

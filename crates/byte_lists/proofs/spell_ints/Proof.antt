@@ -17,41 +17,14 @@ Inv-loop list bytes₀ n i₀ bytes i = (n ≡ length list * 4) × (i ≤ n) × 
 abbrev μ-loop : tie.MeasureT-loop
 μ-loop list bytes₀ n i₀ bytes i = n - i
 
-zero-bytes-requires : tie.Need-zero-bytes-requires Inv-loop μ-loop
-zero-bytes-requires c κs = search needs
-
-mul-n : tie.Need-mul-n Inv-loop μ-loop
-mul-n c = search needs
-
 loop-holds : tie.Need-loop-holds Inv-loop μ-loop
 loop-holds c = (refl, omega arith, omega arith, refl, tab-none _ _)
-
-mul-x : tie.Need-mul-x Inv-loop μ-loop
-mul-x c = search needs
-
-shared-slice-read-x : tie.Need-shared-slice-read-x Inv-loop μ-loop
-shared-slice-read-x c = search needs
 
 cast-byte-of : tie.Need-cast-byte-of Inv-loop μ-loop
 cast-byte-of c = omega (arith, c .shared-slice-known2 .given (c .before .before .loop .i / 4))
 
-byte-of-requires : tie.Need-byte-of-requires Inv-loop μ-loop
-byte-of-requires c κs = search needs
-
-slice-write-bytes : tie.Need-slice-write-bytes Inv-loop μ-loop
-slice-write-bytes c = search needs
-
-add-i : tie.Need-add-i Inv-loop μ-loop
-add-i c = search needs
-
-loop-less : tie.Need-loop-less Inv-loop μ-loop
-loop-less c = omega arith
-
 loop-again : tie.Need-loop-again Inv-loop μ-loop
 loop-again c = let l = c .before .before .before .loop in let a = c .before .before .before .before .before .before .before .before .before .before .args in (refl, omega arith, omega arith, simp length-set (l .inv .3), tab-more (λ j. byteOf (getD (a .list .now) (j / 4) 0) (j % 4)) (l .i) (l .bytes) _ _ (omega arith) (l .inv .4) (c .byte-of .ensures))
-
-same-length : tie.Need-same-length Inv-loop μ-loop
-same-length c = search needs
 
 returns : tie.Need-returns Inv-loop μ-loop
 unfolding bytesOf
@@ -63,16 +36,16 @@ spell-ints-spec =
     (tie.spec
     Inv-loop
     μ-loop
-    zero-bytes-requires
-    mul-n
+    (λ c κs. search needs)
+    (λ c. search needs)
     loop-holds
-    mul-x
-    shared-slice-read-x
+    (λ c. search needs)
+    (λ c. search needs)
     cast-byte-of
-    byte-of-requires
-    slice-write-bytes
-    add-i
-    loop-less
+    (λ c κs. search needs)
+    (λ c. search needs)
+    (λ c. search needs)
+    (λ c. omega arith)
     loop-again
-    same-length
+    (λ c. search needs)
     returns)

@@ -5,9 +5,6 @@ use borrow.Author.Needs.{needs}
 use Rattle.causes.proofs.keeps_all.Statement.{statement}
 use Rattle.causes.proofs.keeps_all.Tie as tie
 
-number-of-requires : tie.Need-number-of-requires
-number-of-requires c κs = search needs
-
 returns : tie.Need-returns
 returns c = low-keeps (c .before .before .args .cause) (c .before .number-of .result) (c .before .number-of .ensures) (omega arith)
 
@@ -15,4 +12,4 @@ returns-2 : tie.Need-returns-2
 returns-2 c = high-keeps (c .before .before .args .cause) (c .before .number-of .result) (c .before .number-of .ensures) (omega arith)
 
 pub keeps-all-spec : {M : Type 1} → statement M
-keeps-all-spec = tie.close (tie.spec number-of-requires returns returns-2)
+keeps-all-spec = tie.close (tie.spec (λ c κs. search needs) returns returns-2)

@@ -7,19 +7,10 @@ use borrow.Author.Needs.{needs}
 use Rattle.causes.proofs.leave_floats.Statement.{statement}
 use Rattle.causes.proofs.leave_floats.Tie as tie
 
-keeps-all-requires : tie.Need-keeps-all-requires
-keeps-all-requires c κs = search needs
-
-zero-floats-requires : tie.Need-zero-floats-requires
-zero-floats-requires c κs = search needs
-
 returns : tie.Need-returns
 returns c =
     let a = c .before .before .before .args in
     sym (left-kept zeroᶠ (refused (a .cause)) (a .list .now) (a .cause) refl (sym (c .before .keeps-all .ensures) ∙ c .if1 .taken))
-
-same-length : tie.Need-same-length
-same-length c = search needs
 
 returns-2 : tie.Need-returns-2
 returns-2 c =
@@ -28,4 +19,4 @@ returns-2 c =
 
 pub leave-floats-spec : {M : Type 1} → statement M
 leave-floats-spec =
-    tie.close (tie.spec keeps-all-requires zero-floats-requires returns same-length returns-2)
+    tie.close (tie.spec (λ c κs. search needs) (λ c κs. search needs) returns (λ c. search needs) returns-2)

@@ -6,19 +6,10 @@ use borrow.Author.Needs.{needs}
 use Rattle.causes.proofs.leave_ints.Statement.{statement}
 use Rattle.causes.proofs.leave_ints.Tie as tie
 
-keeps-all-requires : tie.Need-keeps-all-requires
-keeps-all-requires c κs = search needs
-
-zero-ints-requires : tie.Need-zero-ints-requires
-zero-ints-requires c κs = search needs
-
 returns : tie.Need-returns
 returns c =
     let a = c .before .before .before .args in
     sym (left-kept 0 (refused (a .cause)) (a .list .now) (a .cause) refl (sym (c .before .keeps-all .ensures) ∙ c .if1 .taken))
-
-same-length : tie.Need-same-length
-same-length c = search needs
 
 returns-2 : tie.Need-returns-2
 returns-2 c =
@@ -27,4 +18,4 @@ returns-2 c =
 
 pub leave-ints-spec : {M : Type 1} → statement M
 leave-ints-spec =
-    tie.close (tie.spec keeps-all-requires zero-ints-requires returns same-length returns-2)
+    tie.close (tie.spec (λ c κs. search needs) (λ c κs. search needs) returns (λ c. search needs) returns-2)

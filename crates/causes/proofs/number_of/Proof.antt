@@ -9,12 +9,9 @@ use Rattle.causes.proofs.number_of.Reads as reads
 use Rattle.causes.proofs.number_of.Lts as lts
 use Rattle.causes.proofs.told.Reads as told-reads
 
-told-requires : tie.Need-told-requires
-told-requires c κs = search needs
-
 returns : tie.Need-returns
 unfolding toldOf
 returns c = ap (λ (x : Row). x .number) (c .told .ensures)
 
 pub number-of-spec : {M : Type 1} → statement M
-number-of-spec = tie.close (tie.spec told-requires returns)
+number-of-spec = tie.close (tie.spec (λ c κs. search needs) returns)

@@ -7,90 +7,6 @@ use Rattle.causes.proofs.told.Tie as tie
 use Rattle.causes.proofs.told.Reads as reads
 use Rattle.causes.proofs.told.Lts as lts
 
-enum-told : tie.Need-enum-told
-enum-told c = search needs
-
-enum-told-2 : tie.Need-enum-told-2
-enum-told-2 c = search needs
-
-enum-told-3 : tie.Need-enum-told-3
-enum-told-3 c = search needs
-
-enum-told-4 : tie.Need-enum-told-4
-enum-told-4 c = search needs
-
-enum-told-5 : tie.Need-enum-told-5
-enum-told-5 c = search needs
-
-enum-told-6 : tie.Need-enum-told-6
-enum-told-6 c = search needs
-
-enum-told-7 : tie.Need-enum-told-7
-enum-told-7 c = search needs
-
-enum-told-8 : tie.Need-enum-told-8
-enum-told-8 c = search needs
-
-enum-told-9 : tie.Need-enum-told-9
-enum-told-9 c = search needs
-
-enum-told-10 : tie.Need-enum-told-10
-enum-told-10 c = search needs
-
-enum-told-11 : tie.Need-enum-told-11
-enum-told-11 c = search needs
-
-enum-told-12 : tie.Need-enum-told-12
-enum-told-12 c = search needs
-
-enum-told-13 : tie.Need-enum-told-13
-enum-told-13 c = search needs
-
-enum-known-cause : tie.Need-enum-known-cause
-enum-known-cause c = search needs
-
-enum-known-cause-2 : tie.Need-enum-known-cause-2
-enum-known-cause-2 c = search needs
-
-enum-told-14 : tie.Need-enum-told-14
-enum-told-14 c = search needs
-
-enum-known-cause-3 : tie.Need-enum-known-cause-3
-enum-known-cause-3 c = search needs
-
-enum-known-cause-4 : tie.Need-enum-known-cause-4
-enum-known-cause-4 c = search needs
-
-enum-known-cause-5 : tie.Need-enum-known-cause-5
-enum-known-cause-5 c = search needs
-
-enum-known-cause-6 : tie.Need-enum-known-cause-6
-enum-known-cause-6 c = search needs
-
-enum-known-cause-7 : tie.Need-enum-known-cause-7
-enum-known-cause-7 c = search needs
-
-enum-known-cause-8 : tie.Need-enum-known-cause-8
-enum-known-cause-8 c = search needs
-
-enum-told-15 : tie.Need-enum-told-15
-enum-told-15 c = search needs
-
-enum-known-cause-9 : tie.Need-enum-known-cause-9
-enum-known-cause-9 c = search needs
-
-enum-known-cause-10 : tie.Need-enum-known-cause-10
-enum-known-cause-10 c = search needs
-
-enum-told-16 : tie.Need-enum-told-16
-enum-told-16 c = search needs
-
-enum-told-17 : tie.Need-enum-told-17
-enum-told-17 c = search needs
-
-enum-told-18 : tie.Need-enum-told-18
-enum-told-18 c = search needs
-
 returns : tie.Need-returns
 unfolding toldOf numberOf valuesOf causeOf
 returns c = rw (c .enum-told .given .1)
@@ -207,34 +123,34 @@ pub told-spec : {M : Type 1} → statement M
 told-spec =
     tie.close
     (tie.spec
-    enum-told
-    enum-told-2
-    enum-told-3
-    enum-told-4
-    enum-told-5
-    enum-told-6
-    enum-told-7
-    enum-told-8
-    enum-told-9
-    enum-told-10
-    enum-told-11
-    enum-told-12
-    enum-told-13
-    enum-known-cause
-    enum-known-cause-2
-    enum-told-14
-    enum-known-cause-3
-    enum-known-cause-4
-    enum-known-cause-5
-    enum-known-cause-6
-    enum-known-cause-7
-    enum-known-cause-8
-    enum-told-15
-    enum-known-cause-9
-    enum-known-cause-10
-    enum-told-16
-    enum-told-17
-    enum-told-18
+    (λ c. search needs)
+    (λ c. search needs)
+    (λ c. search needs)
+    (λ c. search needs)
+    (λ c. search needs)
+    (λ c. search needs)
+    (λ c. search needs)
+    (λ c. search needs)
+    (λ c. search needs)
+    (λ c. search needs)
+    (λ c. search needs)
+    (λ c. search needs)
+    (λ c. search needs)
+    (λ c. search needs)
+    (λ c. search needs)
+    (λ c. search needs)
+    (λ c. search needs)
+    (λ c. search needs)
+    (λ c. search needs)
+    (λ c. search needs)
+    (λ c. search needs)
+    (λ c. search needs)
+    (λ c. search needs)
+    (λ c. search needs)
+    (λ c. search needs)
+    (λ c. search needs)
+    (λ c. search needs)
+    (λ c. search needs)
     returns
     returns-2
     returns-3

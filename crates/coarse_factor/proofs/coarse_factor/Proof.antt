@@ -20,23 +20,8 @@ use Rattle.coarse_factor.proofs.coarse_factor.Tie as tie
 mul-square : tie.Need-mul-square
 mul-square c = omega (arith, square-small (c .before .before .before .args .c) (omega arith))
 
-add-long-enough : tie.Need-add-long-enough
-add-long-enough c = search needs
-
 mul-long-enough : tie.Need-mul-long-enough
 mul-long-enough c = omega (arith, triangle-small (c .before .before .before .args .c) (omega arith))
-
-long-enough-requires : tie.Need-long-enough-requires
-long-enough-requires c κs = search needs
-
-mul-factor-fitting : tie.Need-mul-factor-fitting
-mul-factor-fitting c = search needs
-
-sub-factor-fitting : tie.Need-sub-factor-fitting
-sub-factor-fitting c = search needs
-
-part-factor-fitting-start : tie.Need-part-factor-fitting-start
-part-factor-fitting-start c = search needs
 
 part-factor-fitting-end : tie.Need-part-factor-fitting-end
 part-factor-fitting-end c = let a = c .before .before .before .before .before .args in let h : a .c * a .c ≤ length (a .m .now) = covered (a .c * a .c) (length (a .m .now)) (packedLength (a .c)) (length (a .lower .now)) (sym (c .before .long-enough .ensures) ∙ c .if2 .taken) .0 in omega (arith, h)
@@ -47,9 +32,6 @@ factor-fitting-requires c κs =
     let h = covered (a .c * a .c) (length (a .m .now)) (packedLength (a .c)) (length (a .lower .now)) (sym (c .before .before .before .long-enough .ensures) ∙ c .before .before .if2 .taken) in
     (front-square (a .c) (a .m .now) (h .0), h .1, omega arith)
 
-same-length : tie.Need-same-length
-same-length c = search needs
-
 returns : tie.Need-returns
 returns c =
     let a = c .before .before .before .before .before .before .before .before .before .before .args in
@@ -57,23 +39,11 @@ returns c =
     answer-fits (a .c) (a .m .now) (a .lower .now) (f .last .1 .1 .0) (f .result) (coarseFactorCall (a .c) (a .m .now) (length (a .lower .now)))
     (factor-checked (a .c) (a .m .now) (length (a .lower .now)) ∙ fit (a .c) (leb (a .c * a .c) (length (a .m .now)) && leb (packedLength (a .c)) (length (a .lower .now))) (coarseFactor (a .c) (take (a .c * a .c) (a .m .now))) (omega arith) (sym (c .before .before .before .before .before .before .long-enough .ensures) ∙ c .before .before .before .before .before .if2 .taken)) (f .ensures .0) (f .ensures .1)
 
-zero-floats-requires : tie.Need-zero-floats-requires
-zero-floats-requires c κs = search needs
-
-zero-floats-requires-2 : tie.Need-zero-floats-requires-2
-zero-floats-requires-2 c κs = search needs
-
-same-length-2 : tie.Need-same-length-2
-same-length-2 c = search needs
-
 returns-2 : tie.Need-returns-2
 returns-2 c =
     let a = c .before .before .before .before .before .before .before .before .before .args in
     answer-cleared (largest (take (a .c * a .c) (a .m .now))) (coarseFactorCall (a .c) (a .m .now) (length (a .lower .now))) (a .lower .now) (c .before .before .zero-floats .last .0) (CoarseListTooShort (a .c))
     (factor-checked (a .c) (a .m .now) (length (a .lower .now)) ∙ short (a .c) (leb (a .c * a .c) (length (a .m .now)) && leb (packedLength (a .c)) (length (a .lower .now))) (coarseFactor (a .c) (take (a .c * a .c) (a .m .now))) (omega arith) (sym (c .before .before .before .before .before .long-enough .ensures) ∙ c .before .before .before .before .if2 .left)) (short-clears (a .c)) (c .before .before .zero-floats .ensures)
-
-same-length-3 : tie.Need-same-length-3
-same-length-3 c = search needs
 
 returns-3 : tie.Need-returns-3
 returns-3 c =
@@ -86,19 +56,19 @@ coarse-factor-spec =
     tie.close
     (tie.spec
     mul-square
-    add-long-enough
+    (λ c. search needs)
     mul-long-enough
-    long-enough-requires
-    mul-factor-fitting
-    sub-factor-fitting
-    part-factor-fitting-start
+    (λ c κs. search needs)
+    (λ c. search needs)
+    (λ c. search needs)
+    (λ c. search needs)
     part-factor-fitting-end
     factor-fitting-requires
-    same-length
+    (λ c. search needs)
     returns
-    zero-floats-requires
-    zero-floats-requires-2
-    same-length-2
+    (λ c κs. search needs)
+    (λ c κs. search needs)
+    (λ c. search needs)
     returns-2
-    same-length-3
+    (λ c. search needs)
     returns-3)

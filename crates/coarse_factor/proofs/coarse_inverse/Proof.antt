@@ -19,26 +19,11 @@ use borrow.Author.Needs.{needs}
 use Rattle.coarse_factor.proofs.coarse_inverse.Statement.{statement}
 use Rattle.coarse_factor.proofs.coarse_inverse.Tie as tie
 
-add-packed : tie.Need-add-packed
-add-packed c = search needs
-
 mul-packed : tie.Need-mul-packed
 mul-packed c = omega (arith, triangle-small (c .before .before .before .args .c) (omega arith))
 
 mul-long-enough : tie.Need-mul-long-enough
 mul-long-enough c = omega (arith, square-small (c .before .before .before .args .c) (omega arith))
-
-long-enough-requires : tie.Need-long-enough-requires
-long-enough-requires c κs = search needs
-
-mul-invert : tie.Need-mul-invert
-mul-invert c = search needs
-
-sub-invert : tie.Need-sub-invert
-sub-invert c = search needs
-
-part-invert-start : tie.Need-part-invert-start
-part-invert-start c = search needs
 
 part-invert-end : tie.Need-part-invert-end
 part-invert-end c = let a = c .before .before .before .before .before .args in let h : packedLength (a .c) ≤ length (a .lower .now) = covered (packedLength (a .c)) (length (a .lower .now)) (a .c * a .c) (length (a .inverse .now)) (sym (c .before .long-enough .ensures) ∙ c .if2 .taken) .0 in omega (arith, h)
@@ -49,9 +34,6 @@ invert-requires c κs =
     let h = covered (packedLength (a .c)) (length (a .lower .now)) (a .c * a .c) (length (a .inverse .now)) (sym (c .before .before .before .long-enough .ensures) ∙ c .before .before .if2 .taken) in
     (front-length (a .lower .now) (packedLength (a .c)) (h .0), h .1, omega arith)
 
-same-length : tie.Need-same-length
-same-length c = search needs
-
 returns : tie.Need-returns
 returns c =
     let a = c .before .before .before .before .before .before .before .before .before .before .args in
@@ -59,23 +41,11 @@ returns c =
     (inverse-checked (a .c) (a .lower .now) (length (a .inverse .now)) ∙ fit (a .c) (leb (packedLength (a .c)) (length (a .lower .now)) && leb (a .c * a .c) (length (a .inverse .now))) (done (inverseOf (a .c) (take (packedLength (a .c)) (a .lower .now)))) (omega arith) (sym (c .before .before .before .before .before .before .long-enough .ensures) ∙ c .before .before .before .before .before .if2 .taken))
     (c .before .before .invert .ensures ∙ inverse-front (a .c) (a .lower .now) (length (a .inverse .now)))
 
-zero-floats-requires : tie.Need-zero-floats-requires
-zero-floats-requires c κs = search needs
-
-zero-floats-requires-2 : tie.Need-zero-floats-requires-2
-zero-floats-requires-2 c κs = search needs
-
-same-length-2 : tie.Need-same-length-2
-same-length-2 c = search needs
-
 returns-2 : tie.Need-returns-2
 returns-2 c =
     let a = c .before .before .before .before .before .before .before .before .before .args in
     refuse-cleared zeroᶠ (coarseInverseCall (a .c) (a .lower .now) (length (a .inverse .now))) (a .inverse .now) (c .before .before .zero-floats .last .0) (CoarseListTooShort (a .c))
     (inverse-checked (a .c) (a .lower .now) (length (a .inverse .now)) ∙ short (a .c) (leb (packedLength (a .c)) (length (a .lower .now)) && leb (a .c * a .c) (length (a .inverse .now))) (done (inverseOf (a .c) (take (packedLength (a .c)) (a .lower .now)))) (omega arith) (sym (c .before .before .before .before .before .long-enough .ensures) ∙ c .before .before .before .before .if2 .left)) (short-clears (a .c)) (c .before .before .zero-floats .ensures)
-
-same-length-3 : tie.Need-same-length-3
-same-length-3 c = search needs
 
 returns-3 : tie.Need-returns-3
 returns-3 c =
@@ -87,20 +57,20 @@ pub coarse-inverse-spec : {M : Type 1} → statement M
 coarse-inverse-spec =
     tie.close
     (tie.spec
-    add-packed
+    (λ c. search needs)
     mul-packed
     mul-long-enough
-    long-enough-requires
-    mul-invert
-    sub-invert
-    part-invert-start
+    (λ c κs. search needs)
+    (λ c. search needs)
+    (λ c. search needs)
+    (λ c. search needs)
     part-invert-end
     invert-requires
-    same-length
+    (λ c. search needs)
     returns
-    zero-floats-requires
-    zero-floats-requires-2
-    same-length-2
+    (λ c κs. search needs)
+    (λ c κs. search needs)
+    (λ c. search needs)
     returns-2
-    same-length-3
+    (λ c. search needs)
     returns-3)

@@ -17,24 +17,6 @@ use borrow.Author.Needs.{needs}
 use Rattle.coarse_factor.proofs.coarse_solve.Statement.{statement}
 use Rattle.coarse_factor.proofs.coarse_solve.Tie as tie
 
-stored-length-requires : tie.Need-stored-length-requires
-stored-length-requires c κs = search needs
-
-mul-long-enough : tie.Need-mul-long-enough
-mul-long-enough c = search needs
-
-long-enough-requires : tie.Need-long-enough-requires
-long-enough-requires c κs = search needs
-
-mul-solve-stored : tie.Need-mul-solve-stored
-mul-solve-stored c = search needs
-
-sub-solve-stored : tie.Need-sub-solve-stored
-sub-solve-stored c = search needs
-
-part-solve-stored-start : tie.Need-part-solve-stored-start
-part-solve-stored-start c = search needs
-
 part-solve-stored-end : tie.Need-part-solve-stored-end
 part-solve-stored-end c = let a = c .before .before .before .before .before .before .args in let h : c .before .before .stored-length .result ≤ length (a .part .now) = covered (c .before .before .stored-length .result) (length (a .part .now)) (2 * a .c) (length (a .work .now)) (sym (c .before .long-enough .ensures) ∙ c .if2 .taken) .0 in omega (arith, h)
 
@@ -45,9 +27,6 @@ solve-stored-requires c κs =
     let h = covered (c .before .before .before .before .stored-length .result) (length (a .part .now)) (2 * a .c) (length (a .work .now)) (sym (c .before .before .before .long-enough .ensures) ∙ c .before .before .if2 .taken) in
     (front-length (a .part .now) (n .result) (h .0) ∙ n .ensures, h .1, omega arith)
 
-same-length : tie.Need-same-length
-same-length c = search needs
-
 returns : tie.Need-returns
 returns c =
     let a = c .before .before .before .before .before .before .before .before .before .before .before .args in
@@ -57,15 +36,6 @@ returns c =
     (solve-checked (a .policy) (a .c) (a .part .now) (a .work .now) ∙ fit (a .c) (leb (coarseLength (a .policy) (a .c)) (length (a .part .now)) && leb (2 * a .c) (length (a .work .now))) (done (coarseSolve (a .policy) (a .c) (take (coarseLength (a .policy) (a .c)) (a .part .now)) (take (a .c) (a .work .now)))) (omega arith) e)
     (c .before .before .solve-stored .ensures ∙ solve-front (a .policy) (a .c) (a .part .now) (a .work .now) (n .result) (n .ensures))
 
-zero-floats-requires : tie.Need-zero-floats-requires
-zero-floats-requires c κs = search needs
-
-zero-floats-requires-2 : tie.Need-zero-floats-requires-2
-zero-floats-requires-2 c κs = search needs
-
-same-length-2 : tie.Need-same-length-2
-same-length-2 c = search needs
-
 returns-2 : tie.Need-returns-2
 returns-2 c =
     let a = c .before .before .before .before .before .before .before .before .before .before .args in
@@ -73,9 +43,6 @@ returns-2 c =
     let e : (leb (coarseLength (a .policy) (a .c)) (length (a .part .now)) && leb (2 * a .c) (length (a .work .now))) ≡ false = rw (← n .ensures) (sym (c .before .before .before .before .before .long-enough .ensures) ∙ c .before .before .before .before .if2 .left) in
     refuse-cleared zeroᶠ (coarseSolveCall (a .policy) (a .c) (a .part .now) (a .work .now)) (a .work .now) (c .before .before .zero-floats .last .0) (CoarseListTooShort (a .c))
     (solve-checked (a .policy) (a .c) (a .part .now) (a .work .now) ∙ short (a .c) (leb (coarseLength (a .policy) (a .c)) (length (a .part .now)) && leb (2 * a .c) (length (a .work .now))) (done (coarseSolve (a .policy) (a .c) (take (coarseLength (a .policy) (a .c)) (a .part .now)) (take (a .c) (a .work .now)))) (omega arith) e) (short-clears (a .c)) (c .before .before .zero-floats .ensures)
-
-same-length-3 : tie.Need-same-length-3
-same-length-3 c = search needs
 
 returns-3 : tie.Need-returns-3
 returns-3 c =
@@ -87,19 +54,19 @@ pub coarse-solve-spec : {M : Type 1} → statement M
 coarse-solve-spec =
     tie.close
     (tie.spec
-    stored-length-requires
-    mul-long-enough
-    long-enough-requires
-    mul-solve-stored
-    sub-solve-stored
-    part-solve-stored-start
+    (λ c κs. search needs)
+    (λ c. search needs)
+    (λ c κs. search needs)
+    (λ c. search needs)
+    (λ c. search needs)
+    (λ c. search needs)
     part-solve-stored-end
     solve-stored-requires
-    same-length
+    (λ c. search needs)
     returns
-    zero-floats-requires
-    zero-floats-requires-2
-    same-length-2
+    (λ c κs. search needs)
+    (λ c κs. search needs)
+    (λ c. search needs)
     returns-2
-    same-length-3
+    (λ c. search needs)
     returns-3)

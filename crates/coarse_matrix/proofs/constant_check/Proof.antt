@@ -18,18 +18,6 @@ returns c =
     let m = (csr (a .rows) (a .cols) (a .row-ptr .now) (a .col-idx .now) (a .values .now)) in
     (many-groups m (a .size) (a .ids .now) (a .groups) (a .lent) (omega arith), not-accepted TooLarge (Rows m × ConstantFacts (a .rows) (a .cols) (a .size) (a .ids .now) (a .groups) (a .lent)))
 
-validate-requires : tie.Need-validate-requires
-validate-requires c κs = search needs
-
-enum-known-valid : tie.Need-enum-known-valid
-enum-known-valid c = search needs
-
-enum-told : tie.Need-enum-told
-enum-told c = search needs
-
-constant-checks-requires : tie.Need-constant-checks-requires
-constant-checks-requires c κs = omega arith
-
 returns-2 : tie.Need-returns-2
 returns-2 c =
     let a = c .before .before .before .before .before .before .before .before .before .args in
@@ -47,9 +35,9 @@ constant-check-spec =
     tie.close
     (tie.spec
     returns
-    validate-requires
-    enum-known-valid
-    enum-told
-    constant-checks-requires
+    (λ c κs. search needs)
+    (λ c. search needs)
+    (λ c. search needs)
+    (λ c κs. omega arith)
     returns-2
     returns-3)

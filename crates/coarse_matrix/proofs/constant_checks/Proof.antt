@@ -19,9 +19,6 @@ returns-2 c = let a = c .before .before .before .args in (size-none (a .rows) (a
 returns-3 : tie.Need-returns-3
 returns-3 c = let a = c .before .before .before .before .args in (size-large (a .rows) (a .cols) (a .size) (a .ids .now) (a .groups) (a .lent) (c .before .before .if1 .left) (omega arith) (omega arith), not-accepted BlockSize (ConstantFacts (a .rows) (a .cols) (a .size) (a .ids .now) (a .groups) (a .lent)))
 
-rem-if4 : tie.Need-rem-if4
-rem-if4 c = search needs
-
 returns-4 : tie.Need-returns-4
 returns-4 c = let a = c .before .before .before .before .before .args in (not-multiple (a .rows) (a .cols) (a .size) (a .ids .now) (a .groups) (a .lent) (c .before .before .before .if1 .left) (omega arith) (omega arith) (c .if4 .taken), not-accepted NotMultiple (ConstantFacts (a .rows) (a .cols) (a .size) (a .ids .now) (a .groups) (a .lent)))
 
@@ -37,14 +34,8 @@ mul-if6 c = let a = c .before .before .before .before .before .before .args in o
 returns-6 : tie.Need-returns-6
 returns-6 c = let a = c .before .before .before .before .before .before .before .args in (short-list (a .rows) (a .cols) (a .size) (a .ids .now) (a .groups) (a .lent) (c .before .before .before .before .before .if1 .left) (omega arith) (omega arith) (c .before .before .if4 .left) (omega arith) (omega arith), not-accepted (CoarseListTooShort (a .groups * a .size)) (ConstantFacts (a .rows) (a .cols) (a .size) (a .ids .now) (a .groups) (a .lent)))
 
-div-if7 : tie.Need-div-if7
-div-if7 c = search needs
-
 returns-7 : tie.Need-returns-7
 returns-7 c = let a = c .before .before .before .before .before .before .before .before .args in (other-ids (a .rows) (a .cols) (a .size) (a .ids .now) (a .groups) (a .lent) (c .before .before .before .before .before .before .if1 .left) (omega arith) (omega arith) (c .before .before .before .if4 .left) (omega arith) (omega arith) (c .if7 .taken), not-accepted SetupMisfit (ConstantFacts (a .rows) (a .cols) (a .size) (a .ids .now) (a .groups) (a .lent)))
-
-column-outside-requires : tie.Need-column-outside-requires
-column-outside-requires c κs = search needs
 
 returns-8 : tie.Need-returns-8
 returns-8 c = let a = c .before .before .before .before .before .before .before .before .before .before .args in (id-outside (a .rows) (a .cols) (a .size) (a .ids .now) (a .groups) (a .lent) (c .before .before .before .before .before .before .before .before .if1 .left) (omega arith) (omega arith) (c .before .before .before .before .before .if4 .left) (omega arith) (omega arith) (c .before .before .if7 .left) (sym (c .before .column-outside .ensures) ∙ c .if8 .taken), not-accepted SetupMisfit (ConstantFacts (a .rows) (a .cols) (a .size) (a .ids .now) (a .groups) (a .lent)))
@@ -62,14 +53,14 @@ constant-checks-spec =
     returns
     returns-2
     returns-3
-    rem-if4
+    (λ c. search needs)
     returns-4
     mul-c
     returns-5
     mul-if6
     returns-6
-    div-if7
+    (λ c. search needs)
     returns-7
-    column-outside-requires
+    (λ c κs. search needs)
     returns-8
     returns-9)

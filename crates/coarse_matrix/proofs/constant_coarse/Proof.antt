@@ -14,18 +14,6 @@ use borrow.Author.Needs.{needs}
 use Rattle.coarse_matrix.proofs.constant_coarse.Statement.{statement}
 use Rattle.coarse_matrix.proofs.constant_coarse.Tie as tie
 
-constant-check-requires : tie.Need-constant-check-requires
-constant-check-requires c κs = search needs
-
-enum-known-checked : tie.Need-enum-known-checked
-enum-known-checked c = search needs
-
-leave-floats-requires : tie.Need-leave-floats-requires
-leave-floats-requires c κs = search needs
-
-enum-told : tie.Need-enum-told
-enum-told c = search needs
-
 mul-constant-into : tie.Need-mul-constant-into
 mul-constant-into c = omega (arith, (c .before .before .constant-check .ensures .1 (c .enum-told .given .1)) .1 .small)
 
@@ -36,17 +24,11 @@ constant-into-requires c κs =
     let f = k .1 in
     (walk-of (a .rows) (a .cols) (a .row-ptr .now) (a .col-idx .now) (a .values .now) (f .same) (k .0), (grouped-of (a .rows) (a .cols) (a .block-size) (a .ids .now) (a .groups) (length (a .coarse .now)) f, f .room))
 
-same-length : tie.Need-same-length
-same-length c = search needs
-
 returns : tie.Need-returns
 returns c =
     let a = c .before .before .before .before .before .before .before .before .before .before .before .before .before .args in
     let m = (csr (a .rows) (a .cols) (a .row-ptr .now) (a .col-idx .now) (a .values .now)) in
     told-refused zeroᶠ (constantChecked m (a .block-size) (a .ids .now) (a .groups) (length (a .coarse .now))) (averagedSquare (a .groups * a .block-size) (square (a .groups * a .block-size) (constantEntry m (coarseColumn (a .block-size) (a .ids .now))))) (a .coarse .now) (constantCoarseCall m (a .block-size) (a .ids .now) (a .groups) (length (a .coarse .now))) (c .before .before .before .before .before .before .before .constant-check .result) (constant-call m (a .block-size) (a .ids .now) (a .groups) (length (a .coarse .now))) (c .before .before .before .before .before .before .before .constant-check .ensures .0) _ (c .before .before .leave-floats .last .1 .0) (c .before .before .before .before .before .checked .given .1) (c .before .before .leave-floats .ensures)
-
-same-length-2 : tie.Need-same-length-2
-same-length-2 c = search needs
 
 returns-2 : tie.Need-returns-2
 returns-2 c =
@@ -60,13 +42,13 @@ pub constant-coarse-spec : {M : Type 1} → statement M
 constant-coarse-spec =
     tie.close
     (tie.spec
-    constant-check-requires
-    enum-known-checked
-    leave-floats-requires
-    enum-told
+    (λ c κs. search needs)
+    (λ c. search needs)
+    (λ c κs. search needs)
+    (λ c. search needs)
     mul-constant-into
     constant-into-requires
-    same-length
+    (λ c. search needs)
     returns
-    same-length-2
+    (λ c. search needs)
     returns-2)

@@ -10,15 +10,6 @@ use borrow.Author.Needs.{needs}
 use Rattle.coarse_matrix.proofs.galerkin_check.Statement.{statement}
 use Rattle.coarse_matrix.proofs.galerkin_check.Tie as tie
 
-validate-requires : tie.Need-validate-requires
-validate-requires c κs = search needs
-
-enum-known-valid : tie.Need-enum-known-valid
-enum-known-valid c = search needs
-
-enum-told : tie.Need-enum-told
-enum-told c = search needs
-
 galerkin-checks-requires : tie.Need-galerkin-checks-requires
 galerkin-checks-requires c κs = let a = c .before .before .before .before .before .before .before .before .args in accepted-rows (csr (a .rows) (a .cols) (a .row-ptr .now) (a .col-idx .now) (a .values .now)) (sym (c .before .before .validate .ensures) ∙ c .enum-told .given .1) .fewRows
 
@@ -38,9 +29,9 @@ pub galerkin-check-spec : {M : Type 1} → statement M
 galerkin-check-spec =
     tie.close
     (tie.spec
-    validate-requires
-    enum-known-valid
-    enum-told
+    (λ c κs. search needs)
+    (λ c. search needs)
+    (λ c. search needs)
     galerkin-checks-requires
     returns
     returns-2)

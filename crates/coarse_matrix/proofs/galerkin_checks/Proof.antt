@@ -15,9 +15,6 @@ returns c = let a = c .before .before .before .args in (smoothed-square (a .rows
 returns-2 : tie.Need-returns-2
 returns-2 c = let a = c .before .before .before .before .args in (smoothed-large (a .rows) (a .cols) (a .c) (a .ptr .now) (a .idx .now) (a .count) (a .ints) (a .floats) (c .before .if1 .left) (omega arith), not-accepted (CoarseTooLarge (a .c)) (GalerkinFacts (a .rows) (a .cols) (a .c) (a .ptr .now) (a .idx .now) (a .count) (a .ints) (a .floats)))
 
-mul-if3 : tie.Need-mul-if3
-mul-if3 c = search needs
-
 returns-3 : tie.Need-returns-3
 returns-3 c = let a = c .before .before .before .before .before .args in (smoothed-ints (a .rows) (a .cols) (a .c) (a .ptr .now) (a .idx .now) (a .count) (a .ints) (a .floats) (c .before .before .if1 .left) (omega arith) (omega arith), not-accepted (CoarseListTooShort (a .c)) (GalerkinFacts (a .rows) (a .cols) (a .c) (a .ptr .now) (a .idx .now) (a .count) (a .ints) (a .floats)))
 
@@ -49,7 +46,7 @@ galerkin-checks-spec =
     (tie.spec
     returns
     returns-2
-    mul-if3
+    (λ c. search needs)
     returns-3
     mul-if4
     add-if4

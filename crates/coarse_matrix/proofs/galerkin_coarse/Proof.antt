@@ -11,33 +11,12 @@ use borrow.Author.Needs.{needs}
 use Rattle.coarse_matrix.proofs.galerkin_coarse.Statement.{statement}
 use Rattle.coarse_matrix.proofs.galerkin_coarse.Tie as tie
 
-galerkin-check-requires : tie.Need-galerkin-check-requires
-galerkin-check-requires c κs = search needs
-
-enum-known-checked : tie.Need-enum-known-checked
-enum-known-checked c = search needs
-
-leave-ints-requires : tie.Need-leave-ints-requires
-leave-ints-requires c κs = search needs
-
-leave-floats-requires : tie.Need-leave-floats-requires
-leave-floats-requires c κs = search needs
-
-enum-told : tie.Need-enum-told
-enum-told c = search needs
-
 galerkin-into-requires : tie.Need-galerkin-into-requires
 galerkin-into-requires c κs =
     let a = c .before .before .before .before .before .before .before .before .before .before .before .before .before .args in
     let k = c .before .before .before .before .galerkin-check .ensures .1 (c .before .before .enum-told .given .1) in
     let f = k .1 in
     ((k .0 .fewRows, f .small, f .ints-room, f .floats-room), (walk-of (a .rows) (a .cols) (a .row-ptr .now) (a .col-idx .now) (a .values .now) (f .same) (k .0), f .walk))
-
-same-length : tie.Need-same-length
-same-length c = search needs
-
-same-length-2 : tie.Need-same-length-2
-same-length-2 c = search needs
 
 returns : tie.Need-returns
 returns c =
@@ -46,12 +25,6 @@ returns c =
     let t = told-refused zeroᶠ (galerkinChecked m (a .c) (a .transfer-ptr .now) (a .transfer-idx .now) (length (a .weights .now)) (length (a .ints .now)) (length (a .floats .now))) (averagedSquare (a .c) (square (a .c) (galerkinEntry m (rowOf (a .transfer-ptr .now) (a .transfer-idx .now) (a .weights .now))))) (a .floats .now) (galerkinCoarseCall m (a .c) (a .transfer-ptr .now) (a .transfer-idx .now) (a .weights .now) (length (a .ints .now)) (length (a .floats .now))) (c .before .before .before .before .before .before .before .before .before .before .before .galerkin-check .result) (galerkin-call m (a .c) (a .transfer-ptr .now) (a .transfer-idx .now) (a .weights .now) (length (a .ints .now)) (length (a .floats .now))) (c .before .before .before .before .before .before .before .before .before .before .before .galerkin-check .ensures .0) _ (c .before .before .leave-floats .last .1 .0) (c .before .before .before .before .before .before .before .before .before .checked .given .1) (c .before .before .leave-floats .ensures) in
     let w = work-refused zeroᶠ (galerkinChecked m (a .c) (a .transfer-ptr .now) (a .transfer-idx .now) (length (a .weights .now)) (length (a .ints .now)) (length (a .floats .now))) (averagedSquare (a .c) (square (a .c) (galerkinEntry m (rowOf (a .transfer-ptr .now) (a .transfer-idx .now) (a .weights .now))))) (a .floats .now) (galerkinCoarseCall m (a .c) (a .transfer-ptr .now) (a .transfer-idx .now) (a .weights .now) (length (a .ints .now)) (length (a .floats .now))) (c .before .before .before .before .before .before .before .before .before .before .before .galerkin-check .result) (galerkin-call m (a .c) (a .transfer-ptr .now) (a .transfer-idx .now) (a .weights .now) (length (a .ints .now)) (length (a .floats .now))) (c .before .before .before .before .before .before .before .before .before .before .before .galerkin-check .ensures .0) 0 (a .ints .now) (c .before .before .before .before .before .before .leave-ints .last .1 .0) _ (c .before .before .before .before .before .before .before .before .before .checked .given .1) (c .before .before .before .before .before .before .leave-ints .ensures) in
     (t .0, w, t .1)
-
-same-length-3 : tie.Need-same-length-3
-same-length-3 c = search needs
-
-same-length-4 : tie.Need-same-length-4
-same-length-4 c = search needs
 
 returns-2 : tie.Need-returns-2
 returns-2 c =
@@ -68,15 +41,15 @@ pub galerkin-coarse-spec : {M : Type 1} → statement M
 galerkin-coarse-spec =
     tie.close
     (tie.spec
-    galerkin-check-requires
-    enum-known-checked
-    leave-ints-requires
-    leave-floats-requires
-    enum-told
+    (λ c κs. search needs)
+    (λ c. search needs)
+    (λ c κs. search needs)
+    (λ c κs. search needs)
+    (λ c. search needs)
     galerkin-into-requires
-    same-length
-    same-length-2
+    (λ c. search needs)
+    (λ c. search needs)
     returns
-    same-length-3
-    same-length-4
+    (λ c. search needs)
+    (λ c. search needs)
     returns-2)

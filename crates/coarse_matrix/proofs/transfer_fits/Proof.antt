@@ -10,9 +10,6 @@ use Rattle.coarse_matrix.proofs.constant.wide.Reads as wide-reads
 use Rattle.csr32.proofs.column_outside.Reads as column-outside-reads
 use Rattle.csr32.proofs.pointer_falls.Reads as pointer-falls-reads
 
-add-if1 : tie.Need-add-if1
-add-if1 c = search needs
-
 returns : tie.Need-returns
 returns c =
     let a = c .before .before .before .args in
@@ -23,41 +20,20 @@ returns-2 c =
     let a = c .before .before .before .before .args in
     (fits-columns (a .rows) (a .c) (a .ptr .now) (a .idx .now) (a .count) (c .before .if1 .left) (c .if2 .taken), never-true (Walk (a .rows) (a .c) (a .ptr .now) (a .idx .now) (a .count)))
 
-shared-slice-read-wide : tie.Need-shared-slice-read-wide
-shared-slice-read-wide c = search needs
-
-wide-requires : tie.Need-wide-requires
-wide-requires c κs = search needs
-
 returns-3 : tie.Need-returns-3
 returns-3 c =
     let a = c .before .before .before .before .before .before .before .args in
     (fits-first (a .rows) (a .c) (a .ptr .now) (a .idx .now) (a .count) (c .before .before .before .before .if1 .left) (c .before .before .before .if2 .left) (c .before .wide .result) (c .before .wide .ensures) (c .if3 .taken), never-true (Walk (a .rows) (a .c) (a .ptr .now) (a .idx .now) (a .count)))
-
-mul-wide : tie.Need-mul-wide
-mul-wide c = search needs
-
-shared-slice-read-wide-2 : tie.Need-shared-slice-read-wide-2
-shared-slice-read-wide-2 c = search needs
-
-wide-requires-2 : tie.Need-wide-requires-2
-wide-requires-2 c κs = search needs
 
 returns-4 : tie.Need-returns-4
 returns-4 c =
     let a = c .before .before .before .before .before .before .before .before .before .before .args in
     (fits-last (a .rows) (a .c) (a .ptr .now) (a .idx .now) (a .count) (c .before .before .before .before .before .before .before .if1 .left) (c .before .before .before .before .before .before .if2 .left) (sym (c .before .before .before .before .wide .ensures) ∙ c .before .before .before .if3 .left) (c .before .wide2 .result) (c .before .wide2 .ensures) (c .if4 .taken), never-true (Walk (a .rows) (a .c) (a .ptr .now) (a .idx .now) (a .count)))
 
-pointer-falls-requires : tie.Need-pointer-falls-requires
-pointer-falls-requires c κs = search needs
-
 returns-5 : tie.Need-returns-5
 returns-5 c =
     let a = c .before .before .before .before .before .before .before .before .before .before .before .before .args in
     (fits-rise (a .rows) (a .c) (a .ptr .now) (a .idx .now) (a .count) (c .before .before .before .before .before .before .before .before .before .if1 .left) (c .before .before .before .before .before .before .before .before .if2 .left) (sym (c .before .before .before .before .before .before .wide .ensures) ∙ c .before .before .before .before .before .if3 .left) (sym (c .before .before .before .wide2 .ensures) ∙ c .before .before .if4 .left) (sym (c .before .pointer-falls .ensures) ∙ c .if5 .taken), never-true (Walk (a .rows) (a .c) (a .ptr .now) (a .idx .now) (a .count)))
-
-column-outside-requires : tie.Need-column-outside-requires
-column-outside-requires c κs = search needs
 
 returns-6 : tie.Need-returns-6
 returns-6 c =
@@ -74,18 +50,18 @@ pub transfer-fits-spec : {M : Type 1} → statement M
 transfer-fits-spec =
     tie.close
     (tie.spec
-    add-if1
+    (λ c. search needs)
     returns
     returns-2
-    shared-slice-read-wide
-    wide-requires
+    (λ c. search needs)
+    (λ c κs. search needs)
     returns-3
-    mul-wide
-    shared-slice-read-wide-2
-    wide-requires-2
+    (λ c. search needs)
+    (λ c. search needs)
+    (λ c κs. search needs)
     returns-4
-    pointer-falls-requires
+    (λ c κs. search needs)
     returns-5
-    column-outside-requires
+    (λ c κs. search needs)
     returns-6
     returns-7)

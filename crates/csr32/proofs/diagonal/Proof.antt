@@ -4,15 +4,6 @@ use borrow.Author.Needs.{needs}
 use Rattle.csr32.proofs.diagonal.Statement.{statement}
 use Rattle.csr32.proofs.diagonal.Tie as tie
 
-validate-requires : tie.Need-validate-requires
-validate-requires c κs = search needs
-
-enum-known-valid : tie.Need-enum-known-valid
-enum-known-valid c = search needs
-
-enum-told : tie.Need-enum-told
-enum-told c = search needs
-
 returns : tie.Need-returns
 returns c =
     let s = c .before .before .before .before .before .before .before .before .args in
@@ -39,9 +30,6 @@ returns-3 c =
     let v = c .before .before .before .validate in
     stopped (s .rows) (s .cols) (s .row-ptr .now) (s .col-idx .now) (s .values .now) (s .diagonal .now) (v .result) (v .ensures) _ (c .before .valid .given .1)
 
-same-length : tie.Need-same-length
-same-length c = search needs
-
 returns-4 : tie.Need-returns-4
 returns-4 c =
     let s = c .before .before .before .before .before .before .before .before .before .before .before .before .before .args in
@@ -54,12 +42,12 @@ pub diagonal-spec : {M : Type 1} → statement M
 diagonal-spec =
     tie.close
     (tie.spec
-    validate-requires
-    enum-known-valid
-    enum-told
+    (λ c κs. search needs)
+    (λ c. search needs)
+    (λ c. search needs)
     returns
     returns-2
     fill-diagonal-requires
     returns-3
-    same-length
+    (λ c. search needs)
     returns-4)

@@ -23,26 +23,11 @@ abbrev μ-loop : tie.MeasureT-loop
 loop-holds : tie.Need-loop-holds Inv-loop μ-loop
 loop-holds c = let a = c .before .before .before .before .args in (omega arith, refl, fill-none (csr (a .rows) (a .rows) (a .row-ptr .now) (a .col-idx .now) (a .values .now)) (a .diagonal .now))
 
-mul-wide : tie.Need-mul-wide Inv-loop μ-loop
-mul-wide c = search needs
-
 shared-slice-read-wide : tie.Need-shared-slice-read-wide Inv-loop μ-loop
 shared-slice-read-wide c = omega (arith, c .before .before .before .before .before .before .before .pre .0 .long)
 
-wide-requires : tie.Need-wide-requires Inv-loop μ-loop
-wide-requires c κs = search needs
-
-add-wide : tie.Need-add-wide Inv-loop μ-loop
-add-wide c = search needs
-
-mul-wide-2 : tie.Need-mul-wide-2 Inv-loop μ-loop
-mul-wide-2 c = search needs
-
 shared-slice-read-wide-2 : tie.Need-shared-slice-read-wide-2 Inv-loop μ-loop
 shared-slice-read-wide-2 c = omega (arith, c .before .before .before .before .before .before .before .before .before .pre .0 .long)
-
-wide-requires-2 : tie.Need-wide-requires-2 Inv-loop μ-loop
-wide-requires-2 c κs = search needs
 
 sum-at-requires : tie.Need-sum-at-requires Inv-loop μ-loop
 sum-at-requires c κs =
@@ -52,17 +37,8 @@ sum-at-requires c κs =
     (c .before .before .before .before .loop-test .taken) (c .before .before .wide .ensures) (c .wide2 .ensures) in
     (f, (omega (arith, f .1, s .pre .0 .fewEntries), omega (arith, s .pre .0 .fewRows)))
 
-mul-diagonal : tie.Need-mul-diagonal Inv-loop μ-loop
-mul-diagonal c = search needs
-
 slice-write-diagonal : tie.Need-slice-write-diagonal Inv-loop μ-loop
 slice-write-diagonal c = omega (arith, c .before .before .before .before .before .before .before .before .before .before .before .before .pre .1)
-
-add-i : tie.Need-add-i Inv-loop μ-loop
-add-i c = search needs
-
-loop-less : tie.Need-loop-less Inv-loop μ-loop
-loop-less c = omega arith
 
 loop-again : tie.Need-loop-again Inv-loop μ-loop
 loop-again c =
@@ -74,9 +50,6 @@ loop-again c =
       fill-more (csr (a .rows) (a .rows) (a .row-ptr .now) (a .col-idx .now) (a .values .now)) (l .i) (c .before .before .before .before .wide .result) (c .before .before .wide2 .result) (omega arith)
           (c .before .before .before .before .wide .ensures) (c .before .before .wide2 .ensures) _ (c .before .sum-at .ensures .0) (l .diagonal) (l .inv .2) _ (omega arith) (c .before .sum-at .ensures .1) (c .if1 .taken),
     )
-
-zero-floats-requires : tie.Need-zero-floats-requires Inv-loop μ-loop
-zero-floats-requires c κs = search needs
 
 same-length : tie.Need-same-length Inv-loop μ-loop
 same-length c = let l = c .before .before .before .before .before .before .before .before .before .before .before .loop in omega (arith, c .before .before .zero-floats .kept .0, l .inv .1)
@@ -94,20 +67,8 @@ returns c =
     let e = fill-missing m (l .i) (w .result) (w2 .result) (omega arith) (w .ensures) (w2 .ensures) _ (d .sum-at .ensures .0) (l .diagonal) (l .inv .2) (c .before .before .before .before .if1 .left) in
     (rw (e, answerOf), left-missing (diagonalOf m) (l .i) (l .diagonal) (a .diagonal .now) _ e (l .inv .1) (c .before .before .zero-floats .ensures))
 
-mul-zero-floats : tie.Need-mul-zero-floats Inv-loop μ-loop
-mul-zero-floats c = search needs
-
-sub-zero-floats : tie.Need-sub-zero-floats Inv-loop μ-loop
-sub-zero-floats c = search needs
-
 part-zero-floats-start : tie.Need-part-zero-floats-start Inv-loop μ-loop
 part-zero-floats-start c = omega (arith, c .before .before .before .before .before .before .pre .1)
-
-part-zero-floats-end : tie.Need-part-zero-floats-end Inv-loop μ-loop
-part-zero-floats-end c = search needs
-
-zero-floats-requires-2 : tie.Need-zero-floats-requires-2 Inv-loop μ-loop
-zero-floats-requires-2 c κs = search needs
 
 same-length-2 : tie.Need-same-length-2 Inv-loop μ-loop
 same-length-2 c =
@@ -131,26 +92,26 @@ fill-diagonal-spec =
     Inv-loop
     μ-loop
     loop-holds
-    mul-wide
+    (λ c. search needs)
     shared-slice-read-wide
-    wide-requires
-    add-wide
-    mul-wide-2
+    (λ c κs. search needs)
+    (λ c. search needs)
+    (λ c. search needs)
     shared-slice-read-wide-2
-    wide-requires-2
+    (λ c κs. search needs)
     sum-at-requires
-    mul-diagonal
+    (λ c. search needs)
     slice-write-diagonal
-    add-i
-    loop-less
+    (λ c. search needs)
+    (λ c. omega arith)
     loop-again
-    zero-floats-requires
+    (λ c κs. search needs)
     same-length
     returns
-    mul-zero-floats
-    sub-zero-floats
+    (λ c. search needs)
+    (λ c. search needs)
     part-zero-floats-start
-    part-zero-floats-end
-    zero-floats-requires-2
+    (λ c. search needs)
+    (λ c κs. search needs)
     same-length-2
     returns-2)

@@ -17,29 +17,11 @@ Inv-loop col-idx values from to column wanted count₀ at₀ k₀ count at k = (
 abbrev μ-loop : tie.MeasureT-loop
 μ-loop col-idx values from to column wanted count₀ at₀ k₀ count at k = to - k
 
-cast-wanted : tie.Need-cast-wanted Inv-loop μ-loop
-cast-wanted c = search needs
-
 loop-holds : tie.Need-loop-holds Inv-loop μ-loop
 loop-holds c = let a = c .before .before .args in (omega arith, omega arith, single-none (λ x. eqb x (a .column)) (a .col-idx .now) (a .values .now) (a .from))
 
-mul-if1 : tie.Need-mul-if1 Inv-loop μ-loop
-mul-if1 c = search needs
-
-shared-slice-read-if1 : tie.Need-shared-slice-read-if1 Inv-loop μ-loop
-shared-slice-read-if1 c = search needs
-
 add-count : tie.Need-add-count Inv-loop μ-loop
 add-count c = omega (arith, c .before .before .before .loop .inv .2 .few)
-
-cast-at : tie.Need-cast-at Inv-loop μ-loop
-cast-at c = search needs
-
-add-k : tie.Need-add-k Inv-loop μ-loop
-add-k c = search needs
-
-loop-less : tie.Need-loop-less Inv-loop μ-loop
-loop-less c = omega arith
 
 loop-again : tie.Need-loop-again Inv-loop μ-loop
 loop-again c =
@@ -57,9 +39,6 @@ loop-again c =
           (c .if1 .came),
     )
 
-wide-requires : tie.Need-wide-requires Inv-loop μ-loop
-wide-requires c κs = search needs
-
 -- the single entry stands in the list
 inside : (c : tie.After-wide Inv-loop μ-loop) → c .wide .result < length (c .before .before .before .before .before .before .args .values .now)
 inside c = omega (arith, c .wide .ensures, c .before .before .before .loop .inv .2 .one (c .before .if2 .taken) .0, c .before .before .before .before .before .before .pre .0)
@@ -69,9 +48,6 @@ mul-t18 c = omega (arith, inside c)
 
 shared-slice-read-t20 : tie.Need-shared-slice-read-t20 Inv-loop μ-loop
 shared-slice-read-t20 c = inside (c .before)
-
-sum-each-requires : tie.Need-sum-each-requires Inv-loop μ-loop
-sum-each-requires c κs = search needs
 
 returns : tie.Need-returns Inv-loop μ-loop
 returns c =
@@ -90,18 +66,18 @@ sum-at-spec =
     (tie.spec
     Inv-loop
     μ-loop
-    cast-wanted
+    (λ c. search needs)
     loop-holds
-    mul-if1
-    shared-slice-read-if1
+    (λ c. search needs)
+    (λ c. search needs)
     add-count
-    cast-at
-    add-k
-    loop-less
+    (λ c. search needs)
+    (λ c. search needs)
+    (λ c. omega arith)
     loop-again
-    wide-requires
+    (λ c κs. search needs)
     mul-t18
     shared-slice-read-t20
-    sum-each-requires
+    (λ c κs. search needs)
     returns
     returns-2)

@@ -18,9 +18,6 @@ returns-3 : tie.Need-returns-3
 unfolding validOf
 returns-3 c = search causes depth 14
 
-add-if4 : tie.Need-add-if4
-add-if4 c = search needs
-
 returns-4 : tie.Need-returns-4
 unfolding validOf
 returns-4 c = search causes depth 14
@@ -29,28 +26,13 @@ returns-5 : tie.Need-returns-5
 unfolding validOf
 returns-5 c = search causes depth 14
 
-shared-slice-read-if6 : tie.Need-shared-slice-read-if6
-shared-slice-read-if6 c = search needs
-
 returns-6 : tie.Need-returns-6
 unfolding validOf
 returns-6 c = search causes depth 14
 
-mul-wide : tie.Need-mul-wide
-mul-wide c = search needs
-
-shared-slice-read-wide : tie.Need-shared-slice-read-wide
-shared-slice-read-wide c = search needs
-
-wide-requires : tie.Need-wide-requires
-wide-requires c κs = search needs
-
 returns-7 : tie.Need-returns-7
 unfolding validOf
 returns-7 c = search causes depth 14
-
-pointer-falls-requires : tie.Need-pointer-falls-requires
-pointer-falls-requires c κs = search needs
 
 returns-8 : tie.Need-returns-8
 returns-8 c =
@@ -59,18 +41,12 @@ returns-8 c =
     (c .before .before .before .before .before .before .before .before .before .before .before .if1 .left) (c .before .before .before .before .before .before .before .before .before .before .if2 .left) (c .before .before .before .before .before .before .before .before .before .if3 .left) (c .before .before .before .before .before .before .before .before .if4 .left) (c .before .before .before .before .before .before .before .if5 .left) (c .before .before .before .before .before .if6 .left) (c .before .before .before .wide .ensures) (c .before .before .if7 .left)
     (search causes depth 14)
 
-column-outside-requires : tie.Need-column-outside-requires
-column-outside-requires c κs = search needs
-
 returns-9 : tie.Need-returns-9
 returns-9 c =
     let a = c .before .before .before .before .before .before .before .before .before .before .before .before .before .before .before .before .before .args in
     shape-passed (csr (a .rows) (a .cols) (a .row-ptr .now) (a .col-idx .now) (a .values .now)) _ (c .before .before .before .before .before .wide .result)
     (c .before .before .before .before .before .before .before .before .before .before .before .before .before .if1 .left) (c .before .before .before .before .before .before .before .before .before .before .before .before .if2 .left) (c .before .before .before .before .before .before .before .before .before .before .before .if3 .left) (c .before .before .before .before .before .before .before .before .before .before .if4 .left) (c .before .before .before .before .before .before .before .before .before .if5 .left) (c .before .before .before .before .before .before .before .if6 .left) (c .before .before .before .before .before .wide .ensures) (c .before .before .before .before .if7 .left)
     (search causes depth 14)
-
-value-not-finite-requires : tie.Need-value-not-finite-requires
-value-not-finite-requires c κs = search needs
 
 returns-10 : tie.Need-returns-10
 returns-10 c =
@@ -93,19 +69,19 @@ validate-spec =
     returns
     returns-2
     returns-3
-    add-if4
+    (λ c. search needs)
     returns-4
     returns-5
-    shared-slice-read-if6
+    (λ c. search needs)
     returns-6
-    mul-wide
-    shared-slice-read-wide
-    wide-requires
+    (λ c. search needs)
+    (λ c. search needs)
+    (λ c κs. search needs)
     returns-7
-    pointer-falls-requires
+    (λ c κs. search needs)
     returns-8
-    column-outside-requires
+    (λ c κs. search needs)
     returns-9
-    value-not-finite-requires
+    (λ c κs. search needs)
     returns-10
     returns-11)

@@ -21,32 +21,11 @@ abbrev μ-loop : tie.MeasureT-loop
 loop-holds : tie.Need-loop-holds Inv-loop μ-loop
 loop-holds c = (omega arith, refl)
 
-mul-finite : tie.Need-mul-finite Inv-loop μ-loop
-mul-finite c = search needs
-
-shared-slice-read-finite : tie.Need-shared-slice-read-finite Inv-loop μ-loop
-shared-slice-read-finite c = search needs
-
-finite-requires : tie.Need-finite-requires Inv-loop μ-loop
-finite-requires c κs = search needs
-
-add-i : tie.Need-add-i Inv-loop μ-loop
-add-i c = search needs
-
-loop-less : tie.Need-loop-less Inv-loop μ-loop
-loop-less c = omega arith
-
 loop-again : tie.Need-loop-again Inv-loop μ-loop
 loop-again c =
     let a = c .before .before .before .before .before .before .args in
     let l = c .before .before .before .before .loop in
     (omega arith, scan-miss (λ v. not (finite v)) (a .values .now) (l .i) (l .found) (l .inv .1) nan (omega arith) _ refl (ap not (sym (c .before .finite .ensures) ∙ c .if1 .taken)))
-
-add-i-2 : tie.Need-add-i-2 Inv-loop μ-loop
-add-i-2 c = search needs
-
-loop-less-2 : tie.Need-loop-less-2 Inv-loop μ-loop
-loop-less-2 c = omega arith
 
 loop-again-2 : tie.Need-loop-again-2 Inv-loop μ-loop
 loop-again-2 c =
@@ -67,13 +46,13 @@ value-not-finite-spec =
     Inv-loop
     μ-loop
     loop-holds
-    mul-finite
-    shared-slice-read-finite
-    finite-requires
-    add-i
-    loop-less
+    (λ c. search needs)
+    (λ c. search needs)
+    (λ c κs. search needs)
+    (λ c. search needs)
+    (λ c. omega arith)
     loop-again
-    add-i-2
-    loop-less-2
+    (λ c. search needs)
+    (λ c. omega arith)
     loop-again-2
     returns)

@@ -22,8 +22,5 @@ returns c = sym (is-nan (ofBits binary64 (c .before .args .b)) (sym (nanBits-is 
 float-from-bits-result : tie.Need-float-from-bits-result
 float-from-bits-result c = subst (λ (b : Bool). T (not b)) (sym (nanBits-above binary64 (c .before .args .b) ∙ le-ltb _ _ (c .if1 .left))) tt
 
-returns-2 : tie.Need-returns-2
-returns-2 c = search needs
-
 pub of-bits-spec : {M : Type 1} → statement M
-of-bits-spec = tie.close (tie.spec returns float-from-bits-result returns-2)
+of-bits-spec = tie.close (tie.spec returns float-from-bits-result (λ c. search needs))

@@ -21,17 +21,8 @@ abbrev μ-loop : tie.MeasureT-loop
 loop-holds : tie.Need-loop-holds Inv-loop μ-loop
 loop-holds c = (refl, refl)
 
-shared-slice-read-byte-in : tie.Need-shared-slice-read-byte-in Inv-loop μ-loop
-shared-slice-read-byte-in c = search needs
-
 byte-in-requires : tie.Need-byte-in-requires Inv-loop μ-loop
 byte-in-requires c κs = tt
-
-add-i : tie.Need-add-i Inv-loop μ-loop
-add-i c = search needs
-
-loop-less : tie.Need-loop-less Inv-loop μ-loop
-loop-less c = omega arith
 
 loop-again : tie.Need-loop-again Inv-loop μ-loop
 loop-again c =
@@ -55,10 +46,10 @@ feed-spec =
     Inv-loop
     μ-loop
     loop-holds
-    shared-slice-read-byte-in
+    (λ c. search needs)
     byte-in-requires
-    add-i
-    loop-less
+    (λ c. search needs)
+    (λ c. omega arith)
     loop-again
     same-length
     returns)

@@ -21,23 +21,8 @@ close-requires c κs = tt
 least-requires : tie.Need-least-requires
 least-requires c κs = tt
 
-sub-say : tie.Need-sub-say
-sub-say c = omega arith
-
-part-say-start : tie.Need-part-say-start
-part-say-start c = omega arith
-
-part-say-end : tie.Need-part-say-end
-part-say-end c = omega arith
-
 say-requires : tie.Need-say-requires
 say-requires c κs = tt
-
-same-length : tie.Need-same-length
-same-length c = omega arith
-
-same-length-2 : tie.Need-same-length-2
-same-length-2 c = omega arith
 
 returns : tie.Need-returns
 returns c =
@@ -55,10 +40,10 @@ finish-spec =
     (tie.spec
     close-requires
     least-requires
-    sub-say
-    part-say-start
-    part-say-end
+    (λ c. omega arith)
+    (λ c. omega arith)
+    (λ c. omega arith)
     say-requires
-    same-length
-    same-length-2
+    (λ c. omega arith)
+    (λ c. omega arith)
     returns)

@@ -17,20 +17,11 @@ use Rattle.grouping_text.proofs.start.Reads as start-reads
 start-requires : tie.Need-start-requires
 start-requires c κs = tt
 
-slice-aggregate-feed : tie.Need-slice-aggregate-feed
-slice-aggregate-feed c = search needs
-
 feed-requires : tie.Need-feed-requires
 feed-requires c κs = tt
 
-slice-aggregate-finish : tie.Need-slice-aggregate-finish
-slice-aggregate-finish c = search needs
-
 finish-requires : tie.Need-finish-requires
 finish-requires c κs = tt
-
-same-length : tie.Need-same-length
-same-length c = search needs
 
 returns : tie.Need-returns
 returns c =
@@ -46,9 +37,9 @@ grouping-text-spec =
     tie.close
     (tie.spec
     start-requires
-    slice-aggregate-feed
+    (λ c. search needs)
     feed-requires
-    slice-aggregate-finish
+    (λ c. search needs)
     finish-requires
-    same-length
+    (λ c. search needs)
     returns)

@@ -17,42 +17,6 @@ use Rattle.grouping_text.proofs.answers.answer.Reads as answer-reads
 use Rattle.grouping_text.proofs.printing.put_head.Reads as put-head-reads
 use Rattle.grouping_text.proofs.whole.ask.Reads as ask-reads
 
-slice-aggregate-ask : tie.Need-slice-aggregate-ask
-slice-aggregate-ask c = omega arith
-
-slice-aggregate-ask-2 : tie.Need-slice-aggregate-ask-2
-slice-aggregate-ask-2 c = omega arith
-
-ask-requires : tie.Need-ask-requires
-ask-requires c κs = search needs
-
-add-end : tie.Need-add-end
-add-end c = omega arith
-
-sub-answer : tie.Need-sub-answer
-sub-answer c = omega arith
-
-part-answer-start : tie.Need-part-answer-start
-part-answer-start c = omega arith
-
-part-answer-end : tie.Need-part-answer-end
-part-answer-end c = omega arith
-
-sub-answer-2 : tie.Need-sub-answer-2
-sub-answer-2 c = omega arith
-
-part-answer-start-2 : tie.Need-part-answer-start-2
-part-answer-start-2 c = omega arith
-
-part-answer-end-2 : tie.Need-part-answer-end-2
-part-answer-end-2 c = omega arith
-
-answer-requires : tie.Need-answer-requires
-answer-requires c κs = search needs
-
-same-length : tie.Need-same-length
-same-length c = omega arith
-
 returns : tie.Need-returns
 returns c =
     let a = c .before .before .before .before .before .before .before .before .before .before .before .before .before .before .before .before .args in
@@ -69,14 +33,8 @@ returns c =
     ∙ ap (λ l. printed (groupingCall (r .nodes) (r .size) (take (r .nodes + 1) o) l (r .nodes) (8 * r .nodes + 4 * length l + 16))) (parts (r .count) n) ∙ e)
     (f .ensures)
 
-slice-aggregate-put-head : tie.Need-slice-aggregate-put-head
-slice-aggregate-put-head c = omega arith
-
 put-head-requires : tie.Need-put-head-requires
 put-head-requires c κs = tt
-
-same-length-2 : tie.Need-same-length-2
-same-length-2 c = omega arith
 
 returns-2 : tie.Need-returns-2
 returns-2 c =
@@ -88,14 +46,8 @@ returns-2 c =
     let h = c .before .before .put-head in
     puts-as (a .out .now) 0 (line refusedWord (decimal 1)) (printed (answered (askedIn (a .numbers .now) (a .whole)))) (h .last .0) (h .result) (prints-large (askedIn (a .numbers .now) (a .whole)) r (take (r .nodes + 1) o) (take (r .count) n) (k .ensures .0) (c .before .before .before .before .before .if2 .taken)) (h .ensures)
 
-slice-aggregate-put-head-2 : tie.Need-slice-aggregate-put-head-2
-slice-aggregate-put-head-2 c = omega arith
-
 put-head-requires-2 : tie.Need-put-head-requires-2
 put-head-requires-2 c κs = tt
-
-same-length-3 : tie.Need-same-length-3
-same-length-3 c = omega arith
 
 returns-3 : tie.Need-returns-3
 returns-3 c =
@@ -111,24 +63,24 @@ pub say-spec : {M : Type 1} → statement M
 say-spec =
     tie.close
     (tie.spec
-    slice-aggregate-ask
-    slice-aggregate-ask-2
-    ask-requires
-    add-end
-    sub-answer
-    part-answer-start
-    part-answer-end
-    sub-answer-2
-    part-answer-start-2
-    part-answer-end-2
-    answer-requires
-    same-length
+    (λ c. omega arith)
+    (λ c. omega arith)
+    (λ c κs. search needs)
+    (λ c. omega arith)
+    (λ c. omega arith)
+    (λ c. omega arith)
+    (λ c. omega arith)
+    (λ c. omega arith)
+    (λ c. omega arith)
+    (λ c. omega arith)
+    (λ c κs. search needs)
+    (λ c. omega arith)
     returns
-    slice-aggregate-put-head
+    (λ c. omega arith)
     put-head-requires
-    same-length-2
+    (λ c. omega arith)
     returns-2
-    slice-aggregate-put-head-2
+    (λ c. omega arith)
     put-head-requires-2
-    same-length-3
+    (λ c. omega arith)
     returns-3)

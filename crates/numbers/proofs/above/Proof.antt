@@ -5,9 +5,6 @@ use Rattle.definitions.specs.Numbers.{above}
 use Rattle.numbers.proofs.above.Statement.{statement}
 use Rattle.numbers.proofs.above.Tie as tie
 
-finite-requires : tie.Need-finite-requires
-finite-requires c κs = search needs
-
 returns : tie.Need-returns
 unfolding above
 returns c = rw (sym (c .before .finite .ensures) ∙ c .if1 .taken)
@@ -17,4 +14,4 @@ unfolding above
 returns-2 c = rw (sym (c .before .finite .ensures) ∙ c .if1 .left)
 
 pub above-spec : {M : Type 1} → statement M
-above-spec = tie.close (tie.spec finite-requires returns returns-2)
+above-spec = tie.close (tie.spec (λ c κs. search needs) returns returns-2)

@@ -37,8 +37,5 @@ returns-9 c = sym (ap (λ d. (c .before .before .before .before .before .before 
 div-result : tie.Need-div-result
 div-result c = omega (arith, c .before .before .before .before .before .before .before .before .if1 .left)
 
-returns-10 : tie.Need-returns-10
-returns-10 c = search needs
-
 pub quotient-spec : {M : Type 1} → statement M
-quotient-spec = tie.close (tie.spec returns returns-2 returns-3 returns-4 returns-5 returns-6 returns-7 returns-8 returns-9 div-result returns-10)
+quotient-spec = tie.close (tie.spec returns returns-2 returns-3 returns-4 returns-5 returns-6 returns-7 returns-8 returns-9 div-result (λ c. search needs))

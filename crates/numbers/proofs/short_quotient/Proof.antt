@@ -5,14 +5,8 @@ use borrow.Author.Needs.{needs}
 use Rattle.numbers.proofs.short_quotient.Statement.{statement}
 use Rattle.numbers.proofs.short_quotient.Tie as tie
 
-quotient-requires : tie.Need-quotient-requires
-quotient-requires c κs = search needs
-
 cast-result : tie.Need-cast-result
 cast-result c = let a = c .before .args in rw (c .quotient .ensures) (omega (arith, div-le-self (a .x) (a .d), c .before .fits .x))
 
-returns : tie.Need-returns
-returns c = search needs
-
 pub short-quotient-spec : {M : Type 1} → statement M
-short-quotient-spec = tie.close (tie.spec quotient-requires cast-result returns)
+short-quotient-spec = tie.close (tie.spec (λ c κs. search needs) cast-result (λ c. search needs))

@@ -5,9 +5,6 @@ use Rattle.definitions.specs.Numbers.{usable}
 use Rattle.numbers.proofs.usable.Statement.{statement}
 use Rattle.numbers.proofs.usable.Tie as tie
 
-finite-requires : tie.Need-finite-requires
-finite-requires c κs = search needs
-
 returns : tie.Need-returns
 unfolding usable
 returns c = rw (sym (c .before .finite .ensures) ∙ c .if1 .taken)
@@ -17,4 +14,4 @@ unfolding usable
 returns-2 c = rw (sym (c .before .finite .ensures) ∙ c .if1 .left)
 
 pub usable-spec : {M : Type 1} → statement M
-usable-spec = tie.close (tie.spec finite-requires returns returns-2)
+usable-spec = tie.close (tie.spec (λ c κs. search needs) returns returns-2)

@@ -32,21 +32,12 @@ half-own b m e h S g =
 range : (a c r q : ℕ) → Evened a → Rest (a * 2 ^ 52) c r → q ≡ closer c r → (2 ^ 52 ≤ q) × (q < 2 ^ 53)
 range a c r q E R e = (subst (λ (x : ℕ). 2 ^ 52 ≤ x) (sym e) (closer-least a c r E R), subst (λ (x : ℕ). x < 2 ^ 53) (sym e) (closer-most a c r E R))
 
-split-requires : tie.Need-split-requires
-split-requires c κs = search needs
-
-evened-requires : tie.Need-evened-requires
-evened-requires c κs = search needs
-
 with-rest-requires : tie.Need-with-rest-requires
 with-rest-requires c κs =
     let s = c .before .before .split in
     let E = wide (c .before .before .before .args .b) (s .result .m) (s .result .e) (c .evened .result) (s .ensures) (c .evened .ensures) in
     let g = E .most in
     (E .least, omega arith)
-
-halved-requires : tie.Need-halved-requires
-halved-requires c κs = search needs
 
 nearest-requires : tie.Need-nearest-requires
 nearest-requires c κs =
@@ -81,10 +72,10 @@ pub root-bits-spec : {M : Type 1} → statement M
 root-bits-spec =
     tie.close
     (tie.spec
-    split-requires
-    evened-requires
+    (λ c κs. search needs)
+    (λ c κs. search needs)
     with-rest-requires
-    halved-requires
+    (λ c κs. search needs)
     nearest-requires
     rebuilt-requires
     returns)

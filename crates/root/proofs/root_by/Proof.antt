@@ -37,9 +37,6 @@ returns-5 c =
     let s = c .before .before .before .before .before in
     zero-by-zero ∙ sym (below-zero (s .args .x) (held s) (no-nan (s .args .x) (c .before .before .before .before .if1 .left)) (c .if5 .taken) (c .before .before .if3 .left))
 
-root-bits-requires : tie.Need-root-bits-requires
-root-bits-requires c κs = search needs
-
 float-from-bits-result : tie.Need-float-from-bits-result
 float-from-bits-result c = not-nan-bits (c .root-bits .result) (c .root-bits .ensures .0)
 
@@ -58,6 +55,6 @@ root-by-spec =
     returns-3
     returns-4
     returns-5
-    root-bits-requires
+    (λ c κs. search needs)
     float-from-bits-result
     returns-6)

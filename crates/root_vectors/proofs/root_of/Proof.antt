@@ -6,17 +6,8 @@ use borrow.Author.Needs.{needs}
 use Rattle.root_vectors.proofs.root_of.Statement.{statement}
 use Rattle.root_vectors.proofs.root_of.Tie as tie
 
-of-bits-requires : tie.Need-of-bits-requires
-of-bits-requires c κs = search needs
-
-root-requires : tie.Need-root-requires
-root-requires c κs = search needs
-
-bits-of-requires : tie.Need-bits-of-requires
-bits-of-requires c κs = search needs
-
 returns : tie.Need-returns
 returns c = c .bits-of .ensures ∙ ap (toBits binary64) (c .before .root .ensures ∙ ap rootᶠ (c .before .before .of-bits .ensures))
 
 pub root-of-spec : {M : Type 1} → statement M
-root-of-spec = tie.close (tie.spec of-bits-requires root-requires bits-of-requires returns)
+root-of-spec = tie.close (tie.spec (λ c κs. search needs) (λ c κs. search needs) (λ c κs. search needs) returns)

@@ -7,26 +7,11 @@ use borrow.Author.Needs.{needs}
 use Rattle.setup_record.proofs.coarse_length.Statement.{statement}
 use Rattle.setup_record.proofs.coarse_length.Tie as tie
 
-enum-told : tie.Need-enum-told
-enum-told c = search needs
-
-add-result : tie.Need-add-result
-add-result c = search needs
-
 mul-result : tie.Need-mul-result
 mul-result c = omega (arith, square-fits (c .before .before .args .c) (c .before .before .args .c + 1) (omega arith) (omega arith))
 
-enum-told-2 : tie.Need-enum-told-2
-enum-told-2 c = search needs
-
-add-result-2 : tie.Need-add-result-2
-add-result-2 c = search needs
-
 mul-result-2 : tie.Need-mul-result-2
 mul-result-2 c = omega (arith, square-fits (c .before .before .args .c) (c .before .before .args .c + 1) (omega arith) (omega arith))
-
-enum-told-3 : tie.Need-enum-told-3
-enum-told-3 c = search needs
 
 mul-result-3 : tie.Need-mul-result-3
 mul-result-3 c = omega (arith, whole-fits (c .before .before .args .c) (omega arith))
@@ -47,13 +32,13 @@ pub coarse-length-spec : {M : Type 1} → statement M
 coarse-length-spec =
     tie.close
     (tie.spec
-    enum-told
-    add-result
+    (λ c. search needs)
+    (λ c. search needs)
     mul-result
-    enum-told-2
-    add-result-2
+    (λ c. search needs)
+    (λ c. search needs)
     mul-result-2
-    enum-told-3
+    (λ c. search needs)
     mul-result-3
     returns
     returns-2

@@ -14,8 +14,5 @@ returns-2 c = let a = c .before .before .args in product-above (a .p) (a .n) (a 
 mul-result : tie.Need-mul-result
 mul-result c = let a = c .before .before .args in omega (arith, product-fits (a .n) (a .b) (omega arith) (omega arith))
 
-returns-3 : tie.Need-returns-3
-returns-3 c = search needs
-
 pub is-product-spec : {M : Type 1} → statement M
-is-product-spec = tie.close (tie.spec returns returns-2 mul-result returns-3)
+is-product-spec = tie.close (tie.spec returns returns-2 mul-result (λ c. search needs))

@@ -7,26 +7,8 @@ use borrow.Author.Needs.{needs}
 use Rattle.setup_record.proofs.rows_fit.Statement.{statement}
 use Rattle.setup_record.proofs.rows_fit.Tie as tie
 
-shared-slice-read-if1 : tie.Need-shared-slice-read-if1
-shared-slice-read-if1 c = search needs
-
-pointer-falls-requires : tie.Need-pointer-falls-requires
-pointer-falls-requires c κs = search needs
-
 returns : tie.Need-returns
 returns c = let a = c .before .before .before .before .before .before .args in let p = a .ptr .now in let q = a .idx .now in let h : length p ≡ a .rows + 1 = c .before .before .before .before .before .before .pre .0 in falling p q (a .rows) (a .count) (a .c) h (c .before .before .if1 .taken) (sym (c .before .pointer-falls .ensures) ∙ c .if2 .taken)
-
-mul-wide : tie.Need-mul-wide
-mul-wide c = search needs
-
-shared-slice-read-wide : tie.Need-shared-slice-read-wide
-shared-slice-read-wide c = search needs
-
-wide-requires : tie.Need-wide-requires
-wide-requires c κs = search needs
-
-all-below-requires : tie.Need-all-below-requires
-all-below-requires c κs = search needs
 
 returns-2 : tie.Need-returns-2
 returns-2 c = let a = c .before .before .before .before .before .before .before .before .before .before .args in let p = a .ptr .now in let q = a .idx .now in let h : length p ≡ a .rows + 1 = c .before .before .before .before .before .before .before .before .before .before .pre .0 in c .all-below .ensures ∙ columns p q (a .rows) (a .count) (a .c) h (c .before .before .before .before .before .before .if1 .taken) (sym (c .before .before .before .before .before .pointer-falls .ensures) ∙ c .before .before .before .before .if2 .left) (sym (c .before .before .wide .ensures) ∙ c .before .if3 .taken)
@@ -41,13 +23,13 @@ pub rows-fit-spec : {M : Type 1} → statement M
 rows-fit-spec =
     tie.close
     (tie.spec
-    shared-slice-read-if1
-    pointer-falls-requires
+    (λ c. search needs)
+    (λ c κs. search needs)
     returns
-    mul-wide
-    shared-slice-read-wide
-    wide-requires
-    all-below-requires
+    (λ c. search needs)
+    (λ c. search needs)
+    (λ c κs. search needs)
+    (λ c κs. search needs)
     returns-2
     returns-3
     returns-4)

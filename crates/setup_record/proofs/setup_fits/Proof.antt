@@ -7,9 +7,6 @@ use borrow.Author.Needs.{needs}
 use Rattle.setup_record.proofs.setup_fits.Statement.{statement}
 use Rattle.setup_record.proofs.setup_fits.Tie as tie
 
-sizes-fit-requires : tie.Need-sizes-fit-requires
-sizes-fit-requires c κs = search needs
-
 used-ints-requires : tie.Need-used-ints-requires
 used-ints-requires c κs = sym (c .before .sizes-fit .ensures) ∙ c .if1 .taken
 
@@ -20,9 +17,6 @@ slice-aggregate-all-below : tie.Need-slice-aggregate-all-below
 slice-aggregate-all-below c =
     let a = c .before .before .before .before .before .before .before .before .before .args in
     sym (length-take-le (a .s .nodes) (a .ints .now) (ids-room (a .s .basis) (a .s) _ (rw (← (c .before .before .before .before .used-ints .ensures)) (c .before .before .before .if2 .taken))))
-
-all-below-requires : tie.Need-all-below-requires
-all-below-requires c κs = search needs
 
 transfer-fits-requires : tie.Need-transfer-fits-requires
 transfer-fits-requires c κs = (sym (c .before .before .before .before .before .before .before .before .sizes-fit .ensures) ∙ c .before .before .before .before .before .before .before .if1 .taken, rw (← (c .before .before .before .before .before .before .used-ints .ensures)) (c .before .before .before .before .before .if2 .taken))
@@ -60,11 +54,11 @@ pub setup-fits-spec : {M : Type 1} → statement M
 setup-fits-spec =
     tie.close
     (tie.spec
-    sizes-fit-requires
+    (λ c κs. search needs)
     used-ints-requires
     used-floats-requires
     slice-aggregate-all-below
-    all-below-requires
+    (λ c κs. search needs)
     transfer-fits-requires
     returns
     returns-2

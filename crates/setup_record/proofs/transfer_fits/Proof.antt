@@ -9,12 +9,6 @@ use borrow.Author.Needs.{needs}
 use Rattle.setup_record.proofs.transfer_fits.Statement.{statement}
 use Rattle.setup_record.proofs.transfer_fits.Tie as tie
 
-enum-told : tie.Need-enum-told
-enum-told c = search needs
-
-enum-told-2 : tie.Need-enum-told-2
-enum-told-2 c = search needs
-
 add-b : tie.Need-add-b
 add-b c = let k = bounds-of _ (c .before .before .before .pre .0) in omega (arith, k .rows, k .nodes)
 
@@ -27,23 +21,11 @@ add-e c = let k = bounds-of _ (c .before .before .before .pre .0) in omega (arit
 mul-rows-fit : tie.Need-mul-rows-fit
 mul-rows-fit c = let k = bounds-of _ (c .before .before .before .pre .0) in omega (arith, k .rows, k .nodes)
 
-sub-rows-fit : tie.Need-sub-rows-fit
-sub-rows-fit c = search needs
-
-part-rows-fit-start : tie.Need-part-rows-fit-start
-part-rows-fit-start c = search needs
-
 part-rows-fit-end : tie.Need-part-rows-fit-end
 part-rows-fit-end c = let h = smoothed-room _ _ _ (c .enum-told2 .given .1) (c .before .before .before .pre .1) in omega (arith, h)
 
 mul-rows-fit-2 : tie.Need-mul-rows-fit-2
 mul-rows-fit-2 c = let k = bounds-of _ (c .before .before .before .before .pre .0) in omega (arith, k .rows, k .nodes)
-
-sub-rows-fit-2 : tie.Need-sub-rows-fit-2
-sub-rows-fit-2 c = search needs
-
-part-rows-fit-start-2 : tie.Need-part-rows-fit-start-2
-part-rows-fit-start-2 c = search needs
 
 part-rows-fit-end-2 : tie.Need-part-rows-fit-end-2
 part-rows-fit-end-2 c = let h = smoothed-room _ _ _ (c .before .enum-told2 .given .1) (c .before .before .before .before .pre .1) in omega (arith, h)
@@ -65,18 +47,18 @@ pub transfer-fits-spec : {M : Type 1} → statement M
 transfer-fits-spec =
     tie.close
     (tie.spec
-    enum-told
-    enum-told-2
+    (λ c. search needs)
+    (λ c. search needs)
     add-b
     add-b-2
     add-e
     mul-rows-fit
-    sub-rows-fit
-    part-rows-fit-start
+    (λ c. search needs)
+    (λ c. search needs)
     part-rows-fit-end
     mul-rows-fit-2
-    sub-rows-fit-2
-    part-rows-fit-start-2
+    (λ c. search needs)
+    (λ c. search needs)
     part-rows-fit-end-2
     rows-fit-requires
     returns

@@ -6,12 +6,6 @@ use borrow.Author.Needs.{needs}
 use Rattle.setup_record.proofs.transfers_fit.Statement.{statement}
 use Rattle.setup_record.proofs.transfers_fit.Tie as tie
 
-enum-told : tie.Need-enum-told
-enum-told c = search needs
-
-enum-told-2 : tie.Need-enum-told-2
-enum-told-2 c = search needs
-
 add-result : tie.Need-add-result
 add-result c = let l = limits-of _ (c .before .before .before .pre) in omega (arith, l .rows, l .entries)
 
@@ -24,4 +18,4 @@ unfolding transfersFit
 returns-2 c = rw (c .before .before .enum-told2 .given .1)
 
 pub transfers-fit-spec : {M : Type 1} → statement M
-transfers-fit-spec = tie.close (tie.spec enum-told enum-told-2 add-result returns returns-2)
+transfers-fit-spec = tie.close (tie.spec (λ c. search needs) (λ c. search needs) add-result returns returns-2)

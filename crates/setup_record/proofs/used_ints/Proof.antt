@@ -6,12 +6,6 @@ use borrow.Author.Needs.{needs}
 use Rattle.setup_record.proofs.used_ints.Statement.{statement}
 use Rattle.setup_record.proofs.used_ints.Tie as tie
 
-enum-told : tie.Need-enum-told
-enum-told c = search needs
-
-enum-told-2 : tie.Need-enum-told-2
-enum-told-2 c = search needs
-
 add-result : tie.Need-add-result
 add-result c = let k = bounds-of _ (c .before .before .before .pre) in omega (arith, k .rows, k .nodes)
 
@@ -32,4 +26,4 @@ returns-2 c = rw (c .before .before .enum-told2 .given .1)
 pub used-ints-spec : {M : Type 1} → statement M
 used-ints-spec =
     tie.close
-    (tie.spec enum-told enum-told-2 add-result add-result-2 add-result-3 returns returns-2)
+    (tie.spec (λ c. search needs) (λ c. search needs) add-result add-result-2 add-result-3 returns returns-2)

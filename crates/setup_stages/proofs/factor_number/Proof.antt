@@ -4,15 +4,6 @@ use borrow.Author.Needs.{needs}
 use Rattle.setup_stages.proofs.factor_number.Statement.{statement}
 use Rattle.setup_stages.proofs.factor_number.Tie as tie
 
-enum-told : tie.Need-enum-told
-enum-told c = search needs
-
-enum-known-answer : tie.Need-enum-known-answer
-enum-known-answer c = search needs
-
-number-of-requires : tie.Need-number-of-requires
-number-of-requires c κs = search needs
-
 returns : tie.Need-returns
 unfolding factorNumber
 returns c = rw (c .enum-told .given .1)
@@ -23,4 +14,4 @@ returns-2 c = rw (c .before .before .answer .given .1) (c .number-of .ensures)
 
 pub factor-number-spec : {M : Type 1} → statement M
 factor-number-spec =
-    tie.close (tie.spec enum-told enum-known-answer number-of-requires returns returns-2)
+    tie.close (tie.spec (λ c. search needs) (λ c. search needs) (λ c κs. search needs) returns returns-2)

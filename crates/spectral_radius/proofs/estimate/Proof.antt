@@ -7,12 +7,6 @@ use borrow.Author.Needs.{needs}
 use Rattle.spectral_radius.proofs.estimate.Statement.{statement}
 use Rattle.spectral_radius.proofs.estimate.Tie as tie
 
-validate-requires : tie.Need-validate-requires
-validate-requires c κs = search needs
-
-enum-told : tie.Need-enum-told
-enum-told c = search needs
-
 returns : tie.Need-returns
 returns c =
     let a = c .before .before .before .before .before .before .before .before .before .args in
@@ -22,9 +16,6 @@ returns-2 : tie.Need-returns-2
 returns-2 c =
     let a = c .before .before .before .before .before .before .before .before .before .before .args in
     misfit (csr (a .rows) (a .cols) (a .row-ptr .now) (a .col-idx .now) (a .values .now)) (a .diagonal .now) (a .work .now) (c .before .before .before .before .validate .result) (c .before .before .before .before .validate .ensures) (c .before .before .enum-told .given .1) (c .before .if1 .left) (c .if2 .taken)
-
-mul-if3 : tie.Need-mul-if3
-mul-if3 c = search needs
 
 returns-3 : tie.Need-returns-3
 returns-3 c =
@@ -36,15 +27,6 @@ run-requires c κs =
     let a = c .before .before .before .before .before .before .before .before .before .before .before .before .args in
     let e : a .cols ≡ a .rows = c .before .before .before .if1 .left in
     (rw e at (sound (csr (a .rows) (a .cols) (a .row-ptr .now) (a .col-idx .now) (a .values .now)) (a .diagonal .now) (a .work .now) (c .before .before .before .before .before .before .validate .result) (c .before .before .before .before .before .before .validate .ensures) (c .before .before .before .before .enum-told .given .1)), (c .before .before .if2 .left, omega (arith, c .before .if3 .left)))
-
-zero-floats-requires : tie.Need-zero-floats-requires
-zero-floats-requires c κs = search needs
-
-enum-known-valid : tie.Need-enum-known-valid
-enum-known-valid c = search needs
-
-same-length : tie.Need-same-length
-same-length c = search needs
 
 returns-4 : tie.Need-returns-4
 returns-4 c =
@@ -61,15 +43,15 @@ pub estimate-spec : {M : Type 1} → statement M
 estimate-spec =
     tie.close
     (tie.spec
-    validate-requires
-    enum-told
+    (λ c κs. search needs)
+    (λ c. search needs)
     returns
     returns-2
-    mul-if3
+    (λ c. search needs)
     returns-3
     run-requires
-    zero-floats-requires
-    enum-known-valid
-    same-length
+    (λ c κs. search needs)
+    (λ c. search needs)
+    (λ c. search needs)
     returns-4
     returns-5)

@@ -22,33 +22,6 @@ begun c r e =
     let l : length (take (c .before .before .before .before .before .before .args .rows + c .before .before .before .before .before .before .args .rows - c .before .before .before .before .before .before .args .rows) (drop (c .before .before .before .before .before .before .args .rows) (c .before .before .before .before .before .before .args .w .now))) ≡ c .before .before .before .before .before .before .args .rows = length-part (c .before .before .before .before .before .before .args .rows) (c .before .before .before .before .before .before .args .rows + c .before .before .before .before .before .before .args .rows) (c .before .before .before .before .before .before .args .w .now) (omega (arith, c .before .before .before .before .before .before .pre .1)) ∙ omega arith in
     rw (e, l) at (c .begin .ensures)
 
-add-end : tie.Need-add-end
-add-end c = search needs
-
-mul-begin : tie.Need-mul-begin
-mul-begin c = search needs
-
-sub-begin : tie.Need-sub-begin
-sub-begin c = search needs
-
-part-begin-start : tie.Need-part-begin-start
-part-begin-start c = search needs
-
-part-begin-end : tie.Need-part-begin-end
-part-begin-end c = search needs
-
-begin-requires : tie.Need-begin-requires
-begin-requires c κs = search needs
-
-rounds-requires : tie.Need-rounds-requires
-rounds-requires c κs = search needs
-
-finish-requires : tie.Need-finish-requires
-finish-requires c κs = search needs
-
-same-length : tie.Need-same-length
-same-length c = search needs
-
 returns : tie.Need-returns
 returns c =
     let a = c .before .before .before .before .before .before .before .before .before .before .before .before .before .before .before .before .before .before .args in
@@ -60,9 +33,6 @@ returns c =
     powered-3 (csr (a .rows) (a .rows) (a .ptr .now) (a .idx .now) (a .vals .now)) (take (a .rows) (a .w .now)) (b .last .0) (begun (c .before .before .before .before .before .before .before .before .before .before .before .before) true (c .before .before .before .before .before .before .before .before .before .if1 .taken)) (vectorIn (a .rows) (r .last .1 .1 .1 .1 .0)) (f .result)
     (rw (c .before .before .before .before .if2 .taken, front, vector) at (r .ensures .1)) (rw (r .ensures .0, front) at (f .ensures))
 
-same-length-2 : tie.Need-same-length-2
-same-length-2 c = search needs
-
 returns-2 : tie.Need-returns-2
 returns-2 c =
     let a = c .before .before .before .before .before .before .before .before .before .before .before .before .before .before .args in
@@ -72,9 +42,6 @@ returns-2 c =
     let vector = put-vector (a .rows) (a .w .now) (b .last .0) (drop (a .rows + a .rows - a .rows) (drop (a .rows) (a .w .now))) (omega (arith, c .before .before .before .before .before .before .before .before .before .before .before .before .before .before .pre .1)) (x-length (c .before .before .before .before .before .before .before .before)) in
     powered-2 (csr (a .rows) (a .rows) (a .ptr .now) (a .idx .now) (a .vals .now)) (take (a .rows) (a .w .now)) (b .last .0) (begun (c .before .before .before .before .before .before .before .before) true (c .before .before .before .before .before .if1 .taken)) (vectorIn (a .rows) (r .last .1 .1 .1 .1 .0))
     (rw (c .if2 .left, front, vector) at (r .ensures .1))
-
-same-length-3 : tie.Need-same-length-3
-same-length-3 c = search needs
 
 returns-3 : tie.Need-returns-3
 returns-3 c =
@@ -86,17 +53,17 @@ pub power-method-spec : {M : Type 1} → statement M
 power-method-spec =
     tie.close
     (tie.spec
-    add-end
-    mul-begin
-    sub-begin
-    part-begin-start
-    part-begin-end
-    begin-requires
-    rounds-requires
-    finish-requires
-    same-length
+    (λ c. search needs)
+    (λ c. search needs)
+    (λ c. search needs)
+    (λ c. search needs)
+    (λ c. search needs)
+    (λ c κs. search needs)
+    (λ c κs. search needs)
+    (λ c κs. search needs)
+    (λ c. search needs)
     returns
-    same-length-2
+    (λ c. search needs)
     returns-2
-    same-length-3
+    (λ c. search needs)
     returns-3)

@@ -9,29 +9,11 @@ use borrow.Author.Needs.{needs}
 use Rattle.spectral_radius.proofs.run.Statement.{statement}
 use Rattle.spectral_radius.proofs.run.Tie as tie
 
-check-requires : tie.Need-check-requires
-check-requires c κs = search needs
-
-enum-told : tie.Need-enum-told
-enum-told c = search needs
-
-slice-relend-prefix-inverse-roots : tie.Need-slice-relend-prefix-inverse-roots
-slice-relend-prefix-inverse-roots c = search needs
-
 slice-aggregate-inverse-roots : tie.Need-slice-aggregate-inverse-roots
 slice-aggregate-inverse-roots c = let s = c .before .before .before .before .before .before .before .before .before in sym (length-take-le (s .args .rows) (s .args .w .now) (omega (arith, s .pre .1)))
 
 inverse-roots-requires : tie.Need-inverse-roots-requires
 inverse-roots-requires c κs = let s = c .before .before .before .before .before .before .before .before .before in s .pre .1 .0 ∙ sym (length-take-le (s .args .rows) (s .args .w .now) (omega (arith, s .pre .1)))
-
-power-method-requires : tie.Need-power-method-requires
-power-method-requires c κs = search needs
-
-enum-known-usable : tie.Need-enum-known-usable
-enum-known-usable c = search needs
-
-same-length : tie.Need-same-length
-same-length c = search needs
 
 returns : tie.Need-returns
 returns c =
@@ -51,13 +33,13 @@ pub run-spec : {M : Type 1} → statement M
 run-spec =
     tie.close
     (tie.spec
-    check-requires
-    enum-told
-    slice-relend-prefix-inverse-roots
+    (λ c κs. search needs)
+    (λ c. search needs)
+    (λ c. search needs)
     slice-aggregate-inverse-roots
     inverse-roots-requires
-    power-method-requires
-    enum-known-usable
-    same-length
+    (λ c κs. search needs)
+    (λ c. search needs)
+    (λ c. search needs)
     returns
     returns-2)

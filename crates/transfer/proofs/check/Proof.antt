@@ -16,20 +16,11 @@ use Rattle.transfer.proofs.check.Tie as tie
 returns : tie.Need-returns
 returns c = let a = c .before .before .before .before .before .args in many-groups (csr (a .rows) (a .cols) (a .ptr .now) (a .idx .now) (a .vals .now)) (a .size) (a .ids .now) (a .groups) (a .diagonal) (a .ints) (a .floats) (omega arith)
 
-validate-requires : tie.Need-validate-requires
-validate-requires c κs = search needs
-
-enum-told : tie.Need-enum-told
-enum-told c = search needs
-
 shape-requires : tie.Need-shape-requires
 shape-requires c κs =
     let a = c .before .before .before .before .before .before .before .before .args in
     let w = accepted-rows (csr (a .rows) (a .cols) (a .ptr .now) (a .idx .now) (a .vals .now)) (sym (c .before .before .validate .ensures) ∙ c .enum-told .given .1) in
     (w .fewRows, w .fewEntries)
-
-enum-told-2 : tie.Need-enum-told-2
-enum-told-2 c = search needs
 
 groups-requires : tie.Need-groups-requires
 groups-requires c κs =
@@ -37,12 +28,6 @@ groups-requires c κs =
     let w = accepted-rows (csr (a .rows) (a .cols) (a .ptr .now) (a .idx .now) (a .vals .now)) (sym (c .before .before .before .before .before .validate .ensures) ∙ c .before .before .before .enum-told .given .1) in
     let s = shape-facts (a .rows) (a .cols) (length (a .vals .now)) (a .size) (a .ints) (a .floats) (sym (c .before .before .shape .ensures) ∙ c .enum-told2 .given .1) in
     (w .fewRows, w .fewEntries, s .1, s .2, omega arith)
-
-enum-known-shaped : tie.Need-enum-known-shaped
-enum-known-shaped c = search needs
-
-enum-known-valid : tie.Need-enum-known-valid
-enum-known-valid c = search needs
 
 returns-2 : tie.Need-returns-2
 returns-2 c =
@@ -73,13 +58,13 @@ check-spec =
     tie.close
     (tie.spec
     returns
-    validate-requires
-    enum-told
+    (λ c κs. search needs)
+    (λ c. search needs)
     shape-requires
-    enum-told-2
+    (λ c. search needs)
     groups-requires
-    enum-known-shaped
-    enum-known-valid
+    (λ c. search needs)
+    (λ c. search needs)
     returns-2
     returns-3
     returns-4)

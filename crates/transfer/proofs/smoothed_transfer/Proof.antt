@@ -8,12 +8,6 @@ use borrow.Author.Needs.{needs}
 use Rattle.transfer.proofs.smoothed_transfer.Statement.{statement}
 use Rattle.transfer.proofs.smoothed_transfer.Tie as tie
 
-check-requires : tie.Need-check-requires
-check-requires c κs = search needs
-
-enum-told : tie.Need-enum-told
-enum-told c = search needs
-
 mul-c : tie.Need-mul-c
 mul-c c =
     let a = c .before .before .before .before .before .before .before .before .before .before .args in
@@ -26,21 +20,6 @@ assemble-requires c κs =
     let e = k .1 .0 in
     (rw e at (k .0), (k .2 .1, (k .1 .4, omega (arith, k .3 .0), omega (arith, k .3 .1))))
 
-enum-known-checked : tie.Need-enum-known-checked
-enum-known-checked c = search needs
-
-leave-ints-requires : tie.Need-leave-ints-requires
-leave-ints-requires c κs = search needs
-
-leave-floats-requires : tie.Need-leave-floats-requires
-leave-floats-requires c κs = search needs
-
-same-length : tie.Need-same-length
-same-length c = search needs
-
-same-length-2 : tie.Need-same-length-2
-same-length-2 c = search needs
-
 returns : tie.Need-returns
 returns c =
     let a = c .before .before .before .before .before .before .before .before .before .before .before .before .before .before .before .before .before .args in
@@ -49,12 +28,6 @@ returns c =
     let m = c .before .before .before .before .assemble in
     call-goes (csr (a .rows) (a .cols) (a .row-ptr .now) (a .col-idx .now) (a .values .now)) (a .block-size) (a .ids .now) (a .groups) (a .diagonal .now) (a .damping) (a .ints .now) (a .floats .now) (c .before .before .before .before .before .before .before .before .before .check .result) (c .before .before .before .before .before .before .before .before .before .check .ensures)
     (m .result) (m .last .1 .1 .1 .1 .1 .1 .1 .1 .1 .0) (m .last .1 .1 .1 .1 .1 .1 .1 .1 .1 .1 .0) (c .before .before .before .before .before .before .before .enum-told .given .1) (rw e (m .ensures))
-
-same-length-3 : tie.Need-same-length-3
-same-length-3 c = search needs
-
-same-length-4 : tie.Need-same-length-4
-same-length-4 c = search needs
 
 returns-2 : tie.Need-returns-2
 returns-2 c =
@@ -66,16 +39,16 @@ pub smoothed-transfer-spec : {M : Type 1} → statement M
 smoothed-transfer-spec =
     tie.close
     (tie.spec
-    check-requires
-    enum-told
+    (λ c κs. search needs)
+    (λ c. search needs)
     mul-c
     assemble-requires
-    enum-known-checked
-    leave-ints-requires
-    leave-floats-requires
-    same-length
-    same-length-2
+    (λ c. search needs)
+    (λ c κs. search needs)
+    (λ c κs. search needs)
+    (λ c. search needs)
+    (λ c. search needs)
     returns
-    same-length-3
-    same-length-4
+    (λ c. search needs)
+    (λ c. search needs)
     returns-2)

@@ -9,20 +9,11 @@ use borrow.Author.Needs.{needs}
 use Rattle.two_level_apply.proofs.apply.Statement.{statement}
 use Rattle.two_level_apply.proofs.apply.Tie as tie
 
-setup-fits-requires : tie.Need-setup-fits-requires
-setup-fits-requires c κs = search needs
-
 mul-if4 : tie.Need-mul-if4
 mul-if4 c = let k = bounds (c .before .before .before .before .before .before .before .before .before .before .args .setup) (c .before .before .before .before .before .before .before .before .before .before .args .ints .now) (c .before .before .before .before .before .before .before .before .before .before .args .floats .now) (sym (c .before .before .setup-fits .ensures) ∙ c .before .if3 .taken) in omega (arith, k .coarse)
 
 correct-requires : tie.Need-correct-requires
 correct-requires c κs = ((sym (c .before .before .before .before .before .setup-fits .ensures) ∙ c .before .before .before .before .if3 .taken), c .before .before .before .before .before .before .before .if1 .taken, c .before .before .before .before .before .before .if2 .taken, c .before .before .if4 .taken)
-
-same-length : tie.Need-same-length
-same-length c = search needs
-
-same-length-2 : tie.Need-same-length-2
-same-length-2 c = search needs
 
 returns : tie.Need-returns
 returns c =
@@ -59,11 +50,11 @@ pub apply-spec : {M : Type 1} → statement M
 apply-spec =
     tie.close
     (tie.spec
-    setup-fits-requires
+    (λ c κs. search needs)
     mul-if4
     correct-requires
-    same-length
-    same-length-2
+    (λ c. search needs)
+    (λ c. search needs)
     returns
     returns-2
     returns-3

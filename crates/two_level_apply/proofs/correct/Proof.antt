@@ -26,29 +26,14 @@ restrict-requires c κs = let p = c .before .before .before .before .before .bef
 solve-coarse-requires : tie.Need-solve-coarse-requires
 solve-coarse-requires c κs = let p = c .before .before .before .before .before .before .before .before .before .before .before .before .before .before .pre in (p .0, omega (arith, p .3, c .before .before .before .restrict .kept .1 .1 .1 .1 .0))
 
-slice-reshare-prefix-prolong : tie.Need-slice-reshare-prefix-prolong
-slice-reshare-prefix-prolong c = search needs
-
 slice-aggregate-prolong : tie.Need-slice-aggregate-prolong
 slice-aggregate-prolong c = sym (front-long (c .before .before .before))
 
 prolong-requires : tie.Need-prolong-requires
 prolong-requires c κs = let p = c .before .before .before .before .before .before .before .before .before .before .before .before .before .before .before .before .before .before .before .pre in (p .0, c .before .before .before .before .before .before .before .before .before .before .before .before .solve-blocks .kept .1 .1 .1 .1 .0 ∙ p .2, front-long (c .before .before .before .before))
 
-slice-relend-prefix-zero-floats : tie.Need-slice-relend-prefix-zero-floats
-slice-relend-prefix-zero-floats c = search needs
-
 slice-aggregate-zero-floats : tie.Need-slice-aggregate-zero-floats
 slice-aggregate-zero-floats c = sym (front-long (c .before .before .before .before .before .before .before .before))
-
-zero-floats-requires : tie.Need-zero-floats-requires
-zero-floats-requires c κs = search needs
-
-same-length : tie.Need-same-length
-same-length c = search needs
-
-same-length-2 : tie.Need-same-length-2
-same-length-2 c = search needs
 
 returns : tie.Need-returns
 returns c =
@@ -70,12 +55,12 @@ correct-spec =
     solve-blocks-requires
     restrict-requires
     solve-coarse-requires
-    slice-reshare-prefix-prolong
+    (λ c. search needs)
     slice-aggregate-prolong
     prolong-requires
-    slice-relend-prefix-zero-floats
+    (λ c. search needs)
     slice-aggregate-zero-floats
-    zero-floats-requires
-    same-length
-    same-length-2
+    (λ c κs. search needs)
+    (λ c. search needs)
+    (λ c. search needs)
     returns)

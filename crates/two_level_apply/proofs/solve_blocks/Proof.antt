@@ -19,12 +19,6 @@ slice-aggregate-block-apply c =
     let a = s .args in
     sym (factors-long (a .s) (a .ints .now) (a .floats .now) (s .pre .0))
 
-block-apply-requires : tie.Need-block-apply-requires
-block-apply-requires c κs = search needs
-
-same-length : tie.Need-same-length
-same-length c = search needs
-
 returns : tie.Need-returns
 returns c =
     let s = c .before .before .before .before .before .before .before .before .before .before in
@@ -34,4 +28,4 @@ returns c =
 
 pub solve-blocks-spec : {M : Type 1} → statement M
 solve-blocks-spec =
-    tie.close (tie.spec mul-n slice-aggregate-block-apply block-apply-requires same-length returns)
+    tie.close (tie.spec mul-n slice-aggregate-block-apply (λ c κs. search needs) (λ c. search needs) returns)

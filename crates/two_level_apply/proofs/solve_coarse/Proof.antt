@@ -36,15 +36,6 @@ part-coarse-solve-start c =
     let a = s .args in
     omega (arith, weights-room (a .s) (a .ints .now) (a .floats .now) (s .pre .0))
 
-part-coarse-solve-end : tie.Need-part-coarse-solve-end
-part-coarse-solve-end c = search needs
-
-coarse-solve-requires : tie.Need-coarse-solve-requires
-coarse-solve-requires c κs = search needs
-
-same-length : tie.Need-same-length
-same-length c = search needs
-
 returns : tie.Need-returns
 returns c =
     let s = c .before .before .before .before .before .before .before .before .before .before in
@@ -61,7 +52,7 @@ solve-coarse-spec =
     mul-coarse-solve
     sub-coarse-solve
     part-coarse-solve-start
-    part-coarse-solve-end
-    coarse-solve-requires
-    same-length
+    (λ c. search needs)
+    (λ c κs. search needs)
+    (λ c. search needs)
     returns)

@@ -5,9 +5,6 @@ use borrow.Author.Needs.{needs}
 use Rattle.two_level_grouping.proofs.aggregate.Statement.{statement}
 use Rattle.two_level_grouping.proofs.aggregate.Tie as tie
 
-sizes-fit-requires : tie.Need-sizes-fit-requires
-sizes-fit-requires c κs = search needs
-
 by-policy-requires : tie.Need-by-policy-requires
 by-policy-requires c κs =
     let a = c .before .before .before .before .before .before .before .before .before .before .before .args in
@@ -15,30 +12,12 @@ by-policy-requires c κs =
     let f = c .before .before .before .before .sizes-fit in
     ready-of m (a .options) (a .ids .now) (a .work-ints .now) (a .work-floats .now) (f .result) (f .ensures) (c .before .before .before .if1 .taken)
 
-same-length : tie.Need-same-length
-same-length c = search needs
-
-same-length-2 : tie.Need-same-length-2
-same-length-2 c = search needs
-
-same-length-3 : tie.Need-same-length-3
-same-length-3 c = search needs
-
 returns : tie.Need-returns
 returns c =
     let a = c .before .before .before .before .before .before .before .before .before .before .before .before .before .before .before .before .before .before .args in
     let m = csr (a .rows) (a .cols) (a .row-ptr .now) (a .col-idx .now) (a .values .now) in
     let f = c .before .before .before .before .before .before .before .before .before .before .before .sizes-fit in
     went m (a .options) (a .ids .now) (a .work-ints .now) (a .work-floats .now) (f .result) (f .ensures) (c .before .before .before .before .before .before .before .before .before .before .if1 .taken) _ _ _ _ (c .before .before .before .before .before .before .by-policy .ensures)
-
-front-requires : tie.Need-front-requires
-front-requires c κs = search needs
-
-enum-known-checked : tie.Need-enum-known-checked
-enum-known-checked c = search needs
-
-enum-told : tie.Need-enum-told
-enum-told c = search needs
 
 returns-2 : tie.Need-returns-2
 returns-2 c =
@@ -58,14 +37,14 @@ pub aggregate-spec : {M : Type 1} → statement M
 aggregate-spec =
     tie.close
     (tie.spec
-    sizes-fit-requires
+    (λ c κs. search needs)
     by-policy-requires
-    same-length
-    same-length-2
-    same-length-3
+    (λ c. search needs)
+    (λ c. search needs)
+    (λ c. search needs)
     returns
-    front-requires
-    enum-known-checked
-    enum-told
+    (λ c κs. search needs)
+    (λ c. search needs)
+    (λ c. search needs)
     returns-2
     returns-3)

@@ -9,18 +9,6 @@ use borrow.Author.Needs.{needs}
 use Rattle.two_level_grouping.proofs.by_number.Statement.{statement}
 use Rattle.two_level_grouping.proofs.by_number.Tie as tie
 
-validate-requires : tie.Need-validate-requires
-validate-requires c κs = search needs
-
-enum-known-valid : tie.Need-enum-known-valid
-enum-known-valid c = search needs
-
-enum-told : tie.Need-enum-told
-enum-told c = search needs
-
-div-contiguous : tie.Need-div-contiguous
-div-contiguous c = search needs
-
 contiguous-requires : tie.Need-contiguous-requires
 contiguous-requires c κs =
     let s = c .before .before .before .before .before .before .before .before .before .before in
@@ -29,26 +17,11 @@ contiguous-requires c κs =
     let f = numbers-front m (a .options) (a .ids .now) (a .work-ints .now) (a .work-floats .now) (s .pre) (c .before .before .before .validate .result) (c .before .before .before .validate .ensures) (c .before .enum-told .given .1) in
     (f .some, (omega (arith, s .pre .ids), (few-nodes m (a .options) f, f .fewest)))
 
-zero-ints-requires : tie.Need-zero-ints-requires
-zero-ints-requires c κs = search needs
-
-zero-floats-requires : tie.Need-zero-floats-requires
-zero-floats-requires c κs = search needs
-
 returns : tie.Need-returns
 returns c =
     let a = c .before .before .before .before .before .before .before .before .before .before .args in
     let m = csr (a .rows) (a .cols) (a .row-ptr .now) (a .col-idx .now) (a .values .now) in
     invalid-settled (a .ids .now) (a .work-ints .now) (a .work-floats .now) m (c .before .before .before .validate .result) (c .before .before .before .validate .ensures) (numbersOf m (a .options)) _ (c .before .valid .given .1)
-
-same-length : tie.Need-same-length
-same-length c = search needs
-
-same-length-2 : tie.Need-same-length-2
-same-length-2 c = search needs
-
-same-length-3 : tie.Need-same-length-3
-same-length-3 c = search needs
 
 returns-2 : tie.Need-returns-2
 returns-2 c =
@@ -65,15 +38,15 @@ pub by-number-spec : {M : Type 1} → statement M
 by-number-spec =
     tie.close
     (tie.spec
-    validate-requires
-    enum-known-valid
-    enum-told
-    div-contiguous
+    (λ c κs. search needs)
+    (λ c. search needs)
+    (λ c. search needs)
+    (λ c. search needs)
     contiguous-requires
-    zero-ints-requires
-    zero-floats-requires
+    (λ c κs. search needs)
+    (λ c κs. search needs)
     returns
-    same-length
-    same-length-2
-    same-length-3
+    (λ c. search needs)
+    (λ c. search needs)
+    (λ c. search needs)
     returns-2)

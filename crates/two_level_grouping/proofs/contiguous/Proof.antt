@@ -22,23 +22,8 @@ loop-holds : tie.Need-loop-holds Inv-loop μ-loop
 unfolding tab
 loop-holds c = (omega arith, refl, refl)
 
-div-ids : tie.Need-div-ids Inv-loop μ-loop
-div-ids c = search needs
-
 cast-ids : tie.Need-cast-ids Inv-loop μ-loop
 cast-ids c = omega (arith, div-le-self (c .before .loop .v) (c .before .before .before .args .size))
-
-mul-ids : tie.Need-mul-ids Inv-loop μ-loop
-mul-ids c = search needs
-
-slice-write-ids : tie.Need-slice-write-ids Inv-loop μ-loop
-slice-write-ids c = omega arith
-
-add-v : tie.Need-add-v Inv-loop μ-loop
-add-v c = search needs
-
-loop-less : tie.Need-loop-less Inv-loop μ-loop
-loop-less c = omega arith
 
 loop-again : tie.Need-loop-again Inv-loop μ-loop
 loop-again c = let a = c .before .before .before .args in
@@ -47,30 +32,6 @@ loop-again c = let a = c .before .before .before .args in
       filled-more (λ (k : Prim.Native.Nat.ℕ). k / a .size) 0 (a .ids .now) (s .v) (s .ids) (s .inv .1) (omega arith),
       simp length-set (s .inv .2),
     )
-
-mul-zero-ints : tie.Need-mul-zero-ints Inv-loop μ-loop
-mul-zero-ints c = search needs
-
-sub-zero-ints : tie.Need-sub-zero-ints Inv-loop μ-loop
-sub-zero-ints c = omega arith
-
-part-zero-ints-start : tie.Need-part-zero-ints-start Inv-loop μ-loop
-part-zero-ints-start c = omega arith
-
-part-zero-ints-end : tie.Need-part-zero-ints-end Inv-loop μ-loop
-part-zero-ints-end c = search needs
-
-zero-ints-requires : tie.Need-zero-ints-requires Inv-loop μ-loop
-zero-ints-requires c κs = search needs
-
-sub-result : tie.Need-sub-result Inv-loop μ-loop
-sub-result c = search needs
-
-add-result : tie.Need-add-result Inv-loop μ-loop
-add-result c = search needs
-
-div-result : tie.Need-div-result Inv-loop μ-loop
-div-result c = search needs
 
 same-length : tie.Need-same-length Inv-loop μ-loop
 same-length c = let s = c .before .before .before .before .before .loop in
@@ -91,20 +52,20 @@ contiguous-spec =
     Inv-loop
     μ-loop
     loop-holds
-    div-ids
+    (λ c. search needs)
     cast-ids
-    mul-ids
-    slice-write-ids
-    add-v
-    loop-less
+    (λ c. search needs)
+    (λ c. omega arith)
+    (λ c. search needs)
+    (λ c. omega arith)
     loop-again
-    mul-zero-ints
-    sub-zero-ints
-    part-zero-ints-start
-    part-zero-ints-end
-    zero-ints-requires
-    sub-result
-    add-result
-    div-result
+    (λ c. search needs)
+    (λ c. omega arith)
+    (λ c. omega arith)
+    (λ c. search needs)
+    (λ c κs. search needs)
+    (λ c. search needs)
+    (λ c. search needs)
+    (λ c. search needs)
     same-length
     returns)

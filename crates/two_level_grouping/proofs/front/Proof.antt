@@ -5,18 +5,6 @@ use borrow.Author.Needs.{needs}
 use Rattle.two_level_grouping.proofs.front.Statement.{statement}
 use Rattle.two_level_grouping.proofs.front.Tie as tie
 
-validate-requires : tie.Need-validate-requires
-validate-requires c κs = search needs
-
-enum-known-valid : tie.Need-enum-known-valid
-enum-known-valid c = search needs
-
-enum-told : tie.Need-enum-told
-enum-told c = search needs
-
-shape-requires : tie.Need-shape-requires
-shape-requires c κs = search needs
-
 returns : tie.Need-returns
 returns c = let a = c .before .before .before .before .before .before .before .args in
     invalid (csr (a .rows) (a .cols) (a .row-ptr .now) (a .col-idx .now) (a .values .now)) (a .options) (c .before .before .before .validate .result) (c .before .before .before .validate .ensures) _ (c .before .valid .given .1)
@@ -28,4 +16,4 @@ returns-2 c = let a = c .before .before .before .before .before .before .before 
 pub front-spec : {M : Type 1} → statement M
 front-spec =
     tie.close
-    (tie.spec validate-requires enum-known-valid enum-told shape-requires returns returns-2)
+    (tie.spec (λ c κs. search needs) (λ c. search needs) (λ c. search needs) (λ c κs. search needs) returns returns-2)

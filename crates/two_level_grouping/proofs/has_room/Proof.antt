@@ -7,23 +7,8 @@ use Rattle.two_level_grouping.proofs.has_room.Tie as tie
 returns : tie.Need-returns
 returns c = search (short-first, short-second, third)
 
-mul-if2 : tie.Need-mul-if2
-mul-if2 c = search needs
-
-mul-if2-2 : tie.Need-mul-if2-2
-mul-if2-2 c = search needs
-
-add-if2 : tie.Need-add-if2
-add-if2 c = search needs
-
-add-if2-2 : tie.Need-add-if2-2
-add-if2-2 c = search needs
-
 returns-2 : tie.Need-returns-2
 returns-2 c = search (short-first, short-second, third)
-
-mul-result : tie.Need-mul-result
-mul-result c = search needs
 
 returns-3 : tie.Need-returns-3
 returns-3 c = search (short-first, short-second, third)
@@ -33,10 +18,10 @@ has-room-spec =
     tie.close
     (tie.spec
     returns
-    mul-if2
-    mul-if2-2
-    add-if2
-    add-if2-2
+    (λ c. search needs)
+    (λ c. search needs)
+    (λ c. search needs)
+    (λ c. search needs)
     returns-2
-    mul-result
+    (λ c. search needs)
     returns-3)

@@ -25,9 +25,6 @@ returns-5 : tie.Need-returns-5
 unfolding shapeOf
 returns-5 c = search sizes depth 8
 
-rem-if6 : tie.Need-rem-if6
-rem-if6 c = search needs
-
 returns-6 : tie.Need-returns-6
 unfolding shapeOf
 returns-6 c = search sizes depth 8
@@ -39,4 +36,4 @@ returns-7 c = search sizes depth 8
 pub shape-spec : {M : Type 1} → statement M
 shape-spec =
     tie.close
-    (tie.spec returns returns-2 returns-3 returns-4 returns-5 rem-if6 returns-6 returns-7)
+    (tie.spec returns returns-2 returns-3 returns-4 returns-5 (λ c. search needs) returns-6 returns-7)

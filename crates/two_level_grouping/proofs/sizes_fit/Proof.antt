@@ -18,15 +18,6 @@ returns-3 : tie.Need-returns-3
 returns-3 c = let a = c .before .before .before .args in
     many-entries (a .rows) (a .cols) (a .entries) (a .block) (a .group) (a .room) (a .work-room) (a .float-room) (omega arith) (omega arith) (omega arith)
 
-shape-requires : tie.Need-shape-requires
-shape-requires c κs = search needs
-
-enum-told : tie.Need-enum-told
-enum-told c = search needs
-
-enum-told-2 : tie.Need-enum-told-2
-enum-told-2 c = search needs
-
 div-has-room : tie.Need-div-has-room
 div-has-room c = let a = c .before .before .before .before .before .before .args in
     omega (arith, shaped-least (a .rows) (a .cols) (a .entries) (a .block) (a .group) (a .room) (a .work-room) (a .float-room) (omega arith) (omega arith) (omega arith) (c .before .before .shape .result) (c .before .before .shape .ensures) (c .enum-told2 .given .1))
@@ -50,9 +41,9 @@ sizes-fit-spec =
     returns
     returns-2
     returns-3
-    shape-requires
-    enum-told
-    enum-told-2
+    (λ c κs. search needs)
+    (λ c. search needs)
+    (λ c. search needs)
     div-has-room
     has-room-requires
     returns-4

@@ -12,36 +12,12 @@ use borrow.Author.Needs.{needs}
 use Rattle.yelomawin.proofs.yelomawin_apply.Statement.{statement}
 use Rattle.yelomawin.proofs.yelomawin_apply.Tie as tie
 
-is-record-requires : tie.Need-is-record-requires
-is-record-requires c κs = search needs
-
 record-of-requires : tie.Need-record-of-requires
 record-of-requires c κs = long _ (sym (c .before .is-record .ensures) ∙ c .if1 .taken)
-
-apply-requires : tie.Need-apply-requires
-apply-requires c κs = search needs
-
-plain-requires : tie.Need-plain-requires
-plain-requires c κs = search needs
-
-receive-requires : tie.Need-receive-requires
-receive-requires c κs = search needs
-
-same-length : tie.Need-same-length
-same-length c = search needs
-
-same-length-2 : tie.Need-same-length-2
-same-length-2 c = search needs
-
-same-length-3 : tie.Need-same-length-3
-same-length-3 c = search needs
 
 returns : tie.Need-returns
 unfolding exportedApply exported whether applyLeft applyWorkLeft
 returns c = let g = c .before .before .before .before .before .before .before .before .apply .ensures in let t = c .before .before .plain .ensures in rw (sym (c .before .before .before .before .before .before .before .before .before .before .before .before .before .is-record .ensures) ∙ c .before .before .before .before .before .before .before .before .before .before .before .before .if1 .taken, ← (c .before .before .before .before .before .before .before .before .before .before .before .record-of .ensures), ← (g .0)) (handed-is (t .0) (pair-is (g .1) (g .2)) (t .1))
-
-same-length-4 : tie.Need-same-length-4
-same-length-4 c = search needs
 
 returns-2 : tie.Need-returns-2
 unfolding exportedApply exported whether answerOf answerNumber answerValues numberOf valuesOf causeOf resultLeft workLeft keepsAll
@@ -51,14 +27,14 @@ pub yelomawin-apply-spec : {M : Type 1} → statement M
 yelomawin-apply-spec =
     tie.close
     (tie.spec
-    is-record-requires
+    (λ c κs. search needs)
     record-of-requires
-    apply-requires
-    plain-requires
-    receive-requires
-    same-length
-    same-length-2
-    same-length-3
+    (λ c κs. search needs)
+    (λ c κs. search needs)
+    (λ c κs. search needs)
+    (λ c. search needs)
+    (λ c. search needs)
+    (λ c. search needs)
     returns
-    same-length-4
+    (λ c. search needs)
     returns-2)

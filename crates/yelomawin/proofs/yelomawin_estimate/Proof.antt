@@ -5,22 +5,10 @@ use borrow.Author.Needs.{needs}
 use Rattle.yelomawin.proofs.yelomawin_estimate.Statement.{statement}
 use Rattle.yelomawin.proofs.yelomawin_estimate.Tie as tie
 
-estimate-requires : tie.Need-estimate-requires
-estimate-requires c κs = search needs
-
-estimate-requires-2 : tie.Need-estimate-requires-2
-estimate-requires-2 c κs = search needs
-
-same-length : tie.Need-same-length
-same-length c = search needs
-
-same-length-2 : tie.Need-same-length-2
-same-length-2 c = search needs
-
 returns : tie.Need-returns
 unfolding exportedEstimate
 returns c = let g = c .before .before .before .before .before .before .estimate .ensures in let t = c .before .before .estimate2 .ensures in rw (← (g .0)) (handed-is (t .0) (g .1) (t .1))
 
 pub yelomawin-estimate-spec : {M : Type 1} → statement M
 yelomawin-estimate-spec =
-    tie.close (tie.spec estimate-requires estimate-requires-2 same-length same-length-2 returns)
+    tie.close (tie.spec (λ c κs. search needs) (λ c κs. search needs) (λ c. search needs) (λ c. search needs) returns)

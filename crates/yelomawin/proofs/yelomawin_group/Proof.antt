@@ -5,21 +5,6 @@ use borrow.Author.Needs.{needs}
 use Rattle.yelomawin.proofs.yelomawin_group.Statement.{statement}
 use Rattle.yelomawin.proofs.yelomawin_group.Tie as tie
 
-group-requires : tie.Need-group-requires
-group-requires c κs = search needs
-
-grouping-requires : tie.Need-grouping-requires
-grouping-requires c κs = search needs
-
-same-length : tie.Need-same-length
-same-length c = search needs
-
-same-length-2 : tie.Need-same-length-2
-same-length-2 c = search needs
-
-same-length-3 : tie.Need-same-length-3
-same-length-3 c = search needs
-
 returns : tie.Need-returns
 unfolding exportedGroup
 returns c = let g = c .before .before .before .before .before .before .before .before .group .ensures in let t = c .before .before .grouping .ensures in rw (← (g .0)) (handed-is (t .0) (pair-is (g .1 .0) (g .1 .1)) (t .1))
@@ -27,4 +12,4 @@ returns c = let g = c .before .before .before .before .before .before .before .b
 pub yelomawin-group-spec : {M : Type 1} → statement M
 yelomawin-group-spec =
     tie.close
-    (tie.spec group-requires grouping-requires same-length same-length-2 same-length-3 returns)
+    (tie.spec (λ c κs. search needs) (λ c κs. search needs) (λ c. search needs) (λ c. search needs) (λ c. search needs) returns)

@@ -9,18 +9,6 @@ use borrow.Author.Needs.{needs}
 use Rattle.adjacency.proofs.build.build.Statement.{statement}
 use Rattle.adjacency.proofs.build.build.Tie as tie
 
-cast-size : tie.Need-cast-size
-cast-size c = search needs
-
-mul-floats : tie.Need-mul-floats
-mul-floats c = search needs
-
-table-requires : tie.Need-table-requires
-table-requires c κs = search needs
-
-slice-relend-prefix-fill : tie.Need-slice-relend-prefix-fill
-slice-relend-prefix-fill c = search needs
-
 slice-aggregate-fill : tie.Need-slice-aggregate-fill
 slice-aggregate-fill c =
     let b = c .before .before .before .before .before .before .before .before in
@@ -32,15 +20,6 @@ fill-requires c κs =
     let f = length-take-le (3 * b .args .nodes) (b .args .work-floats .now) (omega (arith, b .pre .1 .0 .1 .1)) in
     (b .pre .0, (b .pre .1 .0 .0, (b .pre .1 .0 .1 .0, omega (arith, f))))
 
-zero-floats-requires : tie.Need-zero-floats-requires
-zero-floats-requires c κs = search needs
-
-same-length : tie.Need-same-length
-same-length c = search needs
-
-same-length-2 : tie.Need-same-length-2
-same-length-2 c = search needs
-
 returns : tie.Need-returns
 returns c =
     let b = c .before .before .before .before .before .before .before .before .before .before .before .before .before .before .before .before .before .before in
@@ -51,13 +30,13 @@ pub build-spec : {M : Type 1} → statement M
 build-spec =
     tie.close
     (tie.spec
-    cast-size
-    mul-floats
-    table-requires
-    slice-relend-prefix-fill
+    (λ c. search needs)
+    (λ c. search needs)
+    (λ c κs. search needs)
+    (λ c. search needs)
     slice-aggregate-fill
     fill-requires
-    zero-floats-requires
-    same-length
-    same-length-2
+    (λ c κs. search needs)
+    (λ c. search needs)
+    (λ c. search needs)
     returns)

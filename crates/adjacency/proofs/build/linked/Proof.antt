@@ -15,9 +15,6 @@ use borrow.Author.Needs.{needs}
 use Rattle.adjacency.proofs.build.linked.Statement.{statement}
 use Rattle.adjacency.proofs.build.linked.Tie as tie
 
-ready-requires : tie.Need-ready-requires
-ready-requires c κs = search needs
-
 all-lists-requires : tie.Need-all-lists-requires
 all-lists-requires c κs =
     let b = c .before .before .before .before .before .before .before .before .before .before .before .before .before .before in
@@ -42,12 +39,6 @@ sub-zero-ints c = omega (arith, within (c .before .before .before .before))
 part-zero-ints-start : tie.Need-part-zero-ints-start
 part-zero-ints-start c = omega (arith, within (c .before .before .before .before))
 
-part-zero-ints-end : tie.Need-part-zero-ints-end
-part-zero-ints-end c = search needs
-
-zero-ints-requires : tie.Need-zero-ints-requires
-zero-ints-requires c κs = search needs
-
 still : (c : tie.After-zero-ints) → c .before .before .before .before .before .before .before .before .before .before .before .before .before .before .before .before .before .before .before .before .before .args .base ≤ length (putMid (c .before .before .before .before .before .before .before .before .before .before .before .before .before .before .before .before .before .before .before .before .before .args .base + c .before .before .before .before .before .before .all-lists .result) (length (c .before .before .before .before .before .before .all-lists .last .1 .1 .1 .1 .1 .1 .1 .0) - (c .before .before .before .before .before .before .before .before .before .before .before .before .before .before .before .before .before .before .before .before .before .args .base + c .before .before .before .before .before .before .all-lists .result)) (c .before .before .before .before .before .before .all-lists .last .1 .1 .1 .1 .1 .1 .1 .0) (c .zero-ints .last .0))
 still c =
     let d = c .before .before .before .before .before .before .before .before .before .before .before .before .before .before .before .before .before .before .before .before .before .args .base in
@@ -62,15 +53,6 @@ slice-relend-prefix-zero-ints c = still (c .before .before)
 slice-aggregate-zero-ints : tie.Need-slice-aggregate-zero-ints
 slice-aggregate-zero-ints c = sym (length-take-le _ _ (still (c .before .before .before)))
 
-zero-ints-requires-2 : tie.Need-zero-ints-requires-2
-zero-ints-requires-2 c κs = search needs
-
-same-length : tie.Need-same-length
-same-length c = search needs
-
-same-length-2 : tie.Need-same-length-2
-same-length-2 c = search needs
-
 returns : tie.Need-returns
 returns c =
     let b = c .before .before .before .before .before .before .before .before .before .before .before .before .before .before .before .before .before .before .before .before .before .before .before .before .before .before .before in
@@ -83,17 +65,17 @@ pub linked-spec : {M : Type 1} → statement M
 linked-spec =
     tie.close
     (tie.spec
-    ready-requires
+    (λ c κs. search needs)
     all-lists-requires
     add-zero-ints
     mul-zero-ints
     sub-zero-ints
     part-zero-ints-start
-    part-zero-ints-end
-    zero-ints-requires
+    (λ c. search needs)
+    (λ c κs. search needs)
     slice-relend-prefix-zero-ints
     slice-aggregate-zero-ints
-    zero-ints-requires-2
-    same-length
-    same-length-2
+    (λ c κs. search needs)
+    (λ c. search needs)
+    (λ c. search needs)
     returns)

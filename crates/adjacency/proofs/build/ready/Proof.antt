@@ -12,30 +12,15 @@ use borrow.Author.Needs.{needs}
 use Rattle.adjacency.proofs.build.ready.Statement.{statement}
 use Rattle.adjacency.proofs.build.ready.Tie as tie
 
-slice-relend-prefix-zero-ints : tie.Need-slice-relend-prefix-zero-ints
-slice-relend-prefix-zero-ints c = search needs
-
 slice-aggregate-zero-ints : tie.Need-slice-aggregate-zero-ints
 slice-aggregate-zero-ints c =
     let b = c .before .before .before .before .before .before in
     sym (length-take-le (b .args .nodes) (b .args .work .now) (omega arith))
 
-zero-ints-requires : tie.Need-zero-ints-requires
-zero-ints-requires c κs = search needs
-
-zero-floats-requires : tie.Need-zero-floats-requires
-zero-floats-requires c κs = search needs
-
 norms-requires : tie.Need-norms-requires
 norms-requires c κs =
     let b = c .before .before .before .before .before .before .before .before .before .before .before .before .before .before .before in
     (b .pre .0, (omega (arith, b .pre .1 .1, c .before .before .before .before .zero-floats .kept .0), plain-blank (length (b .args .floats .now)) (c .before .before .before .before .zero-floats .last .0) (c .before .before .before .before .zero-floats .ensures)))
-
-same-length : tie.Need-same-length
-same-length c = search needs
-
-same-length-2 : tie.Need-same-length-2
-same-length-2 c = search needs
 
 returns : tie.Need-returns
 returns c =
@@ -47,12 +32,6 @@ returns c =
     ready-norms (b .args .strong) (csr (n * b .args .size) (n * b .args .size) (b .args .row-ptr .now) (b .args .col-idx .now) (b .args .values .now)) (b .args .size) n (length (take n w))
     (x ++ drop n w) (c .before .before .norms .last .1 .1 .1 .1 .1 .0) (take-front n w (x ++ drop n w) x (z .kept .0) (omega (arith, b .pre .1 .0)) refl ∙ z .ensures) (omega (arith, length-front w x n (z .kept .0), b .pre .1 .0))
     (omega (arith, b .pre .1 .1, c .before .before .before .before .before .before .before .zero-floats .kept .0, c .before .before .norms .kept .1 .1 .1 .1 .1 .0)) (c .before .before .norms .ensures) (c .before .before .before .before .if1 .taken)
-
-same-length-3 : tie.Need-same-length-3
-same-length-3 c = search needs
-
-same-length-4 : tie.Need-same-length-4
-same-length-4 c = search needs
 
 returns-2 : tie.Need-returns-2
 returns-2 c =
@@ -68,14 +47,14 @@ pub ready-spec : {M : Type 1} → statement M
 ready-spec =
     tie.close
     (tie.spec
-    slice-relend-prefix-zero-ints
+    (λ c. search needs)
     slice-aggregate-zero-ints
-    zero-ints-requires
-    zero-floats-requires
+    (λ c κs. search needs)
+    (λ c κs. search needs)
     norms-requires
-    same-length
-    same-length-2
+    (λ c. search needs)
+    (λ c. search needs)
     returns
-    same-length-3
-    same-length-4
+    (λ c. search needs)
+    (λ c. search needs)
     returns-2)

@@ -22,16 +22,10 @@ returns-3 c =
     let b = c .before .before .before .args in
     fits-large (b .rows) (b .cols) (b .entries) (b .block-size) (b .base) (b .ints) (b .floats) (c .before .before .if1 .left) (c .before .if2 .left) (c .if3 .taken)
 
-rem-if4 : tie.Need-rem-if4
-rem-if4 c = search needs
-
 returns-4 : tie.Need-returns-4
 returns-4 c =
     let b = c .before .before .before .before .args in
     fits-multiple (b .rows) (b .cols) (b .entries) (b .block-size) (b .base) (b .ints) (b .floats) (c .before .before .before .if1 .left) (c .before .before .if2 .left) (c .before .if3 .left) (c .if4 .taken)
-
-div-long-enough : tie.Need-div-long-enough
-div-long-enough c = search needs
 
 long-enough-requires : tie.Need-long-enough-requires
 long-enough-requires c κs = (omega (arith, div-le-self (c .before .before .before .before .args .rows) (c .before .before .before .before .args .block-size)), c .before .before .before .before .pre .1)
@@ -53,9 +47,9 @@ fits-spec =
     returns
     returns-2
     returns-3
-    rem-if4
+    (λ c. search needs)
     returns-4
-    div-long-enough
+    (λ c. search needs)
     long-enough-requires
     returns-5
     returns-6)

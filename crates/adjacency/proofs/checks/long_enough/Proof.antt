@@ -5,18 +5,6 @@ use borrow.Author.Needs.{needs}
 use Rattle.adjacency.proofs.checks.long_enough.Statement.{statement}
 use Rattle.adjacency.proofs.checks.long_enough.Tie as tie
 
-mul-if1 : tie.Need-mul-if1
-mul-if1 c = search needs
-
-add-if3 : tie.Need-add-if3
-add-if3 c = search needs
-
-add-if3-2 : tie.Need-add-if3-2
-add-if3-2 c = search needs
-
-mul-result : tie.Need-mul-result
-mul-result c = search needs
-
 returns : tie.Need-returns
 returns c =
     let b = c .before .before .before .args in
@@ -39,4 +27,4 @@ returns-4 c =
 
 pub long-enough-spec : {M : Type 1} → statement M
 long-enough-spec =
-    tie.close (tie.spec mul-if1 add-if3 add-if3-2 mul-result returns returns-2 returns-3 returns-4)
+    tie.close (tie.spec (λ c. search needs) (λ c. search needs) (λ c. search needs) (λ c. search needs) returns returns-2 returns-3 returns-4)

@@ -26,9 +26,6 @@ loop-holds c =
     let b = c .before .before .before .before .before .before .before .before .before in
     graphed-first (b .pre .0) (b .args .base) (b .pre .1 .1 .0) (b .args .work .now) (c .before .before .put .last .0) (b .args .floats .now) (c .before .before .put .ensures) (omega (arith, b .pre .1 .1 .1)) (b .pre .1 .0)
 
-wide-requires : tie.Need-wide-requires Inv-loop μ-loop
-wide-requires c κs = search needs
-
 less : (c : tie.Then1 Inv-loop μ-loop) → c .before .before .loop .v < c .before .before .before .before .before .before .before .before .before .before .before .before .args .nodes
 less c = omega (arith, c .before .wide .ensures, c .if1 .taken)
 
@@ -59,9 +56,6 @@ add-at c = omega (arith, high (c .before .before .before .before), c .before .be
 
 add-v : tie.Need-add-v Inv-loop μ-loop
 add-v c = omega (arith, less (c .before .before .before .before .before .before .before), c .before .before .before .before .before .before .before .before .before .before .before .before .before .before .before .before .before .before .before .pre .0 .few)
-
-wide-requires-2 : tie.Need-wide-requires-2 Inv-loop μ-loop
-wide-requires-2 c κs = search needs
 
 add-put : tie.Need-add-put Inv-loop μ-loop
 add-put c = omega (arith, c .before .before .before .before .before .before .before .before .before .before .before .before .before .before .before .before .before .before .before .before .before .good, c .wide2 .ensures, less (c .before .before .before .before .before .before .before .before .before), room (c .before .before .before .before .before .before .before .before .before))
@@ -105,11 +99,11 @@ all-lists-spec =
     add-first
     put-requires
     loop-holds
-    wide-requires
+    (λ c κs. search needs)
     node-list-requires
     add-at
     add-v
-    wide-requires-2
+    (λ c κs. search needs)
     add-put
     sub-put
     put-requires-2

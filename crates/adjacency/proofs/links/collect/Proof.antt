@@ -22,12 +22,6 @@ loop-holds c =
     let b = c .before .before in
     (refl, (omega arith, record { upto = omega arith; room = omega (arith, length-drop (b .args .base) (b .args .work .now)); marks = refl; outs = refl; list = refl; count = refl; stamps = refl }))
 
-node-of-requires : tie.Need-node-of-requires Inv-loop μ-loop
-node-of-requires c κs = search needs
-
-wide-requires : tie.Need-wide-requires Inv-loop μ-loop
-wide-requires c κs = search needs
-
 inside : (c : tie.After-wide Inv-loop μ-loop) → c .before .node-of .result < c .before .before .before .before .before .before .args .nodes
 inside c =
     let b = c .before .before .before .before .before .before in
@@ -48,23 +42,8 @@ mul-work c = omega (arith, below (c .before .before))
 slice-write-work : tie.Need-slice-write-work Inv-loop μ-loop
 slice-write-work c = below (c .before .before)
 
-add-work : tie.Need-add-work Inv-loop μ-loop
-add-work c = search needs
-
-mul-work-2 : tie.Need-mul-work-2 Inv-loop μ-loop
-mul-work-2 c = search needs
-
 slice-write-work-2 : tie.Need-slice-write-work-2 Inv-loop μ-loop
 slice-write-work-2 c = rw length-set (omega (arith, c .before .before .before .before .before .loop .inv .1 .0))
-
-add-end : tie.Need-add-end Inv-loop μ-loop
-add-end c = search needs
-
-add-k : tie.Need-add-k Inv-loop μ-loop
-add-k c = search needs
-
-loop-less : tie.Need-loop-less Inv-loop μ-loop
-loop-less c = omega arith
 
 loop-again : tie.Need-loop-again Inv-loop μ-loop
 loop-again c =
@@ -91,9 +70,6 @@ loop-again c =
     (λ w. (rw (w .1) (l .inv .0), (rw (w .1, w .2) (omega (arith, l .inv .1 .0)), rw (w .1, w .2) (collect-skip (l .inv .1 .1) h e (rw q at (g ∙ (rw z at (w .0 .left))))))))
     (c .if1 .came)
 
-same-length : tie.Need-same-length Inv-loop μ-loop
-same-length c = search needs
-
 returns : tie.Need-returns Inv-loop μ-loop
 returns c = collected (c .before .loop .inv .1 .1) (omega arith)
 
@@ -104,18 +80,18 @@ collect-spec =
     Inv-loop
     μ-loop
     loop-holds
-    node-of-requires
-    wide-requires
+    (λ c κs. search needs)
+    (λ c κs. search needs)
     mul-if1
     slice-read-if1
     mul-work
     slice-write-work
-    add-work
-    mul-work-2
+    (λ c. search needs)
+    (λ c. search needs)
     slice-write-work-2
-    add-end
-    add-k
-    loop-less
+    (λ c. search needs)
+    (λ c. search needs)
+    (λ c. omega arith)
     loop-again
-    same-length
+    (λ c. search needs)
     returns)

@@ -11,42 +11,6 @@ use borrow.Author.Needs.{needs}
 use Rattle.adjacency.proofs.node.arrange.Statement.{statement}
 use Rattle.adjacency.proofs.node.arrange.Tie as tie
 
-mul-strong : tie.Need-mul-strong
-mul-strong c = search needs
-
-add-from : tie.Need-add-from
-add-from c = search needs
-
-sub-from : tie.Need-sub-from
-sub-from c = search needs
-
-add-to : tie.Need-add-to
-add-to c = search needs
-
-mul-sort : tie.Need-mul-sort
-mul-sort c = search needs
-
-sub-sort : tie.Need-sub-sort
-sub-sort c = search needs
-
-part-sort-start : tie.Need-part-sort-start
-part-sort-start c = search needs
-
-part-sort-end : tie.Need-part-sort-end
-part-sort-end c = search needs
-
-mul-sort-2 : tie.Need-mul-sort-2
-mul-sort-2 c = search needs
-
-sub-sort-2 : tie.Need-sub-sort-2
-sub-sort-2 c = search needs
-
-part-sort-start-2 : tie.Need-part-sort-start-2
-part-sort-start-2 c = search needs
-
-part-sort-end-2 : tie.Need-part-sort-end-2
-part-sort-end-2 c = search needs
-
 sort-requires : tie.Need-sort-requires
 sort-requires c κs =
     let b = c .before .before .before .before in
@@ -58,9 +22,6 @@ sort-requires c κs =
     let d = lent-data n (b .args .base) (b .args .at) (b .args .end) w (omega arith) (omega arith) (omega arith) in
     let p = length-part n (b .args .base + b .args .end) w (omega arith) in
     (rw e (weak-before (drop (2 * n) f) s), (rw (d, e) (λ k h. omega (arith, length-drop (2 * n) f, b .pre .1 .1 k h)), omega (arith, p)))
-
-same-length : tie.Need-same-length
-same-length c = search needs
 
 returns : tie.Need-returns
 returns c =
@@ -78,18 +39,18 @@ pub arrange-spec : {M : Type 1} → statement M
 arrange-spec =
     tie.close
     (tie.spec
-    mul-strong
-    add-from
-    sub-from
-    add-to
-    mul-sort
-    sub-sort
-    part-sort-start
-    part-sort-end
-    mul-sort-2
-    sub-sort-2
-    part-sort-start-2
-    part-sort-end-2
+    (λ c. search needs)
+    (λ c. search needs)
+    (λ c. search needs)
+    (λ c. search needs)
+    (λ c. search needs)
+    (λ c. search needs)
+    (λ c. search needs)
+    (λ c. search needs)
+    (λ c. search needs)
+    (λ c. search needs)
+    (λ c. search needs)
+    (λ c. search needs)
     sort-requires
-    same-length
+    (λ c. search needs)
     returns)

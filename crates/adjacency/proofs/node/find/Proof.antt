@@ -8,18 +8,6 @@ use borrow.Author.Needs.{needs}
 use Rattle.adjacency.proofs.node.find.Statement.{statement}
 use Rattle.adjacency.proofs.node.find.Tie as tie
 
-wide-requires : tie.Need-wide-requires
-wide-requires c κs = search needs
-
-add-stamp : tie.Need-add-stamp
-add-stamp c = search needs
-
-mul-work : tie.Need-mul-work
-mul-work c = search needs
-
-slice-write-work : tie.Need-slice-write-work
-slice-write-work c = search needs
-
 collect-requires : tie.Need-collect-requires
 collect-requires c κs =
     let b = c .before .before .before .before in
@@ -46,10 +34,10 @@ pub find-spec : {M : Type 1} → statement M
 find-spec =
     tie.close
     (tie.spec
-    wide-requires
-    add-stamp
-    mul-work
-    slice-write-work
+    (λ c κs. search needs)
+    (λ c. search needs)
+    (λ c. search needs)
+    (λ c. search needs)
     collect-requires
     same-length
     returns)

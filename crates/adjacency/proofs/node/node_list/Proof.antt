@@ -17,9 +17,6 @@ start-requires c κs =
     let b = c .before .before .before .before .before in
     omega (arith, row-fits (b .args .v) (b .args .nodes) (b .args .size) (b .pre .1 .1 .0), b .pre .0 .long, b .pre .0 .some)
 
-add-start : tie.Need-add-start
-add-start c = search needs
-
 start-requires-2 : tie.Need-start-requires-2
 start-requires-2 c κs =
     let b = c .before .before .before .before .before .before in
@@ -129,7 +126,7 @@ node-list-spec =
     tie.close
     (tie.spec
     start-requires
-    add-start
+    (λ c. search needs)
     start-requires-2
     find-requires
     add-strengths

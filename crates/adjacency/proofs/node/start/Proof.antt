@@ -7,12 +7,6 @@ use borrow.Author.Needs.{needs}
 use Rattle.adjacency.proofs.node.start.Statement.{statement}
 use Rattle.adjacency.proofs.node.start.Tie as tie
 
-wide-requires : tie.Need-wide-requires
-wide-requires c κs = search needs
-
-wide-requires-2 : tie.Need-wide-requires-2
-wide-requires-2 c κs = search needs
-
 same : (a b x y : ℕ) → a ≡ x → b ≡ y → a * b ≡ x * y
 same a b x y p q = rw (p, q)
 
@@ -25,9 +19,6 @@ mul-wide c = omega (arith, same (c .before .wide .result) (c .wide2 .result) (c 
 shared-slice-read-wide : tie.Need-shared-slice-read-wide
 shared-slice-read-wide c = omega (arith, same (c .before .before .wide .result) (c .before .wide2 .result) (c .before .before .before .before .args .v) (c .before .before .before .before .args .size) (c .before .before .wide .ensures) (c .before .wide2 .ensures))
 
-wide-requires-3 : tie.Need-wide-requires-3
-wide-requires-3 c κs = search needs
-
 returns : tie.Need-returns
 returns c = c .wide3 .ensures ∙ ap (λ k. getD (c .before .before .before .before .before .args .row-ptr .now) k 0) (same (c .before .before .before .wide .result) (c .before .before .wide2 .result) (c .before .before .before .before .before .args .v) (c .before .before .before .before .before .args .size) (c .before .before .before .wide .ensures) (c .before .before .wide2 .ensures))
 
@@ -35,10 +26,10 @@ pub start-spec : {M : Type 1} → statement M
 start-spec =
     tie.close
     (tie.spec
-    wide-requires
-    wide-requires-2
+    (λ c κs. search needs)
+    (λ c κs. search needs)
     mul-i
     mul-wide
     shared-slice-read-wide
-    wide-requires-3
+    (λ c κs. search needs)
     returns)

@@ -31,13 +31,10 @@ own-requires c κs =
     let s = spans c in
     (span-rises w s, (span-within w s, (omega (arith, span-within w s, w .both), w .some)))
 
-root-by-requires : tie.Need-root-by-requires
-root-by-requires c κs = search needs
-
 returns : tie.Need-returns
 returns c = c .root-by .ensures ∙ ap rootᶠ (c .before .own .ensures) ∙ norm-is (c .before .before .before .before .before .before .before .pre .0) (spans (c .before .before)) (c .before .before .before .before .before .before .before .args .v)
 
 pub norm-spec : {M : Type 1} → statement M
 norm-spec =
     tie.close
-    (tie.spec start-requires add-start start-requires-2 own-requires root-by-requires returns)
+    (tie.spec start-requires add-start start-requires-2 own-requires (λ c κs. search needs) returns)

@@ -18,14 +18,8 @@ abbrev μ-loop : tie.MeasureT-loop
 loop-holds : tie.Need-loop-holds Inv-loop μ-loop
 loop-holds c = norming-first (c .before .before .before .before .pre .0) (c .before .before .before .before .args .floats .now) (c .before .before .before .before .pre .1 .1)
 
-wide-requires : tie.Need-wide-requires Inv-loop μ-loop
-wide-requires c κs = search needs
-
 norm-requires : tie.Need-norm-requires Inv-loop μ-loop
 norm-requires c κs = (c .before .before .before .before .before .before .before .pre .0, omega (arith, c .before .wide .ensures, c .if1 .taken))
-
-wide-requires-2 : tie.Need-wide-requires-2 Inv-loop μ-loop
-wide-requires-2 c κs = search needs
 
 less : (c : tie.Then1 Inv-loop μ-loop) → c .before .before .loop .v < c .before .before .before .before .before .before .before .args .nodes
 less c = omega (arith, c .before .wide .ensures, c .if1 .taken)
@@ -67,9 +61,9 @@ norms-spec =
     Inv-loop
     μ-loop
     loop-holds
-    wide-requires
+    (λ c κs. search needs)
     norm-requires
-    wide-requires-2
+    (λ c κs. search needs)
     add-at
     mul-floats
     slice-write-floats

@@ -14,20 +14,8 @@ Inv-loop list v nodes floats₀ table own k₀ floats k = Measuring list v nodes
 abbrev μ-loop : tie.MeasureT-loop
 μ-loop list v nodes floats₀ table own k₀ floats k = length list - k
 
-add-own : tie.Need-add-own Inv-loop μ-loop
-add-own c = search needs
-
 loop-holds : tie.Need-loop-holds Inv-loop μ-loop
 loop-holds c = (record { upto = omega arith; same = refl; goes = refl }, refl)
-
-mul-wide : tie.Need-mul-wide Inv-loop μ-loop
-mul-wide c = search needs
-
-shared-slice-read-wide : tie.Need-shared-slice-read-wide Inv-loop μ-loop
-shared-slice-read-wide c = search needs
-
-wide-requires : tie.Need-wide-requires Inv-loop μ-loop
-wide-requires c κs = search needs
 
 below : (c : tie.After-wide Inv-loop μ-loop) → c .wide .result < c .before .before .before .before .before .before .args .nodes
 below c =
@@ -58,9 +46,6 @@ mul-q c = omega (arith, below (c .before .before), long (c .before .before))
 slice-read-q : tie.Need-slice-read-q Inv-loop μ-loop
 slice-read-q c = omega (arith, below (c .before .before .before), long (c .before .before .before))
 
-strength-requires : tie.Need-strength-requires Inv-loop μ-loop
-strength-requires c κs = search needs
-
 add-at : tie.Need-add-at Inv-loop μ-loop
 add-at c = omega (arith, below (c .before .before .before .before), long (c .before .before .before .before))
 
@@ -69,12 +54,6 @@ mul-floats c = omega (arith, below (c .before .before .before .before), long (c 
 
 slice-write-floats : tie.Need-slice-write-floats Inv-loop μ-loop
 slice-write-floats c = omega (arith, below (c .before .before .before .before), long (c .before .before .before .before))
-
-add-k : tie.Need-add-k Inv-loop μ-loop
-add-k c = search needs
-
-loop-less : tie.Need-loop-less Inv-loop μ-loop
-loop-less c = omega arith
 
 loop-again : tie.Need-loop-again Inv-loop μ-loop
 loop-again c =
@@ -95,11 +74,11 @@ measure-spec =
     (tie.spec
     Inv-loop
     μ-loop
-    add-own
+    (λ c. search needs)
     loop-holds
-    mul-wide
-    shared-slice-read-wide
-    wide-requires
+    (λ c. search needs)
+    (λ c. search needs)
+    (λ c κs. search needs)
     add-other
     mul-sum
     slice-read-sum
@@ -107,12 +86,12 @@ measure-spec =
     slice-read-p
     mul-q
     slice-read-q
-    strength-requires
+    (λ c κs. search needs)
     add-at
     mul-floats
     slice-write-floats
-    add-k
-    loop-less
+    (λ c. search needs)
+    (λ c. omega arith)
     loop-again
     same-length
     returns)

@@ -5,15 +5,6 @@ use borrow.Author.Needs.{needs}
 use Rattle.adjacency.proofs.strengths.strength.Statement.{statement}
 use Rattle.adjacency.proofs.strengths.strength.Tie as tie
 
-root-by-requires : tie.Need-root-by-requires
-root-by-requires c κs = search needs
-
-root-by-requires-2 : tie.Need-root-by-requires-2
-root-by-requires-2 c κs = search needs
-
-finite-requires : tie.Need-finite-requires
-finite-requires c κs = search needs
-
 returns : tie.Need-returns
 returns c =
     let b = c .before .before .before .before .before .args in
@@ -31,4 +22,4 @@ returns-3 c =
 
 pub strength-spec : {M : Type 1} → statement M
 strength-spec =
-    tie.close (tie.spec root-by-requires root-by-requires-2 finite-requires returns returns-2 returns-3)
+    tie.close (tie.spec (λ c κs. search needs) (λ c κs. search needs) (λ c κs. search needs) returns returns-2 returns-3)

@@ -18,9 +18,6 @@ weigh-requires c κs =
     let b = c .before .before .before .before .before .before .before .before .before .before in
     (b .pre .0, (λ k h. omega (arith, b .pre .1 .1 .0 k h, c .before .before .before .clear .kept .1 .0)))
 
-wide-requires : tie.Need-wide-requires
-wide-requires c κs = search needs
-
 measure-requires : tie.Need-measure-requires
 measure-requires c κs =
     let b = c .before .before .before .before .before .before .before .before .before .before .before .before .before .before .before in
@@ -50,7 +47,7 @@ strengths-spec =
     (tie.spec
     clear-requires
     weigh-requires
-    wide-requires
+    (λ c κs. search needs)
     measure-requires
     same-length
     returns

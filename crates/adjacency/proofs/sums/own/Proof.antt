@@ -20,21 +20,6 @@ loop-holds c =
     let b = c .before .before in
     own-first (b .args .col-idx .now) (b .args .values .now) (b .args .from) (b .args .to) (b .args .size) (b .args .v) (omega arith)
 
-node-of-requires : tie.Need-node-of-requires Inv-loop μ-loop
-node-of-requires c κs = search needs
-
-mul-x : tie.Need-mul-x Inv-loop μ-loop
-mul-x c = search needs
-
-shared-slice-read-x : tie.Need-shared-slice-read-x Inv-loop μ-loop
-shared-slice-read-x c = search needs
-
-add-k : tie.Need-add-k Inv-loop μ-loop
-add-k c = search needs
-
-loop-less : tie.Need-loop-less Inv-loop μ-loop
-loop-less c = omega arith
-
 loop-again : tie.Need-loop-again Inv-loop μ-loop
 loop-again c =
     let b = c .before .before .before .before .before .before in
@@ -58,10 +43,10 @@ own-spec =
     Inv-loop
     μ-loop
     loop-holds
-    node-of-requires
-    mul-x
-    shared-slice-read-x
-    add-k
-    loop-less
+    (λ c κs. search needs)
+    (λ c. search needs)
+    (λ c. search needs)
+    (λ c. search needs)
+    (λ c. omega arith)
     loop-again
     returns)

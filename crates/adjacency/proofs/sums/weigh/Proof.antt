@@ -17,22 +17,10 @@ abbrev μ-loop : tie.MeasureT-loop
 loop-holds : tie.Need-loop-holds Inv-loop μ-loop
 loop-holds c = record { upto = omega arith; same = refl; goes = refl }
 
-node-of-requires : tie.Need-node-of-requires Inv-loop μ-loop
-node-of-requires c κs = search needs
-
-wide-requires : tie.Need-wide-requires Inv-loop μ-loop
-wide-requires c κs = search needs
-
 below : (c : tie.After-wide Inv-loop μ-loop) → c .wide .result < length (c .before .before .before .loop .sums)
 below c =
     let b = c .before .before .before .before .before .before .before in
     omega (arith, c .wide .ensures, c .before .node-of .ensures, c .before .before .before .loop .inv .same, b .pre .1 (c .before .before .before .loop .k) (omega arith))
-
-mul-x : tie.Need-mul-x Inv-loop μ-loop
-mul-x c = search needs
-
-shared-slice-read-x : tie.Need-shared-slice-read-x Inv-loop μ-loop
-shared-slice-read-x c = search needs
 
 mul-old : tie.Need-mul-old Inv-loop μ-loop
 mul-old c = omega (arith, below (c .before))
@@ -46,18 +34,9 @@ mul-sums c = omega (arith, below (c .before .before))
 slice-write-sums : tie.Need-slice-write-sums Inv-loop μ-loop
 slice-write-sums c = omega (arith, below (c .before .before))
 
-add-k : tie.Need-add-k Inv-loop μ-loop
-add-k c = search needs
-
-loop-less : tie.Need-loop-less Inv-loop μ-loop
-loop-less c = omega arith
-
 loop-again : tie.Need-loop-again Inv-loop μ-loop
 loop-again c =
     weigh-more (c .before .before .wide .result) _ (c .before .before .before .before .before .loop .inv) (omega arith) (omega arith) (omega arith) (c .before .before .wide .ensures ∙ c .before .before .before .node-of .ensures) (below (c .before .before))
-
-same-length : tie.Need-same-length Inv-loop μ-loop
-same-length c = search needs
 
 returns : tie.Need-returns Inv-loop μ-loop
 returns c = weigh-done (c .before .loop .inv) (omega arith)
@@ -69,16 +48,16 @@ weigh-spec =
     Inv-loop
     μ-loop
     loop-holds
-    node-of-requires
-    wide-requires
-    mul-x
-    shared-slice-read-x
+    (λ c κs. search needs)
+    (λ c κs. search needs)
+    (λ c. search needs)
+    (λ c. search needs)
     mul-old
     slice-read-old
     mul-sums
     slice-write-sums
-    add-k
-    loop-less
+    (λ c. search needs)
+    (λ c. omega arith)
     loop-again
-    same-length
+    (λ c. search needs)
     returns)

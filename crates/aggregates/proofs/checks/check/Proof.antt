@@ -18,15 +18,6 @@ use Rattle.aggregates.proofs.checks.check.Reads as reads
 use Rattle.aggregates.proofs.checks.check.Lts as lts
 use Rattle.aggregates.proofs.checks.check_lists.Reads as check-lists-reads
 
-check-lists-requires : tie.Need-check-lists-requires
-check-lists-requires c κs = search needs
-
-enum-known-lists : tie.Need-enum-known-lists
-enum-known-lists c = search needs
-
-enum-told : tie.Need-enum-told
-enum-told c = search needs
-
 -- the lists have passed
 listed-ok : (c : tie.After-enum-told) → Accepted ≡ answerOf (listsCall (c .before .before .before .before .before .args .nodes) (c .before .before .before .before .before .args .size) (c .before .before .before .before .before .args .offsets .now) (c .before .before .before .before .before .args .neighbours .now))
 listed-ok c = sym (c .enum-told .given .1) ∙ c .before .before .check-lists .ensures
@@ -71,9 +62,9 @@ pub check-spec : {M : Type 1} → statement M
 check-spec =
     tie.close
     (tie.spec
-    check-lists-requires
-    enum-known-lists
-    enum-told
+    (λ c κs. search needs)
+    (λ c. search needs)
+    (λ c. search needs)
     returns
     mul-if2
     mul-if2-2

@@ -45,17 +45,11 @@ returns-3 c = let a = c .before .before .before .before .before .args in first-1
 returns-4 : tie.Need-returns-4
 returns-4 c = let a = c .before .before .before .before .before .before .args in first-11 (a .nodes) (a .size) (a .offsets .now) (a .neighbours .now) (large-ok (c .before .before)) (not-two _ _ (le-leb 1 (a .size) (omega (arith, c .before .if3 .left))) (lt-leb (a .size) maxGroup (c .if4 .taken)))
 
-offsets-fit-requires : tie.Need-offsets-fit-requires
-offsets-fit-requires c κs = search needs
-
 returns-5 : tie.Need-returns-5
 returns-5 c = let a = c .before .before .before .before .before .before .before .before .args in first-27 (a .nodes) (a .size) (a .offsets .now) (a .neighbours .now) (large-ok (c .before .before .before .before)) (sized-ok (c .before .before)) (sym (c .before .offsets-fit .ensures) ∙ c .if5 .left)
 
 returns-6 : tie.Need-returns-6
 returns-6 c = let a = c .before .before .before .before .before .before .before .before .before .args in first-16 (a .nodes) (a .size) (a .offsets .now) (a .neighbours .now) (large-ok (c .before .before .before .before .before)) (sized-ok (c .before .before .before)) (proper-ok (c .before)) (le-ltb 0 (a .nodes) (omega (arith, c .if6 .taken)))
-
-neighbour-outside-requires : tie.Need-neighbour-outside-requires
-neighbour-outside-requires c κs = search needs
 
 returns-7 : tie.Need-returns-7
 returns-7 c = let a = c .before .before .before .before .before .before .before .before .before .before .before .args in first-28 (a .nodes) (a .size) (a .offsets .now) (a .neighbours .now) (large-ok (c .before .before .before .before .before .before .before)) (sized-ok (c .before .before .before .before .before)) (proper-ok (c .before .before .before)) (some-ok (c .before .before)) (ap not (sym (c .before .neighbour-outside .ensures) ∙ c .if7 .taken))
@@ -71,9 +65,9 @@ check-lists-spec =
     returns-2
     returns-3
     returns-4
-    offsets-fit-requires
+    (λ c κs. search needs)
     returns-5
     returns-6
-    neighbour-outside-requires
+    (λ c κs. search needs)
     returns-7
     returns-8)

@@ -46,17 +46,11 @@ returns c =
     let a = c .before .before .args in
     rw (within-is (a .nodes) (a .size) (a .base) (a .w .now)) (room-refused (listsCall (a .nodes) (a .size) (offsetsAt (a .base) (a .nodes) (a .w .now)) (neighboursAt (a .base) (a .nodes) (a .w .now))) (inRoom (a .nodes) (a .size) (a .base) (a .w .now)) (graphGrouping (listsAt (a .base) (a .nodes) (a .w .now)) noAnchor (a .nodes) (a .size)) TooLarge (first-1 (a .nodes) (a .size) (offsetsAt (a .base) (a .nodes) (a .w .now)) (neighboursAt (a .base) (a .nodes) (a .w .now)) (not-one _ _ (lt-leb (a .nodes) maxRows (c .if1 .taken)))))
 
-lesser-requires : tie.Need-lesser-requires
-lesser-requires c κs = search needs
-
 add-lesser : tie.Need-add-lesser
 add-lesser c = omega (arith, c .lesser .ensures)
 
 add-lesser-2 : tie.Need-add-lesser-2
 add-lesser-2 c = omega (arith, c .lesser .ensures)
-
-lesser-requires-2 : tie.Need-lesser-requires-2
-lesser-requires-2 c κs = search needs
 
 sub-if2 : tie.Need-sub-if2
 sub-if2 c = omega (arith, c .lesser2 .ensures, c .before .lesser .ensures)
@@ -75,9 +69,6 @@ cast-count c = omega (arith, c .shared-slice-known2 .given (c .before .before .b
 
 add-lesser-3 : tie.Need-add-lesser-3
 add-lesser-3 c = omega (arith, counted-small (c .before), c .before .before .lesser2 .ensures)
-
-lesser-requires-3 : tie.Need-lesser-requires-3
-lesser-requires-3 c κs = search needs
 
 mul-check-lists : tie.Need-mul-check-lists
 mul-check-lists c = omega (arith, c .before .before .before .before .lesser .ensures, c .before .before .before .lesser2 .ensures, c .lesser3 .ensures)
@@ -102,15 +93,6 @@ part-check-lists-start-2 c = omega (arith, c .before .before .before .before .be
 
 part-check-lists-end-2 : tie.Need-part-check-lists-end-2
 part-check-lists-end-2 c = omega (arith, c .before .before .before .before .before .lesser .ensures, c .before .before .before .before .lesser2 .ensures, c .before .lesser3 .ensures)
-
-check-lists-requires : tie.Need-check-lists-requires
-check-lists-requires c κs = search needs
-
-enum-known-lists : tie.Need-enum-known-lists
-enum-known-lists c = search needs
-
-enum-told : tie.Need-enum-told
-enum-told c = search needs
 
 -- the answer of the lists, as the definitions take them
 answered : (c : tie.After-check-lists) → c .check-lists .result ≡ answerOf (listsCall (c .before .before .before .before .before .before .before .before .before .before .args .nodes) (c .before .before .before .before .before .before .before .before .before .before .args .size) (offsetsAt (c .before .before .before .before .before .before .before .before .before .before .args .base) (c .before .before .before .before .before .before .before .before .before .before .args .nodes) (c .before .before .before .before .before .before .before .before .before .before .args .w .now)) (neighboursAt (c .before .before .before .before .before .before .before .before .before .before .args .base) (c .before .before .before .before .before .before .before .before .before .before .args .nodes) (c .before .before .before .before .before .before .before .before .before .before .args .w .now)))
@@ -147,17 +129,17 @@ check-within-spec =
     tie.close
     (tie.spec
     returns
-    lesser-requires
+    (λ c κs. search needs)
     add-lesser
     add-lesser-2
-    lesser-requires-2
+    (λ c κs. search needs)
     sub-if2
     add-count
     mul-count
     shared-slice-read-count
     cast-count
     add-lesser-3
-    lesser-requires-3
+    (λ c κs. search needs)
     mul-check-lists
     sub-check-lists
     part-check-lists-start
@@ -166,9 +148,9 @@ check-within-spec =
     sub-check-lists-2
     part-check-lists-start-2
     part-check-lists-end-2
-    check-lists-requires
-    enum-known-lists
-    enum-told
+    (λ c κs. search needs)
+    (λ c. search needs)
+    (λ c. search needs)
     sub-room-for
     room-for-requires
     returns-2

@@ -19,27 +19,12 @@ Inv-loop neighbours nodes i₀ i = (i ≤ length neighbours) × (any (λ k. leb 
 abbrev μ-loop : tie.MeasureT-loop
 μ-loop neighbours nodes i₀ i = length neighbours - i
 
-loop-holds : tie.Need-loop-holds Inv-loop μ-loop
-loop-holds c = search needs
-
-mul-if1 : tie.Need-mul-if1 Inv-loop μ-loop
-mul-if1 c = search needs
-
-shared-slice-read-if1 : tie.Need-shared-slice-read-if1 Inv-loop μ-loop
-shared-slice-read-if1 c = search needs
-
 cast-if1 : tie.Need-cast-if1 Inv-loop μ-loop
 cast-if1 c = omega (arith, c .shared-slice-known .given (c .before .before .loop .i))
 
 returns : tie.Need-returns Inv-loop μ-loop
 returns c = let a = c .before .before .before .before .args in let i = c .before .before .before .loop .i in let h : i < length (a .neighbours .now) = omega arith in
     sym (c .before .before .before .loop .inv .1 ∙ any-found _ (a .neighbours .now) i h (le-leb _ _ (c .if1 .taken)))
-
-add-i : tie.Need-add-i Inv-loop μ-loop
-add-i c = search needs
-
-loop-less : tie.Need-loop-less Inv-loop μ-loop
-loop-less c = search needs
 
 loop-again : tie.Need-loop-again Inv-loop μ-loop
 loop-again c = let a = c .before .before .before .before .args in let i = c .before .before .before .loop .i in let h : i < length (a .neighbours .now) = omega arith in
@@ -54,12 +39,12 @@ neighbour-outside-spec =
     (tie.spec
     Inv-loop
     μ-loop
-    loop-holds
-    mul-if1
-    shared-slice-read-if1
+    (λ c. search needs)
+    (λ c. search needs)
+    (λ c. search needs)
     cast-if1
     returns
-    add-i
-    loop-less
+    (λ c. search needs)
+    (λ c. search needs)
     loop-again
     returns-2)

@@ -12,33 +12,18 @@ use Rattle.aggregates.proofs.checks.offset_falls.Reads as offset-falls-
 returns : tie.Need-returns
 returns c = let a = c .before .before .args in fit-empty (a .offsets .now) (a .nodes) (a .count) (c .if1 .taken)
 
-sub-if2 : tie.Need-sub-if2
-sub-if2 c = search needs
-
 returns-2 : tie.Need-returns-2
 returns-2 c = let a = c .before .before .before .args in fit-long (a .offsets .now) (a .nodes) (a .count) (c .before .if1 .left) (c .if2 .taken)
-
-shared-slice-read-if3 : tie.Need-shared-slice-read-if3
-shared-slice-read-if3 c = search needs
 
 returns-3 : tie.Need-returns-3
 returns-3 c =
     let a = c .before .before .before .before .before .args in
     fit-start (a .offsets .now) (a .nodes) (a .count) (c .before .before .before .if1 .left) (c .before .before .if2 .left) (c .if3 .taken)
 
-offset-falls-requires : tie.Need-offset-falls-requires
-offset-falls-requires c κs = search needs
-
 returns-4 : tie.Need-returns-4
 returns-4 c =
     let a = c .before .before .before .before .before .before .before .args in
     fit-falls (a .offsets .now) (a .nodes) (a .count) (c .before .before .before .before .before .if1 .left) (c .before .before .before .before .if2 .left) (c .before .before .if3 .left) (sym (c .before .offset-falls .ensures) ∙ c .if4 .taken)
-
-mul-result : tie.Need-mul-result
-mul-result c = search needs
-
-shared-slice-read-result : tie.Need-shared-slice-read-result
-shared-slice-read-result c = search needs
 
 cast-result : tie.Need-cast-result
 cast-result c = omega (arith, c .shared-slice-known3 .given (c .before .before .before .before .before .before .before .before .args .nodes))
@@ -53,13 +38,13 @@ offsets-fit-spec =
     tie.close
     (tie.spec
     returns
-    sub-if2
+    (λ c. search needs)
     returns-2
-    shared-slice-read-if3
+    (λ c. search needs)
     returns-3
-    offset-falls-requires
+    (λ c κs. search needs)
     returns-4
-    mul-result
-    shared-slice-read-result
+    (λ c. search needs)
+    (λ c. search needs)
     cast-result
     returns-5)

@@ -38,12 +38,6 @@ mul-if1 c = omega (arith, fits (c .before), c .before .before .before .pre .1 .0
 slice-read-if1 : tie.Need-slice-read-if1 Inv-loop μ-loop
 slice-read-if1 c = omega (arith, fits (c .before .before), c .before .before .before .before .pre .1 .0)
 
-add-g : tie.Need-add-g Inv-loop μ-loop
-add-g c = search needs
-
-cast-grow-group : tie.Need-cast-grow-group Inv-loop μ-loop
-cast-grow-group c = search needs
-
 grow-group-requires : tie.Need-grow-group-requires Inv-loop μ-loop
 grow-group-requires c κs =
     let s = c .before .before .before .before .before .before in
@@ -53,12 +47,6 @@ grow-group-requires c κs =
       lists-still (a .base) (a .nodes) (l .w) (a .w .now) still (λ o n. Lists (a .nodes) o n) (s .pre .0),
       (omega arith, (omega arith, lists-still (a .base) (a .nodes) (l .w) (a .w .now) still (λ o n. a .nodes + (length n + 1) ≤ a .base) (s .pre .1 .0 .1))),
     )
-
-add-v : tie.Need-add-v Inv-loop μ-loop
-add-v c = search needs
-
-loop-less : tie.Need-loop-less Inv-loop μ-loop
-loop-less c = omega arith
 
 loop-again : tie.Need-loop-again Inv-loop μ-loop
 loop-again c =
@@ -92,11 +80,11 @@ grow-all-spec =
     loop-holds
     mul-if1
     slice-read-if1
-    add-g
-    cast-grow-group
+    (λ c. search needs)
+    (λ c. search needs)
     grow-group-requires
-    add-v
-    loop-less
+    (λ c. search needs)
+    (λ c. omega arith)
     loop-again
     same-length
     returns)

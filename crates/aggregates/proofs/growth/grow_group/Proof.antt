@@ -70,9 +70,6 @@ mul-wide c = omega (arith, big (c .before .before))
 slice-read-wide : tie.Need-slice-read-wide Inv-loop μ-loop
 slice-read-wide c = omega (arith, big (c .before .before .before))
 
-wide-requires : tie.Need-wide-requires Inv-loop μ-loop
-wide-requires c κs = search needs
-
 add-head : tie.Need-add-head Inv-loop μ-loop
 add-head c = omega (arith, big (c .before .before .before .before))
 
@@ -88,9 +85,6 @@ mul-w-2 c = omega (arith, node (c .before .before), big (c .before .before .befo
 slice-write-w-2 : tie.Need-slice-write-w-2 Inv-loop μ-loop
 slice-write-w-2 c = omega (arith, node (c .before .before), big (c .before .before .before .before .before .before))
 
-sub-room : tie.Need-sub-room Inv-loop μ-loop
-sub-room c = search needs
-
 push-free-requires : tie.Need-push-free-requires Inv-loop μ-loop
 push-free-requires c κs =
     let s = c .before .before .before .before .before .before .before .before .before in
@@ -100,9 +94,6 @@ push-free-requires c κs =
     let e = queue-still (offsetsAt (a .base) (a .nodes) (set (a .w .now) (a .nodes) (a .seed))) (neighboursAt (a .base) (a .nodes) (set (a .w .now) (a .nodes) (a .seed))) (a .base) (a .nodes) (set (a .w .now) (a .nodes) (a .seed)) (a .seed) (a .g) (a .size) (seeded-lists (a .base) (a .nodes) (a .w .now) (a .seed) (s .pre .0) (s .pre .1 .1 .1)) (s .pre .1 .1 .0) (seeded-room (a .base) (a .nodes) (a .w .now) (a .seed) (s .pre .0) (s .pre .1 .1 .1)) (seeded-fits' (a .base) (a .nodes) (a .w .now) (a .seed) (s .pre .0) (s .pre .1 .1 .1)) (l .w) (l .head) (l .tail) (l .room) (l .inv) (omega arith) v (c .before .before .before .wide .ensures) (c .before .if2 .taken) in
     lists-still (a .base) (a .nodes) (set (l .w) v (a .g)) (set (a .w .now) (a .nodes) (a .seed)) e (λ o n. Pushes o n (set (l .w) v (a .g)) (a .base) (a .nodes) v (l .tail))
     (queue-asks (offsetsAt (a .base) (a .nodes) (set (a .w .now) (a .nodes) (a .seed))) (neighboursAt (a .base) (a .nodes) (set (a .w .now) (a .nodes) (a .seed))) (a .base) (a .nodes) (set (a .w .now) (a .nodes) (a .seed)) (a .seed) (a .g) (a .size) (seeded-lists (a .base) (a .nodes) (a .w .now) (a .seed) (s .pre .0) (s .pre .1 .1 .1)) (s .pre .1 .1 .0) (seeded-room (a .base) (a .nodes) (a .w .now) (a .seed) (s .pre .0) (s .pre .1 .1 .1)) (seeded-fits' (a .base) (a .nodes) (a .w .now) (a .seed) (s .pre .0) (s .pre .1 .1 .1)) (l .w) (l .head) (l .tail) (l .room) (l .inv) (omega arith) v (c .before .before .before .wide .ensures) (c .before .if2 .taken))
-
-loop-less : tie.Need-loop-less Inv-loop μ-loop
-loop-less c = omega arith
 
 loop-again : tie.Need-loop-again Inv-loop μ-loop
 loop-again c =
@@ -116,9 +107,6 @@ loop-again c =
     let new = lists-still (a .base) (a .nodes) (set (a .w .now) (a .nodes) (a .seed)) w' (sym e) (λ o n. f .result ≡ l .tail + length (free (listed o n) noAnchor (take (a .nodes) w') (listed o n v))) (f .ensures .0) in
     let queue = lists-still (a .base) (a .nodes) (set (a .w .now) (a .nodes) (a .seed)) w' (sym e) (λ o n. take (f .result) (f .last .0) ≡ take (l .tail) w' ++ free (listed o n) noAnchor (take (a .nodes) w') (listed o n v)) (f .ensures .1 .0) in
     queue-takes (offsetsAt (a .base) (a .nodes) (set (a .w .now) (a .nodes) (a .seed))) (neighboursAt (a .base) (a .nodes) (set (a .w .now) (a .nodes) (a .seed))) (a .base) (a .nodes) (set (a .w .now) (a .nodes) (a .seed)) (a .seed) (a .g) (a .size) (seeded-lists (a .base) (a .nodes) (a .w .now) (a .seed) (s .pre .0) (s .pre .1 .1 .1)) (s .pre .1 .1 .0) (seeded-room (a .base) (a .nodes) (a .w .now) (a .seed) (s .pre .0) (s .pre .1 .1 .1)) (seeded-fits' (a .base) (a .nodes) (a .w .now) (a .seed) (s .pre .0) (s .pre .1 .1 .1)) (l .w) (l .head) (l .tail) (l .room) (l .inv) (omega arith) v (c .before .before .before .before .before .before .wide .ensures) (c .before .before .before .before .if2 .taken) (f .last .0) (f .result) (c .before .before .before .before .before .before .before .before .if1 .left) new queue (f .kept .0) (f .ensures .1 .1)
-
-loop-less-2 : tie.Need-loop-less-2 Inv-loop μ-loop
-loop-less-2 c = omega arith
 
 loop-again-2 : tie.Need-loop-again-2 Inv-loop μ-loop
 loop-again-2 c =
@@ -152,17 +140,17 @@ grow-group-spec =
     returns
     mul-wide
     slice-read-wide
-    wide-requires
+    (λ c κs. search needs)
     add-head
     mul-if2
     slice-read-if2
     mul-w-2
     slice-write-w-2
-    sub-room
+    (λ c. search needs)
     push-free-requires
-    loop-less
+    (λ c. omega arith)
     loop-again
-    loop-less-2
+    (λ c. omega arith)
     loop-again-2
     same-length-2
     returns-2)

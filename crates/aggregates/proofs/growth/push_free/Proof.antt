@@ -61,9 +61,6 @@ neighbour-requires c κs =
     let l = c .before .before .loop in
     lists-still (a .base) (a .nodes) (l .w) (a .w .now) (l .inv .still) (λ o n. l .i < length n) (omega (arith, to-fits (c .before .before .before)))
 
-wide-requires : tie.Need-wide-requires Inv-loop μ-loop
-wide-requires c κs = search needs
-
 -- the neighbour that was read
 read : (c : tie.After-neighbour Inv-loop μ-loop) → c .neighbour .result ≡ getD (neighboursAt (c .before .before .before .before .before .before .before .before .before .args .base) (c .before .before .before .before .before .before .before .before .before .args .nodes) (c .before .before .before .before .before .before .before .before .before .args .w .now)) (c .before .before .before .loop .i) 0
 read c =
@@ -93,12 +90,6 @@ slice-write-w c = let s = c .before .before .before .before .before .before .bef
 
 add-end : tie.Need-add-end Inv-loop μ-loop
 add-end c = let s = c .before .before .before .before .before .before .before .before .before .before .before .before in let l = c .before .before .before .before .before .before .loop in omega (arith, s .pre .fits, l .inv .room, l .inv .same)
-
-add-i : tie.Need-add-i Inv-loop μ-loop
-add-i c = search needs
-
-loop-less : tie.Need-loop-less Inv-loop μ-loop
-loop-less c = omega arith
 
 loop-again : tie.Need-loop-again Inv-loop μ-loop
 loop-again c =
@@ -144,14 +135,14 @@ push-free-spec =
     offset-requires-2
     loop-holds
     neighbour-requires
-    wide-requires
+    (λ c κs. search needs)
     mul-if1
     slice-read-if1
     mul-w
     slice-write-w
     add-end
-    add-i
-    loop-less
+    (λ c. search needs)
+    (λ c. omega arith)
     loop-again
     same-length
     returns)

@@ -12,57 +12,6 @@ returns c =
     let a = c .before .before .args in
     sym (better-first (at (a .hits) (a .w .now)) (at (a .counts) (a .w .now)) (a .best) (a .a) (c .if1 .taken))
 
-wide-requires : tie.Need-wide-requires
-wide-requires c κs = search needs
-
-add-va : tie.Need-add-va
-add-va c = search needs
-
-mul-va : tie.Need-mul-va
-mul-va c = search needs
-
-shared-slice-read-va : tie.Need-shared-slice-read-va
-shared-slice-read-va c = search needs
-
-wide-requires-2 : tie.Need-wide-requires-2
-wide-requires-2 c κs = search needs
-
-add-vb : tie.Need-add-vb
-add-vb c = search needs
-
-mul-vb : tie.Need-mul-vb
-mul-vb c = search needs
-
-shared-slice-read-vb : tie.Need-shared-slice-read-vb
-shared-slice-read-vb c = search needs
-
-wide-requires-3 : tie.Need-wide-requires-3
-wide-requires-3 c κs = search needs
-
-add-ca : tie.Need-add-ca
-add-ca c = search needs
-
-mul-ca : tie.Need-mul-ca
-mul-ca c = search needs
-
-shared-slice-read-ca : tie.Need-shared-slice-read-ca
-shared-slice-read-ca c = search needs
-
-wide-requires-4 : tie.Need-wide-requires-4
-wide-requires-4 c κs = search needs
-
-add-cb : tie.Need-add-cb
-add-cb c = search needs
-
-mul-cb : tie.Need-mul-cb
-mul-cb c = search needs
-
-shared-slice-read-cb : tie.Need-shared-slice-read-cb
-shared-slice-read-cb c = search needs
-
-comes-before-requires : tie.Need-comes-before-requires
-comes-before-requires c κs = search needs
-
 returns-2 : tie.Need-returns-2
 returns-2 c =
     let a = c .before .before .before .before .before .before .before .before .before .before .before .before .args in
@@ -88,22 +37,22 @@ better-of-spec =
     tie.close
     (tie.spec
     returns
-    wide-requires
-    add-va
-    mul-va
-    shared-slice-read-va
-    wide-requires-2
-    add-vb
-    mul-vb
-    shared-slice-read-vb
-    wide-requires-3
-    add-ca
-    mul-ca
-    shared-slice-read-ca
-    wide-requires-4
-    add-cb
-    mul-cb
-    shared-slice-read-cb
-    comes-before-requires
+    (λ c κs. search needs)
+    (λ c. search needs)
+    (λ c. search needs)
+    (λ c. search needs)
+    (λ c κs. search needs)
+    (λ c. search needs)
+    (λ c. search needs)
+    (λ c. search needs)
+    (λ c κs. search needs)
+    (λ c. search needs)
+    (λ c. search needs)
+    (λ c. search needs)
+    (λ c κs. search needs)
+    (λ c. search needs)
+    (λ c. search needs)
+    (λ c. search needs)
+    (λ c κs. search needs)
     returns-2
     returns-3)

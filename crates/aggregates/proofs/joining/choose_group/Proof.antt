@@ -8,9 +8,6 @@ use borrow.Author.Needs.{needs}
 use Rattle.aggregates.proofs.joining.choose_group.Statement.{statement}
 use Rattle.aggregates.proofs.joining.choose_group.Tie as tie
 
-tally-requires : tie.Need-tally-requires
-tally-requires c κs = search needs
-
 pick-requires : tie.Need-pick-requires
 pick-requires c κs =
     let s = c .before .before .before .before .before .before in
@@ -29,9 +26,6 @@ untally-requires c κs =
     let n : Named (a .hits) (a .from) (a .end) (t .last .0) = rw e (named-still (a .w .now) (a .counts) (a .hits) (a .from) (a .end) (s .pre .0 .0) (s .pre .0 .1 .0) (s .pre .0 .1 .1 .1 .0) (s .pre .0 .1 .1 .1 .1) (s .pre .1 .0) (s .pre .1 .1)) in
     (search needs, n)
 
-same-length : tie.Need-same-length
-same-length c = search needs
-
 returns : tie.Need-returns
 returns c =
     let s = c .before .before .before .before .before .before .before .before .before .before .before in
@@ -42,4 +36,4 @@ returns c =
 
 pub choose-group-spec : {M : Type 1} → statement M
 choose-group-spec =
-    tie.close (tie.spec tally-requires pick-requires untally-requires same-length returns)
+    tie.close (tie.spec (λ c κs. search needs) pick-requires untally-requires (λ c. search needs) returns)

@@ -126,12 +126,6 @@ slice-read-cur-2 c =
     let k : length (f .last .0) ≡ length (l .w) = f .kept .0 in
     omega (arith, node (c .before .before .before .before .before .before .before .before .before), c .before .before .before .before .before .before .before .before .before .before .before .before .before .before .before .before .before .pre .1 .room, c .before .before .before .before .before .before .before .before .before .before .before .before .before .before .before .before .before .pre .1 .fits, l .inv .same)
 
-sub-left : tie.Need-sub-left Inv-loop μ-loop
-sub-left c = omega arith
-
-loop-less : tie.Need-loop-less Inv-loop μ-loop
-loop-less c = omega arith
-
 loop-again : tie.Need-loop-again Inv-loop μ-loop
 loop-again c =
     let s = c .before .before .before .before .before .before .before .before .before .before .before .before .before .before .before .before .before in
@@ -159,15 +153,6 @@ returns c =
     let p = gather-last (a .nodes) (a .base) (offsetsAt (a .base) (a .nodes) (a .w .now)) (neighboursAt (a .base) (a .nodes) (a .w .now)) (a .w .now) (a .g) (s .pre .0) (s .pre .1) (l .w) (l .left) (l .cur) (l .end) (l .inv) (omega arith) in
     (p .0, (p .1 .0, (p .1 .1, l .inv .still)))
 
-wide-requires : tie.Need-wide-requires Inv-loop μ-loop
-wide-requires c κs = search needs
-
-wide-requires-2 : tie.Need-wide-requires-2 Inv-loop μ-loop
-wide-requires-2 c κs = search needs
-
-wide-requires-3 : tie.Need-wide-requires-3 Inv-loop μ-loop
-wide-requires-3 c κs = search needs
-
 pub gather-spec : {M : Type 1} → statement M
 gather-spec =
     tie.close
@@ -177,18 +162,18 @@ gather-spec =
     mul-heads
     mul-counts
     add-counts
-    wide-requires
+    (λ c κs. search needs)
     add-left
     mul-left
     slice-read-left
-    wide-requires-2
+    (λ c κs. search needs)
     add-cur
     mul-cur
     slice-read-cur
     mul-end
     add-end
     loop-holds
-    wide-requires-3
+    (λ c κs. search needs)
     offset-requires
     add-offset
     offset-requires-2
@@ -196,8 +181,8 @@ gather-spec =
     add-cur-2
     mul-cur-2
     slice-read-cur-2
-    sub-left
-    loop-less
+    (λ c. omega arith)
+    (λ c. omega arith)
     loop-again
     same-length
     returns)

@@ -27,12 +27,6 @@ add-to c = omega (arith, c .before .pre .room, c .before .pre .fits)
 mul-zero-ints : tie.Need-mul-zero-ints
 mul-zero-ints c = omega (arith, c .before .pre .room, c .before .pre .fits)
 
-sub-zero-ints : tie.Need-sub-zero-ints
-sub-zero-ints c = omega arith
-
-part-zero-ints-start : tie.Need-part-zero-ints-start
-part-zero-ints-start c = omega arith
-
 part-zero-ints-end : tie.Need-part-zero-ints-end
 part-zero-ints-end c = omega (arith, c .before .pre .room, c .before .pre .fits)
 
@@ -88,9 +82,6 @@ returns c =
     let j = c .before .before .join-rounds in
     rw e at (lists-still (a .base) (a .nodes) (a .w .now) (l .last .0) (sym still) (λ o n. take (a .nodes) (j .last .0) ≡ joinedIds o n (a .floor) (a .groups) (take (a .nodes) (l .last .0))) (j .ensures))
 
-zero-ints-requires : tie.Need-zero-ints-requires
-zero-ints-requires c κs = search needs
-
 pub join-groups-spec : {M : Type 1} → statement M
 join-groups-spec =
     tie.close
@@ -100,10 +91,10 @@ join-groups-spec =
     mul-to
     add-to
     mul-zero-ints
-    sub-zero-ints
-    part-zero-ints-start
+    (λ c. omega arith)
+    (λ c. omega arith)
     part-zero-ints-end
-    zero-ints-requires
+    (λ c κs. search needs)
     link-requires
     join-rounds-requires
     same-length

@@ -111,16 +111,13 @@ returns-4 c =
     let asks = asks-move (a .nodes) (a .groups) (offsetsAt (a .base) (a .nodes) (a .w .now)) (neighboursAt (a .base) (a .nodes) (a .w .now)) (a .w .now) (c .before .before .before .before .before .before .before .before .before .before .before .before .before .before .before .before .before .before .pre .0) (a .floor) (a .g) (c .before .before .before .before .before .before .before .before .before .before .before .before .before .before .before .before .before .before .pre .1 .0) (f .last .0) (f .result) (f .kept .0) (f .ensures .0) (f .ensures .1 .0) (f .ensures .1 .1 .0) some low (h .result) (h .ensures .0) (c .before .before .before .before .if3 .left) in
     (t .0, (t .1 .0, (t .1 .1, move-still (a .nodes) (f .last .0) (a .g) (h .result) (a .base) (m .last .0) asks (omega (arith, c .before .before .before .before .before .before .before .before .before .before .before .before .before .before .before .before .before .before .pre .1 .1)) (rw back at (m .ensures .1)) ∙ f .ensures .1 .1 .1)))
 
-wide-requires : tie.Need-wide-requires
-wide-requires c κs = search needs
-
 pub join-one-spec : {M : Type 1} → statement M
 join-one-spec =
     tie.close
     (tie.spec
     mul-counts
     add-counts
-    wide-requires
+    (λ c κs. search needs)
     add-size
     mul-size
     slice-read-size

@@ -70,9 +70,6 @@ add-joins c =
 add-g : tie.Need-add-g Inv-loop μ-loop Inv-rounds μ-rounds
 add-g c = omega (arith, c .before .before .before .before .before .loop .inv .hi, c .before .before .before .before .before .before .before .before .pre .0 .few, c .before .before .before .before .before .before .before .before .pre .0 .small)
 
-loop-less : tie.Need-loop-less Inv-loop μ-loop Inv-rounds μ-rounds
-loop-less c = omega arith
-
 loop-again : tie.Need-loop-again Inv-loop μ-loop Inv-rounds μ-rounds
 loop-again c =
     let a = c .before .before .before .before .before .before .before .before .args in
@@ -127,7 +124,7 @@ join-rounds-spec =
     join-one-requires
     add-joins
     add-g
-    loop-less
+    (λ c. omega arith)
     loop-again
     rounds-less
     rounds-again

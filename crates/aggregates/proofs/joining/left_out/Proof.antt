@@ -10,18 +10,6 @@ returns c =
     let a = c .before .before .args in
     rw (eq-eqb (a .o) (a .g) (c .if1 .taken))
 
-wide-requires : tie.Need-wide-requires
-wide-requires c κs = search needs
-
-add-result : tie.Need-add-result
-add-result c = search needs
-
-mul-result : tie.Need-mul-result
-mul-result c = search needs
-
-shared-slice-read-result : tie.Need-shared-slice-read-result
-shared-slice-read-result c = search needs
-
 returns-2 : tie.Need-returns-2
 returns-2 c =
     let a = c .before .before .before .before .args in
@@ -31,4 +19,4 @@ returns-2 c =
 pub left-out-spec : {M : Type 1} → statement M
 left-out-spec =
     tie.close
-    (tie.spec returns wide-requires add-result mul-result shared-slice-read-result returns-2)
+    (tie.spec returns (λ c κs. search needs) (λ c. search needs) (λ c. search needs) (λ c. search needs) returns-2)

@@ -33,9 +33,6 @@ add-counts c = omega (arith, c .before .pre .0)
 loop-holds : tie.Need-loop-holds Inv-loop μ-loop
 loop-holds c = let a = c .before .args in links-first (a .nodes) (a .w .now) (c .before .pre .0 .0) (c .before .pre .1 .0) (c .before .pre .1 .1)
 
-sub-v : tie.Need-sub-v Inv-loop μ-loop
-sub-v c = omega arith
-
 mul-wide : tie.Need-mul-wide Inv-loop μ-loop
 mul-wide c = omega (arith, c .before .loop .inv .back .upto)
 
@@ -96,9 +93,6 @@ mul-w-4 c = omega (arith, low (c .before .before), c .before .before .before .be
 slice-write-w-3 : tie.Need-slice-write-w-3 Inv-loop μ-loop
 slice-write-w-3 c = simp length-set (omega (arith, low (c .before .before), c .before .before .before .before .before .loop .inv .same, c .before .before .before .before .before .before .before .pre .0))
 
-loop-less : tie.Need-loop-less Inv-loop μ-loop
-loop-less c = omega arith
-
 loop-again : tie.Need-loop-again Inv-loop μ-loop
 loop-again c =
     let a = c .before .before .before .before .before .before .before .args in
@@ -115,9 +109,6 @@ returns c =
     let z : l .v ≡ 0 = omega arith in
     links-last (a .nodes) (a .w .now) (c .before .before .before .pre .0 .0) (c .before .before .before .pre .1 .0) (l .w) (c .before .before .before .pre .1 .1) (rw z at (l .inv))
 
-wide-requires : tie.Need-wide-requires Inv-loop μ-loop
-wide-requires c κs = search needs
-
 pub link-spec : {M : Type 1} → statement M
 link-spec =
     tie.close
@@ -128,10 +119,10 @@ link-spec =
     mul-counts
     add-counts
     loop-holds
-    sub-v
+    (λ c. omega arith)
     mul-wide
     slice-read-wide
-    wide-requires
+    (λ c κs. search needs)
     add-more
     mul-more
     slice-read-more
@@ -149,7 +140,7 @@ link-spec =
     add-w-4
     mul-w-4
     slice-write-w-3
-    loop-less
+    (λ c. omega arith)
     loop-again
     same-length
     returns)

@@ -125,21 +125,12 @@ returns c =
     let f = c .before .before .before .relabel-chain in
     rw (last c, e1, e2) (move-front (a .nodes) (a .w .now) (a .g) (a .b) (f .last .0) (rw e1 at (f .ensures .0)), move-back (a .nodes) (a .w .now) (a .g) (a .b) (f .last .0) (f .ensures .1 .0))
 
-wide-requires : tie.Need-wide-requires
-wide-requires c κs = search needs
-
-wide-requires-2 : tie.Need-wide-requires-2
-wide-requires-2 c κs = search needs
-
-wide-requires-3 : tie.Need-wide-requires-3
-wide-requires-3 c κs = search needs
-
 pub move-group-spec : {M : Type 1} → statement M
 move-group-spec =
     tie.close
     (tie.spec
-    wide-requires
-    wide-requires-2
+    (λ c κs. search needs)
+    (λ c κs. search needs)
     mul-heads
     mul-counts
     add-counts
@@ -156,7 +147,7 @@ move-group-spec =
     mul-more
     slice-read-more
     relabel-chain-requires
-    wide-requires-3
+    (λ c κs. search needs)
     add-w
     mul-w
     slice-write-w

@@ -45,9 +45,6 @@ neighbour-requires c κs =
     let l = c .before .before .loop in
     lists-still (a .base) (a .nodes) (l .w) (a .w .now) (l .inv .still) (λ o n. l .i < length n) (omega (arith, s .pre .0))
 
-wide-requires : tie.Need-wide-requires Inv-loop μ-loop
-wide-requires c κs = search needs
-
 mul-o : tie.Need-mul-o Inv-loop μ-loop
 mul-o c = omega (arith, node c, c .before .before .before .before .before .before .pre .0)
 
@@ -65,12 +62,6 @@ slice-write-w c = omega (arith, c .before .before .before .before .before .befor
 
 add-end : tie.Need-add-end Inv-loop μ-loop
 add-end c = omega (arith, c .before .before .before .before .before .before .before .before .before .before .pre .0, c .before .before .before .before .before .before .before .before .loop .inv .room)
-
-add-i : tie.Need-add-i Inv-loop μ-loop
-add-i c = omega arith
-
-loop-less : tie.Need-loop-less Inv-loop μ-loop
-loop-less c = omega arith
 
 loop-again : tie.Need-loop-again Inv-loop μ-loop
 loop-again c =
@@ -107,15 +98,15 @@ names-of-spec =
     μ-loop
     loop-holds
     neighbour-requires
-    wide-requires
+    (λ c κs. search needs)
     mul-o
     slice-read-o
     left-out-requires
     mul-w
     slice-write-w
     add-end
-    add-i
-    loop-less
+    (λ c. omega arith)
+    (λ c. omega arith)
     loop-again
     same-length
     returns)

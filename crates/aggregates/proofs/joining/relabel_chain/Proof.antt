@@ -40,12 +40,6 @@ mul-cur c = omega (arith, node c, c .before .before .before .before .pre .0)
 slice-read-cur : tie.Need-slice-read-cur Inv-loop μ-loop
 slice-read-cur c = simp length-set (omega (arith, node (c .before), c .before .before .before .loop .inv .same, c .before .before .before .before .before .pre .0))
 
-sub-left : tie.Need-sub-left Inv-loop μ-loop
-sub-left c = omega arith
-
-loop-less : tie.Need-loop-less Inv-loop μ-loop
-loop-less c = omega arith
-
 loop-again : tie.Need-loop-again Inv-loop μ-loop
 loop-again c =
     let a = c .before .before .before .before .before .args in
@@ -62,9 +56,6 @@ returns c =
     let l = c .before .loop in
     relabels-last (a .nodes) (a .first) (a .n) (a .b) (a .w .now) (omega (arith, c .before .before .before .pre .0)) (l .w) (l .left) (l .cur) (l .last) (l .inv) (omega arith)
 
-wide-requires : tie.Need-wide-requires Inv-loop μ-loop
-wide-requires c κs = search needs
-
 pub relabel-chain-spec : {M : Type 1} → statement M
 relabel-chain-spec =
     tie.close
@@ -72,14 +63,14 @@ relabel-chain-spec =
     Inv-loop
     μ-loop
     loop-holds
-    wide-requires
+    (λ c κs. search needs)
     mul-w
     slice-write-w
     add-cur
     mul-cur
     slice-read-cur
-    sub-left
-    loop-less
+    (λ c. omega arith)
+    (λ c. omega arith)
     loop-again
     same-length
     returns)

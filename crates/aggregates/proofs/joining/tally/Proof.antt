@@ -26,15 +26,6 @@ loop-holds c =
     let a = s .args in
     tally-first (a .w .now) (a .hits) (a .from) (a .end) (s .pre .0 .1 .0) (s .pre .1 .0) (s .pre .0 .0) (s .pre .1 .1)
 
-mul-wide : tie.Need-mul-wide Inv-loop μ-loop
-mul-wide c = omega arith
-
-slice-read-wide : tie.Need-slice-read-wide Inv-loop μ-loop
-slice-read-wide c = omega arith
-
-wide-requires : tie.Need-wide-requires Inv-loop μ-loop
-wide-requires c κs = search needs
-
 add-at : tie.Need-add-at Inv-loop μ-loop
 add-at c =
     omega (arith, in-counts c)
@@ -54,12 +45,6 @@ add-w c =
 slice-write-w : tie.Need-slice-write-w Inv-loop μ-loop
 slice-write-w c =
     omega (arith, in-counts (c .before))
-
-add-i : tie.Need-add-i Inv-loop μ-loop
-add-i c = omega arith
-
-loop-less : tie.Need-loop-less Inv-loop μ-loop
-loop-less c = omega arith
 
 loop-again : tie.Need-loop-again Inv-loop μ-loop
 loop-again c =
@@ -86,16 +71,16 @@ tally-spec =
     Inv-loop
     μ-loop
     loop-holds
-    mul-wide
-    slice-read-wide
-    wide-requires
+    (λ c. omega arith)
+    (λ c. omega arith)
+    (λ c κs. search needs)
     add-at
     mul-w
     slice-read-w
     add-w
     slice-write-w
-    add-i
-    loop-less
+    (λ c. omega arith)
+    (λ c. omega arith)
     loop-again
     same-length
     returns)

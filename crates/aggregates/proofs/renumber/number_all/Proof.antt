@@ -32,15 +32,6 @@ loop-holds c =
     let a = s .args in
     number-first (a .nodes) (a .top) (a .w .now) (s .pre .0) (s .pre .1)
 
-mul-wide : tie.Need-mul-wide Inv-loop μ-loop
-mul-wide c = search needs
-
-slice-read-wide : tie.Need-slice-read-wide Inv-loop μ-loop
-slice-read-wide c = search needs
-
-wide-requires : tie.Need-wide-requires Inv-loop μ-loop
-wide-requires c κs = search needs
-
 add-at : tie.Need-add-at Inv-loop μ-loop
 add-at c = omega (arith, low c)
 
@@ -49,9 +40,6 @@ mul-new c = omega (arith, low c)
 
 slice-read-new : tie.Need-slice-read-new Inv-loop μ-loop
 slice-read-new c = omega (arith, low (c .before))
-
-add-count : tie.Need-add-count Inv-loop μ-loop
-add-count c = search needs
 
 mul-w : tie.Need-mul-w Inv-loop μ-loop
 mul-w c = omega (arith, low (c .before .before))
@@ -67,12 +55,6 @@ mul-w-2 c = ⊎-elim (λ x. omega arith) (λ x. omega arith) (c .before .if1 .ca
 
 slice-write-w-2 : tie.Need-slice-write-w-2 Inv-loop μ-loop
 slice-write-w-2 c = ⊎-elim (λ y. rw (y .1) (simp length-set (omega arith))) (λ y. rw (y .1) (omega arith)) (c .before .if1 .came)
-
-add-v : tie.Need-add-v Inv-loop μ-loop
-add-v c = search needs
-
-loop-less : tie.Need-loop-less Inv-loop μ-loop
-loop-less c = omega arith
 
 loop-again : tie.Need-loop-again Inv-loop μ-loop
 loop-again c =
@@ -102,20 +84,20 @@ number-all-spec =
     Inv-loop
     μ-loop
     loop-holds
-    mul-wide
-    slice-read-wide
-    wide-requires
+    (λ c. search needs)
+    (λ c. search needs)
+    (λ c κs. search needs)
     add-at
     mul-new
     slice-read-new
-    add-count
+    (λ c. search needs)
     mul-w
     slice-write-w
     sub-w
     mul-w-2
     slice-write-w-2
-    add-v
-    loop-less
+    (λ c. search needs)
+    (λ c. omega arith)
     loop-again
     same-length
     returns)

@@ -13,30 +13,6 @@ use Rattle.aggregates.proofs.renumber.number_all.Reads as number-all-re
 use Rattle.aggregates.proofs.renumber.wide.Reads as wide-reads
 use Rattle.numbers.proofs.zero_ints.Reads as zero-ints-reads
 
-wide-requires : tie.Need-wide-requires
-wide-requires c κs = search needs
-
-add-end : tie.Need-add-end
-add-end c = search needs
-
-add-end-2 : tie.Need-add-end-2
-add-end-2 c = search needs
-
-mul-zero-ints : tie.Need-mul-zero-ints
-mul-zero-ints c = search needs
-
-sub-zero-ints : tie.Need-sub-zero-ints
-sub-zero-ints c = search needs
-
-part-zero-ints-start : tie.Need-part-zero-ints-start
-part-zero-ints-start c = search needs
-
-part-zero-ints-end : tie.Need-part-zero-ints-end
-part-zero-ints-end c = search needs
-
-zero-ints-requires : tie.Need-zero-ints-requires
-zero-ints-requires c κs = search needs
-
 number-all-requires : tie.Need-number-all-requires
 number-all-requires c κs =
     let s = c .before .before .before .before .before .before .before in
@@ -44,9 +20,6 @@ number-all-requires c κs =
     let e = c .before .before .before .before .before .wide .ensures in
     let z = c .before .before .before .zero-ints in
     (clear-numbered (a .nodes) (a .top) (a .nodes + c .before .before .before .before .before .wide .result + 1) (a .w .now) (z .last .0) (s .pre) (omega arith) (z .ensures), clear-blank (a .nodes) (a .top) (a .nodes + c .before .before .before .before .before .wide .result + 1) (a .w .now) (z .last .0) (s .pre) (omega arith) (z .ensures))
-
-same-length : tie.Need-same-length
-same-length c = search needs
 
 returns : tie.Need-returns
 returns c =
@@ -61,14 +34,14 @@ pub renumber-spec : {M : Type 1} → statement M
 renumber-spec =
     tie.close
     (tie.spec
-    wide-requires
-    add-end
-    add-end-2
-    mul-zero-ints
-    sub-zero-ints
-    part-zero-ints-start
-    part-zero-ints-end
-    zero-ints-requires
+    (λ c κs. search needs)
+    (λ c. search needs)
+    (λ c. search needs)
+    (λ c. search needs)
+    (λ c. search needs)
+    (λ c. search needs)
+    (λ c. search needs)
+    (λ c κs. search needs)
     number-all-requires
-    same-length
+    (λ c. search needs)
     returns)

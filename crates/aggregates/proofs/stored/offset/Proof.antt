@@ -12,9 +12,6 @@ add-result c = omega (arith, c .pre)
 mul-result : tie.Need-mul-result
 mul-result c = omega (arith, c .pre)
 
-shared-slice-read-result : tie.Need-shared-slice-read-result
-shared-slice-read-result c = omega arith
-
 cast-result : tie.Need-cast-result
 cast-result c = omega (arith, c .shared-slice-known .given (c .before .args .base + c .before .args .v))
 
@@ -22,4 +19,4 @@ returns : tie.Need-returns
 returns c = let a = c .before .args in sym (offset-is (a .base) (a .nodes) (a .w .now) (a .v) (c .before .pre .0))
 
 pub offset-spec : {M : Type 1} → statement M
-offset-spec = tie.close (tie.spec add-result mul-result shared-slice-read-result cast-result returns)
+offset-spec = tie.close (tie.spec add-result mul-result (λ c. omega arith) cast-result returns)

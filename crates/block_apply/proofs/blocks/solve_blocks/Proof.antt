@@ -38,15 +38,6 @@ ends c =
     let f = width-facts (a .rows) (a .size) first w (starts (c .before)) (c .width .ensures) in
     (f .0, f .1, factor-inside (a .rows) (a .size) first w (f .0) (f .1), product-small (a .rows) (a .size) (s .pre .2) (s .pre .4), omega (arith, f .0, s .pre .4))
 
-sub-count : tie.Need-sub-count Inv-loop μ-loop
-sub-count c = search needs
-
-add-count : tie.Need-add-count Inv-loop μ-loop
-add-count c = search needs
-
-div-count : tie.Need-div-count Inv-loop μ-loop
-div-count c = search needs
-
 loop-holds : tie.Need-loop-holds Inv-loop μ-loop
 loop-holds c = let a = c .before .before .before .args in (omega arith, refl, blocks-none (a .rows) (a .size) (a .factors .now) (a .r .now) (a .z .now))
 
@@ -55,9 +46,6 @@ mul-first c = omega (arith, starts c)
 
 sub-width : tie.Need-sub-width Inv-loop μ-loop
 sub-width c = omega (arith, starts c)
-
-width-requires : tie.Need-width-requires Inv-loop μ-loop
-width-requires c κs = search needs
 
 add-to : tie.Need-add-to Inv-loop μ-loop
 add-to c = omega (arith, ends c)
@@ -124,9 +112,6 @@ solve-block-requires c κs =
 add-k : tie.Need-add-k Inv-loop μ-loop
 add-k c = let s = c .before .before .before .before .before .before .before .before .before .before .before .before in omega (arith, index-small (s .args .rows) (s .args .size) (c .before .before .before .before .before .before .before .before .loop .k) (s .pre .3) (starts (c .before .before .before .before .before .before .before)), s .pre .2)
 
-loop-less : tie.Need-loop-less Inv-loop μ-loop
-loop-less c = omega arith
-
 loop-again : tie.Need-loop-again Inv-loop μ-loop
 loop-again c =
     let s = c .before .before .before .before .before .before .before .before .before .before .before .before in
@@ -158,13 +143,13 @@ solve-blocks-spec =
     (tie.spec
     Inv-loop
     μ-loop
-    sub-count
-    add-count
-    div-count
+    (λ c. search needs)
+    (λ c. search needs)
+    (λ c. search needs)
     loop-holds
     mul-first
     sub-width
-    width-requires
+    (λ c κs. search needs)
     add-to
     mul-at
     mul-end
@@ -183,7 +168,7 @@ solve-blocks-spec =
     part-solve-block-end-3
     solve-block-requires
     add-k
-    loop-less
+    (λ c. omega arith)
     loop-again
     same-length
     returns)

@@ -31,12 +31,6 @@ inside c =
 loop-holds : tie.Need-loop-holds Inv-loop μ-loop
 loop-holds c = let s = c .before .before in (omega arith, refl, backward-none (s .args .l .now) (s .args .z .now) (s .args .w) (s .pre .1))
 
-sub-i : tie.Need-sub-i Inv-loop μ-loop
-sub-i c = search needs
-
-sub-i-2 : tie.Need-sub-i-2 Inv-loop μ-loop
-sub-i-2 c = search needs
-
 mul-column-rest : tie.Need-mul-column-rest Inv-loop μ-loop
 mul-column-rest c = omega (arith, inside (c .before))
 
@@ -63,12 +57,6 @@ mul-z-3 c = omega (arith, inside (c .before .before .before))
 
 slice-write-z : tie.Need-slice-write-z Inv-loop μ-loop
 slice-write-z c = omega (arith, inside (c .before .before .before))
-
-add-k : tie.Need-add-k Inv-loop μ-loop
-add-k c = search needs
-
-loop-less : tie.Need-loop-less Inv-loop μ-loop
-loop-less c = omega arith
 
 loop-again : tie.Need-loop-again Inv-loop μ-loop
 loop-again c =
@@ -97,8 +85,8 @@ backward-spec =
     Inv-loop
     μ-loop
     loop-holds
-    sub-i
-    sub-i-2
+    (λ c. search needs)
+    (λ c. search needs)
     mul-column-rest
     slice-reshared-read-column-rest
     column-rest-requires
@@ -108,8 +96,8 @@ backward-spec =
     shared-slice-read-z
     mul-z-3
     slice-write-z
-    add-k
-    loop-less
+    (λ c. search needs)
+    (λ c. omega arith)
     loop-again
     same-length
     returns)

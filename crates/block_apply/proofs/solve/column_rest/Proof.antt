@@ -22,9 +22,6 @@ inside c =
     let a = c .before .before .args in
     (row-inside (a .i) (a .w) (c .before .before .pre .0), row-inside (c .before .loop .m) (a .w) (omega arith), square-small (a .w) (c .before .before .pre .3))
 
-add-m : tie.Need-add-m Inv-loop μ-loop
-add-m c = search needs
-
 loop-holds : tie.Need-loop-holds Inv-loop μ-loop
 loop-holds c = let a = c .args in (omega arith, omega arith, column-none (a .l .now) (a .w) (a .z .now) (a .x) (a .i))
 
@@ -39,18 +36,6 @@ mul-sum-2 c = omega (arith, inside c)
 
 shared-slice-read-sum : tie.Need-shared-slice-read-sum Inv-loop μ-loop
 shared-slice-read-sum c = omega (arith, inside (c .before), c .before .before .before .pre .1)
-
-mul-sum-3 : tie.Need-mul-sum-3 Inv-loop μ-loop
-mul-sum-3 c = search needs
-
-shared-slice-read-sum-2 : tie.Need-shared-slice-read-sum-2 Inv-loop μ-loop
-shared-slice-read-sum-2 c = search needs
-
-add-m-2 : tie.Need-add-m-2 Inv-loop μ-loop
-add-m-2 c = search needs
-
-loop-less : tie.Need-loop-less Inv-loop μ-loop
-loop-less c = omega arith
 
 loop-again : tie.Need-loop-again Inv-loop μ-loop
 loop-again c =
@@ -67,15 +52,15 @@ column-rest-spec =
     (tie.spec
     Inv-loop
     μ-loop
-    add-m
+    (λ c. search needs)
     loop-holds
     mul-sum
     add-sum
     mul-sum-2
     shared-slice-read-sum
-    mul-sum-3
-    shared-slice-read-sum-2
-    add-m-2
-    loop-less
+    (λ c. search needs)
+    (λ c. search needs)
+    (λ c. search needs)
+    (λ c. omega arith)
     loop-again
     returns)

@@ -29,12 +29,6 @@ loop-holds c = let a = c .before .before .before .args in (omega arith, refl, fo
 mul-start : tie.Need-mul-start Inv-loop μ-loop
 mul-start c = omega (arith, inside c)
 
-mul-row-rest : tie.Need-mul-row-rest Inv-loop μ-loop
-mul-row-rest c = search needs
-
-shared-slice-read-row-rest : tie.Need-shared-slice-read-row-rest Inv-loop μ-loop
-shared-slice-read-row-rest c = search needs
-
 row-rest-requires : tie.Need-row-rest-requires Inv-loop μ-loop
 row-rest-requires c κs = let s = c .before .before .before .before .before .before .before in (omega (arith, s .pre .2), omega (arith, inside (c .before .before), s .pre .0))
 
@@ -47,17 +41,8 @@ mul-z c = omega (arith, inside (c .before .before .before))
 shared-slice-read-z : tie.Need-shared-slice-read-z Inv-loop μ-loop
 shared-slice-read-z c = omega (arith, inside (c .before .before .before .before), c .before .before .before .before .before .before .before .before .before .pre .0)
 
-mul-z-2 : tie.Need-mul-z-2 Inv-loop μ-loop
-mul-z-2 c = search needs
-
 slice-write-z : tie.Need-slice-write-z Inv-loop μ-loop
 slice-write-z c = omega (arith, c .before .before .before .before .before .loop .inv .1, c .before .before .before .before .before .before .before .before .before .pre .2)
-
-add-i : tie.Need-add-i Inv-loop μ-loop
-add-i c = search needs
-
-loop-less : tie.Need-loop-less Inv-loop μ-loop
-loop-less c = omega arith
 
 loop-again : tie.Need-loop-again Inv-loop μ-loop
 loop-again c =
@@ -87,16 +72,16 @@ forward-spec =
     μ-loop
     loop-holds
     mul-start
-    mul-row-rest
-    shared-slice-read-row-rest
+    (λ c. search needs)
+    (λ c. search needs)
     row-rest-requires
     add-z
     mul-z
     shared-slice-read-z
-    mul-z-2
+    (λ c. search needs)
     slice-write-z
-    add-i
-    loop-less
+    (λ c. search needs)
+    (λ c. omega arith)
     loop-again
     same-length
     returns)

@@ -21,27 +21,6 @@ abbrev μ-loop : tie.MeasureT-loop
 loop-holds : tie.Need-loop-holds Inv-loop μ-loop
 loop-holds c = let a = c .args in (omega arith, reduced-none (a .x) (λ k. getD (a .l .now) (a .start + k) nan *ᶠ getD (a .z .now) k nan))
 
-add-sum : tie.Need-add-sum Inv-loop μ-loop
-add-sum c = search needs
-
-mul-sum : tie.Need-mul-sum Inv-loop μ-loop
-mul-sum c = search needs
-
-shared-slice-read-sum : tie.Need-shared-slice-read-sum Inv-loop μ-loop
-shared-slice-read-sum c = search needs
-
-mul-sum-2 : tie.Need-mul-sum-2 Inv-loop μ-loop
-mul-sum-2 c = search needs
-
-shared-slice-read-sum-2 : tie.Need-shared-slice-read-sum-2 Inv-loop μ-loop
-shared-slice-read-sum-2 c = search needs
-
-add-k : tie.Need-add-k Inv-loop μ-loop
-add-k c = search needs
-
-loop-less : tie.Need-loop-less Inv-loop μ-loop
-loop-less c = omega arith
-
 loop-again : tie.Need-loop-again Inv-loop μ-loop
 loop-again c =
     let a = c .before .before .before .before .args in
@@ -59,12 +38,12 @@ row-rest-spec =
     Inv-loop
     μ-loop
     loop-holds
-    add-sum
-    mul-sum
-    shared-slice-read-sum
-    mul-sum-2
-    shared-slice-read-sum-2
-    add-k
-    loop-less
+    (λ c. search needs)
+    (λ c. search needs)
+    (λ c. search needs)
+    (λ c. search needs)
+    (λ c. search needs)
+    (λ c. search needs)
+    (λ c. omega arith)
     loop-again
     returns)

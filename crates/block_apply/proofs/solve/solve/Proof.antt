@@ -7,17 +7,11 @@ use Rattle.block_apply.proofs.solve.solve.Lts as lts
 use Rattle.block_apply.proofs.solve.backward.Reads as backward-reads
 use Rattle.block_apply.proofs.solve.forward.Reads as forward-reads
 
-forward-requires : tie.Need-forward-requires
-forward-requires c κs = search needs
-
 backward-requires : tie.Need-backward-requires
 backward-requires c κs =
     let s = c .before .before .before .before .before .before .before .before in
     let f = c .before .before .before .forward in
     (s .pre .0, forward-length (s .args .l .now) (s .args .w) (s .args .r .now) (f .last .1 .1 .1 .0) (f .ensures), s .pre .3)
-
-same-length : tie.Need-same-length
-same-length c = search needs
 
 returns : tie.Need-returns
 returns c =
@@ -27,4 +21,4 @@ returns c =
     solve-law (a .l .now) (a .w) (a .r .now) (f .last .1 .1 .1 .0) (g .last .1 .1 .0) (f .ensures) (g .ensures)
 
 pub solve-spec : {M : Type 1} → statement M
-solve-spec = tie.close (tie.spec forward-requires backward-requires same-length returns)
+solve-spec = tie.close (tie.spec (λ c κs. search needs) backward-requires (λ c. search needs) returns)

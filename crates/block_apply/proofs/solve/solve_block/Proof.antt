@@ -19,30 +19,15 @@ solve-requires-2 c κs =
     let e = c .before .if2 .taken in
     (p .0 ∙ ap (λ n. n * n) e, p .1 ∙ e, p .2 ∙ e, omega arith)
 
-solve-requires-3 : tie.Need-solve-requires-3
-solve-requires-3 c κs = search needs
-
-same-length : tie.Need-same-length
-same-length c = search needs
-
 returns : tie.Need-returns
 returns c =
     let a = c .before .before .before .before .before .before .before .before .args in
     c .before .before .solve .ensures ∙ sym (ap (λ n. blockSolve (a .l .now) n (a .r .now)) (c .before .before .before .before .if1 .taken))
-
-same-length-2 : tie.Need-same-length-2
-same-length-2 c = search needs
 
 returns-2 : tie.Need-returns-2
 returns-2 c =
     let a = c .before .before .before .before .before .before .before .before .before .args in
     c .before .before .solve2 .ensures ∙ sym (ap (λ n. blockSolve (a .l .now) n (a .r .now)) (c .before .before .before .before .if2 .taken))
 
-same-length-3 : tie.Need-same-length-3
-same-length-3 c = search needs
-
-returns-3 : tie.Need-returns-3
-returns-3 c = search needs
-
 pub solve-block-spec : {M : Type 1} → statement M
-solve-block-spec = tie.close (tie.spec solve-requires solve-requires-2 solve-requires-3 same-length returns same-length-2 returns-2 same-length-3 returns-3)
+solve-block-spec = tie.close (tie.spec solve-requires solve-requires-2 (λ c κs. search needs) (λ c. search needs) returns (λ c. search needs) returns-2 (λ c. search needs) (λ c. search needs))

@@ -15,18 +15,6 @@ mul-largest c = omega (arith, square-fits (c .before .before .args .b .size) (c 
 largest-requires : tie.Need-largest-requires
 largest-requires c κs = square-fits (c .before .before .args .b .size) (c .before .before .pre .0)
 
-larger-requires : tie.Need-larger-requires
-larger-requires c κs = search needs
-
-skewed-requires : tie.Need-skewed-requires
-skewed-requires c κs = search needs
-
-refused-requires : tie.Need-refused-requires
-refused-requires c κs = search needs
-
-factor-rows-requires : tie.Need-factor-rows-requires
-factor-rows-requires c κs = search needs
-
 returns : tie.Need-returns
 unfolding factored
 returns c =
@@ -52,9 +40,9 @@ factor-spec =
     (tie.spec
     mul-largest
     largest-requires
-    larger-requires
-    skewed-requires
-    refused-requires
-    factor-rows-requires
+    (λ c κs. search needs)
+    (λ c κs. search needs)
+    (λ c κs. search needs)
+    (λ c κs. search needs)
     returns
     returns-2)

@@ -18,32 +18,8 @@ Inv-loop a w first tol table l₀ i₀ l i = (i ≤ w) × (factorRows (inBlock w
 abbrev μ-loop : tie.MeasureT-loop
 μ-loop a w first tol table l₀ i₀ l i = w - i
 
-blanks-requires : tie.Need-blanks-requires Inv-loop μ-loop
-blanks-requires c κs = search needs
-
 loop-holds : tie.Need-loop-holds Inv-loop μ-loop
 loop-holds c = (omega arith, rw (sub-zero, c .blanks .ensures))
-
-fill-row-requires : tie.Need-fill-row-requires Inv-loop μ-loop
-fill-row-requires c κs = search needs
-
-rest-requires : tie.Need-rest-requires Inv-loop μ-loop
-rest-requires c κs = search needs
-
-above-requires : tie.Need-above-requires Inv-loop μ-loop
-above-requires c κs = search needs
-
-root-by-requires : tie.Need-root-by-requires Inv-loop μ-loop
-root-by-requires c κs = search needs
-
-put-requires : tie.Need-put-requires Inv-loop μ-loop
-put-requires c κs = search needs
-
-add-i : tie.Need-add-i Inv-loop μ-loop
-add-i c = search needs
-
-loop-less : tie.Need-loop-less Inv-loop μ-loop
-loop-less c = omega arith
 
 loop-again : tie.Need-loop-again Inv-loop μ-loop
 loop-again c =
@@ -56,12 +32,6 @@ loop-again c =
       sym (row-more (inBlock (x .w)) (denseEntry (x .w) (x .a .now)) (pivotRow (x .first)) (x .tol) (x .w) (h .loop .i) (h .loop .l) (f .last .1 .0) (d .result) (t .result) (omega arith)
           (f .ensures) (d .ensures) (t .ensures) (c .before .root-by .result) (c .put .last .0) (c .before .before .before .if1 .taken) (c .before .root-by .ensures) (c .put .ensures)) ∙ h .loop .inv .1,
     )
-
-add-t18 : tie.Need-add-t18 Inv-loop μ-loop
-add-t18 c = search needs
-
-refused-requires : tie.Need-refused-requires Inv-loop μ-loop
-refused-requires c κs = search needs
 
 returns : tie.Need-returns Inv-loop μ-loop
 unfolding factored
@@ -88,17 +58,17 @@ factor-rows-spec =
     (tie.spec
     Inv-loop
     μ-loop
-    blanks-requires
+    (λ c κs. search needs)
     loop-holds
-    fill-row-requires
-    rest-requires
-    above-requires
-    root-by-requires
-    put-requires
-    add-i
-    loop-less
+    (λ c κs. search needs)
+    (λ c κs. search needs)
+    (λ c κs. search needs)
+    (λ c κs. search needs)
+    (λ c κs. search needs)
+    (λ c. search needs)
+    (λ c. omega arith)
     loop-again
-    add-t18
-    refused-requires
+    (λ c. search needs)
+    (λ c κs. search needs)
     returns
     returns-2)

@@ -20,25 +20,10 @@ Inv-loop a l w i j sum₀ k₀ sum k = (k ≤ j) × (sum ≡ reduced (denseEntry
 abbrev μ-loop : tie.MeasureT-loop
 μ-loop a l w i j sum₀ k₀ sum k = j - k
 
-given-requires : tie.Need-given-requires Inv-loop μ-loop
-given-requires c κs = search needs
-
 loop-holds : tie.Need-loop-holds Inv-loop μ-loop
 loop-holds c =
     let x = c .before .args in
     (omega arith, c .given .ensures ∙ reduced-none (denseEntry (x .w) (x .a .now) (x .i) (x .j)) (λ k. getD (x .l .now) (inBlock (x .w) (x .i) k) nan *ᶠ getD (x .l .now) (inBlock (x .w) (x .j) k) nan))
-
-at-requires : tie.Need-at-requires Inv-loop μ-loop
-at-requires c κs = search needs
-
-at-requires-2 : tie.Need-at-requires-2 Inv-loop μ-loop
-at-requires-2 c κs = search needs
-
-add-k : tie.Need-add-k Inv-loop μ-loop
-add-k c = search needs
-
-loop-less : tie.Need-loop-less Inv-loop μ-loop
-loop-less c = omega arith
 
 loop-again : tie.Need-loop-again Inv-loop μ-loop
 loop-again c =
@@ -62,11 +47,11 @@ rest-spec =
     (tie.spec
     Inv-loop
     μ-loop
-    given-requires
+    (λ c κs. search needs)
     loop-holds
-    at-requires
-    at-requires-2
-    add-k
-    loop-less
+    (λ c κs. search needs)
+    (λ c κs. search needs)
+    (λ c. search needs)
+    (λ c. omega arith)
     loop-again
     returns)

@@ -17,8 +17,5 @@ mul-result-2 c = omega (arith, row-fits (c .args .i) (c .args .w) (c .pre .0) (c
 element-copy-out-result : tie.Need-element-copy-out-result
 element-copy-out-result c = omega (arith, row-fits (c .args .i) (c .args .w) (c .pre .0) (c .pre .2))
 
-returns : tie.Need-returns
-returns c = search needs
-
 pub at-spec : {M : Type 1} → statement M
-at-spec = tie.close (tie.spec mul-result add-result mul-result-2 element-copy-out-result returns)
+at-spec = tie.close (tie.spec mul-result add-result mul-result-2 element-copy-out-result (λ c. search needs))

@@ -17,8 +17,5 @@ mul-l-2 c = omega (arith, row-fits (c .args .i) (c .args .w) (c .pre .0) (c .pre
 element-write-l : tie.Need-element-write-l
 element-write-l c = omega (arith, row-fits (c .args .i) (c .args .w) (c .pre .0) (c .pre .2))
 
-returns : tie.Need-returns
-returns c = search needs
-
 pub put-spec : {M : Type 1} → statement M
-put-spec = tie.close (tie.spec mul-l add-l mul-l-2 element-write-l returns)
+put-spec = tie.close (tie.spec mul-l add-l mul-l-2 element-write-l (λ c. search needs))

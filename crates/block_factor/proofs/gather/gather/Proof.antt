@@ -20,9 +20,6 @@ Inv-loop rows row-ptr col-idx values first w a₀ i₀ a i = (i ≤ w) × (a ≡
 abbrev μ-loop : tie.MeasureT-loop
 μ-loop rows row-ptr col-idx values first w a₀ i₀ a i = w - i
 
-blanks-requires : tie.Need-blanks-requires Inv-loop μ-loop
-blanks-requires c κs = search needs
-
 loop-holds : tie.Need-loop-holds Inv-loop μ-loop
 loop-holds c =
     let x = c .before .before .before .before .args in
@@ -31,14 +28,8 @@ loop-holds c =
 add-wide : tie.Need-add-wide Inv-loop μ-loop
 add-wide c = omega (arith, c .before .before .before .before .before .before .pre .0 .fewRows, c .before .before .before .before .before .before .pre .1 .0, c .loop-test .taken)
 
-mul-wide : tie.Need-mul-wide Inv-loop μ-loop
-mul-wide c = search needs
-
 shared-slice-read-wide : tie.Need-shared-slice-read-wide Inv-loop μ-loop
 shared-slice-read-wide c = omega (arith, c .before .before .before .before .before .before .before .pre .0 .long, c .before .before .before .before .before .before .before .pre .1 .0, c .before .loop-test .taken)
-
-wide-requires : tie.Need-wide-requires Inv-loop μ-loop
-wide-requires c κs = search needs
 
 add-wide-2 : tie.Need-add-wide-2 Inv-loop μ-loop
 add-wide-2 c = omega (arith, c .before .before .before .before .before .before .before .before .pre .0 .fewRows, c .before .before .before .before .before .before .before .before .pre .1 .0, c .before .before .loop-test .taken)
@@ -46,14 +37,8 @@ add-wide-2 c = omega (arith, c .before .before .before .before .before .before .
 add-wide-3 : tie.Need-add-wide-3 Inv-loop μ-loop
 add-wide-3 c = omega (arith, c .before .before .before .before .before .before .before .before .pre .0 .fewRows, c .before .before .before .before .before .before .before .before .pre .1 .0, c .before .before .loop-test .taken)
 
-mul-wide-2 : tie.Need-mul-wide-2 Inv-loop μ-loop
-mul-wide-2 c = search needs
-
 shared-slice-read-wide-2 : tie.Need-shared-slice-read-wide-2 Inv-loop μ-loop
 shared-slice-read-wide-2 c = omega (arith, c .before .before .before .before .before .before .before .before .before .pre .0 .long, c .before .before .before .before .before .before .before .before .before .pre .1 .0, c .before .before .before .loop-test .taken)
-
-wide-requires-2 : tie.Need-wide-requires-2 Inv-loop μ-loop
-wide-requires-2 c κs = search needs
 
 mul-start : tie.Need-mul-start Inv-loop μ-loop
 mul-start c = omega (arith, row-fits (c .before .before .before .before .before .loop .i) (c .before .before .before .before .before .before .before .before .before .before .args .w) (c .before .before .before .before .loop-test .taken) (c .before .before .before .before .before .before .before .before .before .before .pre .1 .1))
@@ -89,12 +74,6 @@ gather-row-requires c κs =
       place-zeros (blockEntry m (x .first)) (x .w) (l .i) _ _ (l .a) refl refl h (l .inv .1),
     )
 
-add-i : tie.Need-add-i Inv-loop μ-loop
-add-i c = search needs
-
-loop-less : tie.Need-loop-less Inv-loop μ-loop
-loop-less c = omega arith
-
 loop-again : tie.Need-loop-again Inv-loop μ-loop
 loop-again c =
     let s = c .before .before .before .before .before .before .before .before .before .before .before .before .before in
@@ -121,17 +100,17 @@ gather-spec =
     (tie.spec
     Inv-loop
     μ-loop
-    blanks-requires
+    (λ c κs. search needs)
     loop-holds
     add-wide
-    mul-wide
+    (λ c. search needs)
     shared-slice-read-wide
-    wide-requires
+    (λ c κs. search needs)
     add-wide-2
     add-wide-3
-    mul-wide-2
+    (λ c. search needs)
     shared-slice-read-wide-2
-    wide-requires-2
+    (λ c κs. search needs)
     mul-start
     add-end
     mul-a
@@ -139,7 +118,7 @@ gather-spec =
     part-a-start
     part-a-end
     gather-row-requires
-    add-i
-    loop-less
+    (λ c. search needs)
+    (λ c. omega arith)
     loop-again
     returns)

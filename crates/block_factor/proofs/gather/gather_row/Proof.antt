@@ -23,36 +23,6 @@ loop-holds c =
     let x = c .before .before .before .args in
     (omega arith, omega arith, refl, gather-none (x .col-idx .now) (x .values .now) (x .from) (x .first) (x .row .now) (c .before .before .before .pre .1))
 
-mul-wide : tie.Need-mul-wide Inv-loop μ-loop
-mul-wide c = search needs
-
-shared-slice-read-wide : tie.Need-shared-slice-read-wide Inv-loop μ-loop
-shared-slice-read-wide c = search needs
-
-wide-requires : tie.Need-wide-requires Inv-loop μ-loop
-wide-requires c κs = search needs
-
-mul-row : tie.Need-mul-row Inv-loop μ-loop
-mul-row c = search needs
-
-shared-slice-read-row : tie.Need-shared-slice-read-row Inv-loop μ-loop
-shared-slice-read-row c = search needs
-
-mul-row-2 : tie.Need-mul-row-2 Inv-loop μ-loop
-mul-row-2 c = search needs
-
-slice-read-row : tie.Need-slice-read-row Inv-loop μ-loop
-slice-read-row c = search needs
-
-slice-write-row : tie.Need-slice-write-row Inv-loop μ-loop
-slice-write-row c = search needs
-
-add-k : tie.Need-add-k Inv-loop μ-loop
-add-k c = search needs
-
-loop-less : tie.Need-loop-less Inv-loop μ-loop
-loop-less c = omega arith
-
 loop-again : tie.Need-loop-again Inv-loop μ-loop
 loop-again c =
     let s = c .before .before .before .before .before .before .before .before in
@@ -90,16 +60,16 @@ gather-row-spec =
     Inv-loop
     μ-loop
     loop-holds
-    mul-wide
-    shared-slice-read-wide
-    wide-requires
-    mul-row
-    shared-slice-read-row
-    mul-row-2
-    slice-read-row
-    slice-write-row
-    add-k
-    loop-less
+    (λ c. search needs)
+    (λ c. search needs)
+    (λ c κs. search needs)
+    (λ c. search needs)
+    (λ c. search needs)
+    (λ c. search needs)
+    (λ c. search needs)
+    (λ c. search needs)
+    (λ c. search needs)
+    (λ c. omega arith)
     loop-again
     same-length
     returns)

@@ -14,44 +14,17 @@ mul-largest c = let x = c .before .before .before in omega (arith, square-fits (
 largest-requires : tie.Need-largest-requires
 largest-requires c κs = let x = c .before .before .before in square-fits (x .args .b .size) (x .pre .0)
 
-larger-requires : tie.Need-larger-requires
-larger-requires c κs = search needs
-
 mul-largest-2 : tie.Need-mul-largest-2
 mul-largest-2 c = let x = c .before .before .before .before .before .before in omega (arith, square-fits (x .args .b .size) (x .pre .0))
 
 largest-requires-2 : tie.Need-largest-requires-2
 largest-requires-2 c κs = let x = c .before .before .before .before .before .before in square-fits (x .args .b .size) (x .pre .0)
 
-larger-requires-2 : tie.Need-larger-requires-2
-larger-requires-2 c κs = search needs
-
-skewed-requires : tie.Need-skewed-requires
-skewed-requires c κs = search needs
-
-apart-requires : tie.Need-apart-requires
-apart-requires c κs = search needs
-
 returns : tie.Need-returns
 returns c = not-both (c .apart .result .both) (c .apart .ensures)
 
-skewed-requires-2 : tie.Need-skewed-requires-2
-skewed-requires-2 c κs = search needs
-
-apart-requires-2 : tie.Need-apart-requires-2
-apart-requires-2 c κs = search needs
-
 returns-2 : tie.Need-returns-2
 returns-2 c = not-both (c .apart2 .result .both) (c .apart2 .ensures)
-
-blanks-requires : tie.Need-blanks-requires
-blanks-requires c κs = search needs
-
-blanks-requires-2 : tie.Need-blanks-requires-2
-blanks-requires-2 c κs = search needs
-
-pair-rows-requires : tie.Need-pair-rows-requires
-pair-rows-requires c κs = search needs
 
 returns-3 : tie.Need-returns-3
 returns-3 c = λ e.
@@ -73,17 +46,17 @@ factor-pair-spec =
     (tie.spec
     mul-largest
     largest-requires
-    larger-requires
+    (λ c κs. search needs)
     mul-largest-2
     largest-requires-2
-    larger-requires-2
-    skewed-requires
-    apart-requires
+    (λ c κs. search needs)
+    (λ c κs. search needs)
+    (λ c κs. search needs)
     returns
-    skewed-requires-2
-    apart-requires-2
+    (λ c κs. search needs)
+    (λ c κs. search needs)
     returns-2
-    blanks-requires
-    blanks-requires-2
-    pair-rows-requires
+    (λ c κs. search needs)
+    (λ c κs. search needs)
+    (λ c κs. search needs)
     returns-3)

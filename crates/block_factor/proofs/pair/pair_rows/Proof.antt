@@ -17,42 +17,6 @@ abbrev μ-loop : tie.MeasureT-loop
 loop-holds : tie.Need-loop-holds Inv-loop μ-loop
 loop-holds c = (omega arith, rows-begin (c .args .w) (c .args .a .now) (c .args .s) (c .args .l .now) (c .pre .1), rows-begin (c .args .w) (c .args .b .now) (c .args .t) (c .args .m .now) (c .pre .2))
 
-fill-row-requires : tie.Need-fill-row-requires Inv-loop μ-loop
-fill-row-requires c κs = search needs
-
-fill-row-requires-2 : tie.Need-fill-row-requires-2 Inv-loop μ-loop
-fill-row-requires-2 c κs = search needs
-
-rest-requires : tie.Need-rest-requires Inv-loop μ-loop
-rest-requires c κs = search needs
-
-rest-requires-2 : tie.Need-rest-requires-2 Inv-loop μ-loop
-rest-requires-2 c κs = search needs
-
-above-requires : tie.Need-above-requires Inv-loop μ-loop
-above-requires c κs = search needs
-
-above-requires-2 : tie.Need-above-requires-2 Inv-loop μ-loop
-above-requires-2 c κs = search needs
-
-root-by-requires : tie.Need-root-by-requires Inv-loop μ-loop
-root-by-requires c κs = search needs
-
-root-by-requires-2 : tie.Need-root-by-requires-2 Inv-loop μ-loop
-root-by-requires-2 c κs = search needs
-
-put-requires : tie.Need-put-requires Inv-loop μ-loop
-put-requires c κs = search needs
-
-put-requires-2 : tie.Need-put-requires-2 Inv-loop μ-loop
-put-requires-2 c κs = search needs
-
-add-i : tie.Need-add-i Inv-loop μ-loop
-add-i c = search needs
-
-loop-less : tie.Need-loop-less Inv-loop μ-loop
-loop-less c = omega arith
-
 loop-again : tie.Need-loop-again Inv-loop μ-loop
 loop-again c =
     let x = c .before .before .before .before .before .before .before .before .before .before .before .before .before .before .before .before .before .before .before .before .args in
@@ -92,18 +56,18 @@ pair-rows-spec =
     Inv-loop
     μ-loop
     loop-holds
-    fill-row-requires
-    fill-row-requires-2
-    rest-requires
-    rest-requires-2
-    above-requires
-    above-requires-2
-    root-by-requires
-    root-by-requires-2
-    put-requires
-    put-requires-2
-    add-i
-    loop-less
+    (λ c κs. search needs)
+    (λ c κs. search needs)
+    (λ c κs. search needs)
+    (λ c κs. search needs)
+    (λ c κs. search needs)
+    (λ c κs. search needs)
+    (λ c κs. search needs)
+    (λ c κs. search needs)
+    (λ c κs. search needs)
+    (λ c κs. search needs)
+    (λ c. search needs)
+    (λ c. omega arith)
     loop-again
     returns
     returns-2

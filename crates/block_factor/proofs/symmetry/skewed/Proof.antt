@@ -21,20 +21,11 @@ loop-holds : tie.Need-loop-holds Inv-loop μ-loop
 unfolding skewed
 loop-holds c = (omega arith, refl)
 
-row-skewed-requires : tie.Need-row-skewed-requires Inv-loop μ-loop
-row-skewed-requires c κs = search needs
-
 returns : tie.Need-returns Inv-loop μ-loop
 returns c =
     let x = c .before .before .before .before .args in
     let l = c .before .before .before .loop in
     sym (l .inv .1 ∙ upTo-found (rowApart (dense (x .w) (x .a .now)) (x .w) (x .tol)) (x .w) (l .i) (omega arith) (sym (c .before .row-skewed .ensures) ∙ c .if1 .taken))
-
-add-i : tie.Need-add-i Inv-loop μ-loop
-add-i c = search needs
-
-loop-less : tie.Need-loop-less Inv-loop μ-loop
-loop-less c = omega arith
 
 loop-again : tie.Need-loop-again Inv-loop μ-loop
 loop-again c =
@@ -54,9 +45,9 @@ skewed-spec =
     Inv-loop
     μ-loop
     loop-holds
-    row-skewed-requires
+    (λ c κs. search needs)
     returns
-    add-i
-    loop-less
+    (λ c. search needs)
+    (λ c. omega arith)
     loop-again
     returns-2)

@@ -58,12 +58,6 @@ shared-slice-read-rest c = omega (arith, room (c .before .before .before .before
 rest-requires : tie.Need-rest-requires Inv-loop μ-loop
 rest-requires c κs = let f = room (c .before .before .before .before .before .before) in let g = long (c .before .before .before .before) in (omega arith, omega arith)
 
-above-requires : tie.Need-above-requires Inv-loop μ-loop
-above-requires c κs = search needs
-
-root-requires : tie.Need-root-requires Inv-loop μ-loop
-root-requires c κs = search needs
-
 add-l : tie.Need-add-l Inv-loop μ-loop
 add-l c = omega (arith, room (c .before .before .before .before .before .before .before .before .before .before))
 
@@ -91,12 +85,6 @@ add-start c = omega (arith, room (c .before .before .before .before .before .bef
 
 add-start-2 : tie.Need-add-start-2 Inv-loop μ-loop
 add-start-2 c = omega (arith, room (c .before .before .before .before .before .before .before .before .before .before))
-
-add-i : tie.Need-add-i Inv-loop μ-loop
-add-i c = search needs
-
-loop-less : tie.Need-loop-less Inv-loop μ-loop
-loop-less c = omega arith
 
 loop-again : tie.Need-loop-again Inv-loop μ-loop
 loop-again c =
@@ -132,8 +120,8 @@ factor-rows-spec =
     mul-rest-2
     shared-slice-read-rest
     rest-requires
-    above-requires
-    root-requires
+    (λ c κs. search needs)
+    (λ c κs. search needs)
     add-l
     mul-l
     slice-write-l
@@ -141,8 +129,8 @@ factor-rows-spec =
     returns
     add-start
     add-start-2
-    add-i
-    loop-less
+    (λ c. search needs)
+    (λ c. omega arith)
     loop-again
     same-length-2
     returns-2)

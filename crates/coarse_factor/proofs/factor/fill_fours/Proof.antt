@@ -36,9 +36,6 @@ mul-base c = omega (arith, place (c .before .before .args .i) 0 (c .before .befo
 loop-holds : tie.Need-loop-holds Inv-loop μ-loop
 loop-holds c = (omega arith, refl, refl, left-none (entryIn (c .before .before .args .m .now) (c .before .before .args .c)) (c .before .before .args .i) (c .before .before .args .l .now))
 
-add-loop : tie.Need-add-loop Inv-loop μ-loop
-add-loop c = omega arith
-
 add-second : tie.Need-add-second Inv-loop μ-loop
 add-second c = omega (arith, room c)
 
@@ -96,9 +93,6 @@ add-row-2 c = omega (arith, room (c .before .before .before .before .before .bef
 add-j : tie.Need-add-j Inv-loop μ-loop
 add-j c = omega (arith, room (c .before .before .before .before .before .before .before .before .before))
 
-loop-less : tie.Need-loop-less Inv-loop μ-loop
-loop-less c = omega arith
-
 loop-again : tie.Need-loop-again Inv-loop μ-loop
 loop-again c =
     let a = c .before .before .before .before .before .before .before .before .before .before .before .before .before .args in
@@ -128,7 +122,7 @@ fill-fours-spec =
     μ-loop
     mul-base
     loop-holds
-    add-loop
+    (λ c. omega arith)
     add-second
     add-second-2
     add-third
@@ -148,7 +142,7 @@ fill-fours-spec =
     add-row
     add-row-2
     add-j
-    loop-less
+    (λ c. omega arith)
     loop-again
     same-length
     returns)

@@ -34,9 +34,6 @@ room c =
 mul-base : tie.Need-mul-base Inv-loop μ-loop
 mul-base c = omega (arith, place (c .before .before .args .i) 0 (c .before .before .args .c) (c .before .before .args .c) (omega arith) (omega arith))
 
-add-row : tie.Need-add-row Inv-loop μ-loop
-add-row c = search needs
-
 mul-row : tie.Need-mul-row Inv-loop μ-loop
 mul-row c = omega (arith, triangle-small (c .before .before .args .from) (omega arith))
 
@@ -79,12 +76,6 @@ add-row-2 c = omega (arith, room (c .before .before .before .before))
 add-row-3 : tie.Need-add-row-3 Inv-loop μ-loop
 add-row-3 c = omega (arith, room (c .before .before .before .before))
 
-add-j : tie.Need-add-j Inv-loop μ-loop
-add-j c = search needs
-
-loop-less : tie.Need-loop-less Inv-loop μ-loop
-loop-less c = omega arith
-
 loop-again : tie.Need-loop-again Inv-loop μ-loop
 loop-again c =
     let a = c .before .before .before .before .before .before .before .before .args in
@@ -111,7 +102,7 @@ fill-rest-spec =
     Inv-loop
     μ-loop
     mul-base
-    add-row
+    (λ c. search needs)
     mul-row
     loop-holds
     add-rest
@@ -126,8 +117,8 @@ fill-rest-spec =
     slice-write-l
     add-row-2
     add-row-3
-    add-j
-    loop-less
+    (λ c. search needs)
+    (λ c. omega arith)
     loop-again
     same-length
     returns)

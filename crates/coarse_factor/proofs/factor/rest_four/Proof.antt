@@ -24,57 +24,6 @@ loop-holds c =
     let f : ℕ → ℕ → Float = λ r k. getD (a .l .now) (a .a + k) nan *ᶠ getD (a .l .now) (r + k) nan in
     (omega arith, reduced-none (a .x .a) (f (a .b)), reduced-none (a .x .b) (f (a .c)), reduced-none (a .x .c) (f (a .d)), reduced-none (a .x .d) (f (a .e)))
 
-add-y : tie.Need-add-y Inv-loop μ-loop
-add-y c = omega arith
-
-mul-y : tie.Need-mul-y Inv-loop μ-loop
-mul-y c = omega arith
-
-shared-slice-read-y : tie.Need-shared-slice-read-y Inv-loop μ-loop
-shared-slice-read-y c = omega arith
-
-add-s : tie.Need-add-s Inv-loop μ-loop
-add-s c = omega arith
-
-mul-s : tie.Need-mul-s Inv-loop μ-loop
-mul-s c = omega arith
-
-shared-slice-read-s : tie.Need-shared-slice-read-s Inv-loop μ-loop
-shared-slice-read-s c = omega arith
-
-add-t : tie.Need-add-t Inv-loop μ-loop
-add-t c = omega arith
-
-mul-t : tie.Need-mul-t Inv-loop μ-loop
-mul-t c = omega arith
-
-shared-slice-read-t : tie.Need-shared-slice-read-t Inv-loop μ-loop
-shared-slice-read-t c = omega arith
-
-add-u : tie.Need-add-u Inv-loop μ-loop
-add-u c = omega arith
-
-mul-u : tie.Need-mul-u Inv-loop μ-loop
-mul-u c = omega arith
-
-shared-slice-read-u : tie.Need-shared-slice-read-u Inv-loop μ-loop
-shared-slice-read-u c = omega arith
-
-add-v : tie.Need-add-v Inv-loop μ-loop
-add-v c = omega arith
-
-mul-v : tie.Need-mul-v Inv-loop μ-loop
-mul-v c = omega arith
-
-shared-slice-read-v : tie.Need-shared-slice-read-v Inv-loop μ-loop
-shared-slice-read-v c = omega arith
-
-add-k : tie.Need-add-k Inv-loop μ-loop
-add-k c = omega arith
-
-loop-less : tie.Need-loop-less Inv-loop μ-loop
-loop-less c = omega arith
-
 loop-again : tie.Need-loop-again Inv-loop μ-loop
 loop-again c =
     let a = c .before .before .before .before .before .before .before .args in
@@ -100,22 +49,22 @@ rest-four-spec =
     Inv-loop
     μ-loop
     loop-holds
-    add-y
-    mul-y
-    shared-slice-read-y
-    add-s
-    mul-s
-    shared-slice-read-s
-    add-t
-    mul-t
-    shared-slice-read-t
-    add-u
-    mul-u
-    shared-slice-read-u
-    add-v
-    mul-v
-    shared-slice-read-v
-    add-k
-    loop-less
+    (λ c. omega arith)
+    (λ c. omega arith)
+    (λ c. omega arith)
+    (λ c. omega arith)
+    (λ c. omega arith)
+    (λ c. omega arith)
+    (λ c. omega arith)
+    (λ c. omega arith)
+    (λ c. omega arith)
+    (λ c. omega arith)
+    (λ c. omega arith)
+    (λ c. omega arith)
+    (λ c. omega arith)
+    (λ c. omega arith)
+    (λ c. omega arith)
+    (λ c. omega arith)
+    (λ c. omega arith)
     loop-again
     returns)

@@ -21,24 +21,6 @@ abbrev μ-loop : tie.MeasureT-loop
 loop-holds : tie.Need-loop-holds Inv-loop μ-loop
 loop-holds c = (omega arith, refl, largest-none (c .before .args .m .now))
 
-mul-magnitude : tie.Need-mul-magnitude Inv-loop μ-loop
-mul-magnitude c = search needs
-
-shared-slice-read-magnitude : tie.Need-shared-slice-read-magnitude Inv-loop μ-loop
-shared-slice-read-magnitude c = search needs
-
-magnitude-requires : tie.Need-magnitude-requires Inv-loop μ-loop
-magnitude-requires c κs = search needs
-
-larger-requires : tie.Need-larger-requires Inv-loop μ-loop
-larger-requires c κs = search needs
-
-add-k : tie.Need-add-k Inv-loop μ-loop
-add-k c = search needs
-
-loop-less : tie.Need-loop-less Inv-loop μ-loop
-loop-less c = omega arith
-
 loop-again : tie.Need-loop-again Inv-loop μ-loop
 loop-again c = (omega arith, c .before .before .before .before .loop .inv .1, largest-more (c .before .before .before .before .before .before .args .m .now) (c .before .before .before .before .loop .k) (omega arith) (c .before .before .before .before .loop .inv .2) (c .before .magnitude .ensures) (c .larger .ensures))
 
@@ -52,11 +34,11 @@ scale-spec =
     Inv-loop
     μ-loop
     loop-holds
-    mul-magnitude
-    shared-slice-read-magnitude
-    magnitude-requires
-    larger-requires
-    add-k
-    loop-less
+    (λ c. search needs)
+    (λ c. search needs)
+    (λ c κs. search needs)
+    (λ c κs. search needs)
+    (λ c. search needs)
+    (λ c. omega arith)
     loop-again
     returns)

@@ -5,20 +5,11 @@ use borrow.Author.Needs.{needs}
 use Rattle.coarse_factor.proofs.inverse.invert.Statement.{statement}
 use Rattle.coarse_factor.proofs.inverse.invert.Tie as tie
 
-solve-fours-requires : tie.Need-solve-fours-requires
-solve-fours-requires c κs = search needs
-
 solve-rest-requires : tie.Need-solve-rest-requires
 solve-rest-requires c κs =
     let p = c .before .before .before .before .before .before .before .pre in
     let f = c .before .before .before .solve-fours in
     (p .0, omega (arith, p .1, f .ensures .1), f .ensures .0, p .2)
-
-average-requires : tie.Need-average-requires
-average-requires c κs = search needs
-
-same-length : tie.Need-same-length
-same-length c = search needs
 
 returns : tie.Need-returns
 returns c =
@@ -30,4 +21,4 @@ returns c =
 pub invert-spec : {M : Type 1} → statement M
 invert-spec =
     tie.close
-    (tie.spec solve-fours-requires solve-rest-requires average-requires same-length returns)
+    (tie.spec (λ c κs. search needs) solve-rest-requires (λ c κs. search needs) (λ c. search needs) returns)

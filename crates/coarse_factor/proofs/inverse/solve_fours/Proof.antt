@@ -28,20 +28,8 @@ room c =
     let n : (o .i + 4) * a .c ≡ o .i * a .c + (a .c + a .c + a .c + a .c) = omega arith in
     (omega (arith, c .before .before .before .before .pre .1, o .inv .1, o .inv .2, mul-le-mul-right (a .c) h, n), o .inv .2)
 
-add-block : tie.Need-add-block Inv-loop μ-loop
-add-block c = search needs
-
-add-block-2 : tie.Need-add-block-2 Inv-loop μ-loop
-add-block-2 c = search needs
-
-add-block-3 : tie.Need-add-block-3 Inv-loop μ-loop
-add-block-3 c = search needs
-
 loop-holds : tie.Need-loop-holds Inv-loop μ-loop
 loop-holds c = let a = c .before .before .args in (omega arith, omega arith, refl, solved-none (a .c) (a .lower .now) (a .inverse .now))
-
-add-loop : tie.Need-add-loop Inv-loop μ-loop
-add-loop c = omega arith
 
 add-to : tie.Need-add-to Inv-loop μ-loop
 add-to c = omega (arith, room c)
@@ -63,12 +51,6 @@ solve-four-requires c κs =
     let a = c .before .before .before .before .before .args in
     let p = c .before .before .before .before .before .pre in
     (omega arith, p .2, row-length (c .before .before .loop .inverse) (c .before .before .loop .from) (a .c + a .c + a .c + a .c) (room (c .before) .0), p .0)
-
-add-i : tie.Need-add-i Inv-loop μ-loop
-add-i c = search needs
-
-loop-less : tie.Need-loop-less Inv-loop μ-loop
-loop-less c = omega arith
 
 loop-again : tie.Need-loop-again Inv-loop μ-loop
 loop-again c =
@@ -95,19 +77,19 @@ solve-fours-spec =
     (tie.spec
     Inv-loop
     μ-loop
-    add-block
-    add-block-2
-    add-block-3
+    (λ c. search needs)
+    (λ c. search needs)
+    (λ c. search needs)
     loop-holds
-    add-loop
+    (λ c. omega arith)
     add-to
     mul-solve-four
     sub-solve-four
     part-solve-four-start
     part-solve-four-end
     solve-four-requires
-    add-i
-    loop-less
+    (λ c. search needs)
+    (λ c. omega arith)
     loop-again
     same-length
     returns)

@@ -63,12 +63,6 @@ unit-solve-requires c κs =
     let n = row-length (o .inverse) (o .from) (a .c) (omega (arith, room (c .before))) in
     (p .0 ∙ ap (λ t. packedLength t) (sym n), omega (arith, n), omega (arith, n, p .3))
 
-add-i : tie.Need-add-i Inv-loop μ-loop
-add-i c = search needs
-
-loop-less : tie.Need-loop-less Inv-loop μ-loop
-loop-less c = omega arith
-
 loop-again : tie.Need-loop-again Inv-loop μ-loop
 loop-again c =
     let a = c .before .before .before .before .before .before .before .before .args in
@@ -105,8 +99,8 @@ solve-rest-spec =
     part-unit-solve-start
     part-unit-solve-end
     unit-solve-requires
-    add-i
-    loop-less
+    (λ c. search needs)
+    (λ c. omega arith)
     loop-again
     same-length
     returns)

@@ -7,18 +7,12 @@ use borrow.Author.Needs.{needs}
 use Rattle.coarse_factor.proofs.inverse.unit_solve.Statement.{statement}
 use Rattle.coarse_factor.proofs.inverse.unit_solve.Tie as tie
 
-set-unit-requires : tie.Need-set-unit-requires
-set-unit-requires c κs = search needs
-
 solve-requires : tie.Need-solve-requires
 solve-requires c κs =
     let a = c .before .before .before .before .before .before .before .args in
     let p = c .before .before .before .before .before .before .before .pre in
     let n : length (c .before .before .before .set-unit .last .0) ≡ length (a .y .now) = ap length (c .before .before .before .set-unit .ensures) ∙ length-unit (length (a .y .now)) (a .i) in
     (p .0 ∙ ap (λ t. packedLength t) (sym n), omega (arith, n, p .2))
-
-same-length : tie.Need-same-length
-same-length c = search needs
 
 returns : tie.Need-returns
 returns c =
@@ -28,4 +22,4 @@ returns c =
     c .before .before .solve .ensures ∙ rw (n, s .ensures)
 
 pub unit-solve-spec : {M : Type 1} → statement M
-unit-solve-spec = tie.close (tie.spec set-unit-requires solve-requires same-length returns)
+unit-solve-spec = tie.close (tie.spec (λ c κs. search needs) solve-requires (λ c. search needs) returns)

@@ -36,12 +36,6 @@ loop-holds c =
     let z : a .c - 0 ≡ a .c = omega arith in
     (omega arith, rw z (c .before .before .pre .2), backward4-none (a .l .now) (a .c) (a .w .now) (c .before .before .pre .1), refl, λ e. absurd (true≢false (sym e)))
 
-sub-i : tie.Need-sub-i Inv-loop μ-loop
-sub-i c = omega arith
-
-sub-i-2 : tie.Need-sub-i-2 Inv-loop μ-loop
-sub-i-2 c = omega arith
-
 slice-aggregate-col-sums : tie.Need-slice-aggregate-col-sums Inv-loop μ-loop
 slice-aggregate-col-sums c = sym (c .before .before .before .loop .inv .3)
 
@@ -73,12 +67,6 @@ add-end c = omega (arith, facts (c .before .before .before .before .before .befo
 sub-end : tie.Need-sub-end Inv-loop μ-loop
 sub-end c = omega (arith, facts (c .before .before .before .before .before .before .before .before .before))
 
-add-k : tie.Need-add-k Inv-loop μ-loop
-add-k c = search needs
-
-loop-less : tie.Need-loop-less Inv-loop μ-loop
-loop-less c = omega arith
-
 loop-again : tie.Need-loop-again Inv-loop μ-loop
 loop-again c =
     let s = c .before .before .before .before .before .before .before .before .before .before .before .before .before in
@@ -108,8 +96,8 @@ backward-four-spec =
     Inv-loop
     μ-loop
     loop-holds
-    sub-i
-    sub-i-2
+    (λ c. omega arith)
+    (λ c. omega arith)
     slice-aggregate-col-sums
     col-sums-requires
     sub-put-lanes
@@ -118,8 +106,8 @@ backward-four-spec =
     put-lanes-requires
     add-end
     sub-end
-    add-k
-    loop-less
+    (λ c. search needs)
+    (λ c. omega arith)
     loop-again
     same-length
     returns)

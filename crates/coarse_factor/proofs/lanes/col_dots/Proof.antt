@@ -22,15 +22,6 @@ room c =
     let o = c .before .loop in
     rw (p .4) (walk-room (o .at) (c .before .before .args .i) (o .j) (c .before .before .args .c) (o .inv .0) (omega arith) (p .1) (o .inv .2))
 
-add-third : tie.Need-add-third Inv-loop μ-loop
-add-third c = omega arith
-
-add-fourth : tie.Need-add-fourth Inv-loop μ-loop
-add-fourth c = omega arith
-
-add-j : tie.Need-add-j Inv-loop μ-loop
-add-j c = omega arith
-
 loop-holds : tie.Need-loop-holds Inv-loop μ-loop
 loop-holds c =
     let a = c .args in
@@ -45,9 +36,6 @@ mul-kept c = omega (arith, room c)
 shared-slice-read-kept : tie.Need-shared-slice-read-kept Inv-loop μ-loop
 shared-slice-read-kept c = omega (arith, room (c .before))
 
-mul-kept-2 : tie.Need-mul-kept-2 Inv-loop μ-loop
-mul-kept-2 c = omega arith
-
 slice-write-kept : tie.Need-slice-write-kept Inv-loop μ-loop
 slice-write-kept c = omega (arith, c .before .before .loop .inv .7 .long)
 
@@ -57,50 +45,8 @@ mul-x c = omega (arith, room (c .before))
 shared-slice-read-x : tie.Need-shared-slice-read-x Inv-loop μ-loop
 shared-slice-read-x c = omega (arith, room (c .before .before))
 
-mul-s : tie.Need-mul-s Inv-loop μ-loop
-mul-s c = omega arith
-
-shared-slice-read-s : tie.Need-shared-slice-read-s Inv-loop μ-loop
-shared-slice-read-s c = omega arith
-
-add-t : tie.Need-add-t Inv-loop μ-loop
-add-t c = omega arith
-
-mul-t : tie.Need-mul-t Inv-loop μ-loop
-mul-t c = omega arith
-
-shared-slice-read-t : tie.Need-shared-slice-read-t Inv-loop μ-loop
-shared-slice-read-t c = omega arith
-
-add-u : tie.Need-add-u Inv-loop μ-loop
-add-u c = omega arith
-
-mul-u : tie.Need-mul-u Inv-loop μ-loop
-mul-u c = omega arith
-
-shared-slice-read-u : tie.Need-shared-slice-read-u Inv-loop μ-loop
-shared-slice-read-u c = omega arith
-
-add-v : tie.Need-add-v Inv-loop μ-loop
-add-v c = omega arith
-
-mul-v : tie.Need-mul-v Inv-loop μ-loop
-mul-v c = omega arith
-
-shared-slice-read-v : tie.Need-shared-slice-read-v Inv-loop μ-loop
-shared-slice-read-v c = omega arith
-
-add-at : tie.Need-add-at Inv-loop μ-loop
-add-at c = omega arith
-
 add-at-2 : tie.Need-add-at-2 Inv-loop μ-loop
 add-at-2 c = omega (arith, room (c .before .before .before .before .before .before))
-
-add-j-2 : tie.Need-add-j-2 Inv-loop μ-loop
-add-j-2 c = omega arith
-
-loop-less : tie.Need-loop-less Inv-loop μ-loop
-loop-less c = omega arith
 
 loop-again : tie.Need-loop-again Inv-loop μ-loop
 loop-again c =
@@ -132,32 +78,32 @@ col-dots-spec =
     (tie.spec
     Inv-loop
     μ-loop
-    add-third
-    add-fourth
-    add-j
+    (λ c. omega arith)
+    (λ c. omega arith)
+    (λ c. omega arith)
     loop-holds
     sub-kept
     mul-kept
     shared-slice-read-kept
-    mul-kept-2
+    (λ c. omega arith)
     slice-write-kept
     mul-x
     shared-slice-read-x
-    mul-s
-    shared-slice-read-s
-    add-t
-    mul-t
-    shared-slice-read-t
-    add-u
-    mul-u
-    shared-slice-read-u
-    add-v
-    mul-v
-    shared-slice-read-v
-    add-at
+    (λ c. omega arith)
+    (λ c. omega arith)
+    (λ c. omega arith)
+    (λ c. omega arith)
+    (λ c. omega arith)
+    (λ c. omega arith)
+    (λ c. omega arith)
+    (λ c. omega arith)
+    (λ c. omega arith)
+    (λ c. omega arith)
+    (λ c. omega arith)
+    (λ c. omega arith)
     add-at-2
-    add-j-2
-    loop-less
+    (λ c. omega arith)
+    (λ c. omega arith)
     loop-again
     same-length
     returns)

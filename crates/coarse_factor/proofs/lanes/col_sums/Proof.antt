@@ -18,30 +18,6 @@ room c =
     let s = c .before .before .before .before in
     rw (s .pre .0 .4) (end-room (s .args .end) (s .args .i) (s .args .c) (s .pre .0 .0) (s .pre .0 .1) (s .pre .0 .3))
 
-add-first : tie.Need-add-first
-add-first c = search needs
-
-mul-row-dots : tie.Need-mul-row-dots
-mul-row-dots c = search needs
-
-sub-row-dots : tie.Need-sub-row-dots
-sub-row-dots c = search needs
-
-part-row-dots-start : tie.Need-part-row-dots-start
-part-row-dots-start c = search needs
-
-part-row-dots-end : tie.Need-part-row-dots-end
-part-row-dots-end c = search needs
-
-sub-row-dots-2 : tie.Need-sub-row-dots-2
-sub-row-dots-2 c = search needs
-
-row-dots-requires : tie.Need-row-dots-requires
-row-dots-requires c κs = search needs
-
-same-length : tie.Need-same-length
-same-length c = search needs
-
 returns : tie.Need-returns
 returns c =
     let s = c .before .before .before .before .before .before .before in
@@ -66,15 +42,6 @@ mul-kept c = omega (arith, room (c .before .before .before .before .before))
 shared-slice-read-kept : tie.Need-shared-slice-read-kept
 shared-slice-read-kept c = omega (arith, room (c .before .before .before .before .before .before))
 
-mul-kept-2 : tie.Need-mul-kept-2
-mul-kept-2 c = search needs
-
-slice-write-kept : tie.Need-slice-write-kept
-slice-write-kept c = search needs
-
-same-length-2 : tie.Need-same-length-2
-same-length-2 c = search needs
-
 returns-2 : tie.Need-returns-2
 returns-2 c =
     let s = c .before .before .before .before .before .before .before .before .before .before in
@@ -82,9 +49,6 @@ returns-2 c =
     let d = c .before .before .before .before .col-dots in
     let k = d .ensures .1 in
     (d .ensures .0, (simp length-set (k .long), λ e h. kept-column (a .l .now) (a .kept .now) (d .last .1 .1 .1 .1 .1 .0) (a .i) (a .c) (a .end) h (omega arith) (s .pre .0 .3) k))
-
-same-length-3 : tie.Need-same-length-3
-same-length-3 c = search needs
 
 returns-3 : tie.Need-returns-3
 returns-3 c =
@@ -95,23 +59,23 @@ pub col-sums-spec : {M : Type 1} → statement M
 col-sums-spec =
     tie.close
     (tie.spec
-    add-first
-    mul-row-dots
-    sub-row-dots
-    part-row-dots-start
-    part-row-dots-end
-    sub-row-dots-2
-    row-dots-requires
-    same-length
+    (λ c. search needs)
+    (λ c. search needs)
+    (λ c. search needs)
+    (λ c. search needs)
+    (λ c. search needs)
+    (λ c. search needs)
+    (λ c κs. search needs)
+    (λ c. search needs)
     returns
     add-col-dots
     col-dots-requires
     sub-kept
     mul-kept
     shared-slice-read-kept
-    mul-kept-2
-    slice-write-kept
-    same-length-2
+    (λ c. search needs)
+    (λ c. search needs)
+    (λ c. search needs)
     returns-2
-    same-length-3
+    (λ c. search needs)
     returns-3)

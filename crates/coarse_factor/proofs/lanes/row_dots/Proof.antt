@@ -18,65 +18,11 @@ Inv-loop l w n start c third fourth s₀ t₀ u₀ v₀ k₀ s t u v k = (k ≤ 
 abbrev μ-loop : tie.MeasureT-loop
 μ-loop l w n start c third fourth s₀ t₀ u₀ v₀ k₀ s t u v k = n - k
 
-add-third : tie.Need-add-third Inv-loop μ-loop
-add-third c = omega arith
-
-add-fourth : tie.Need-add-fourth Inv-loop μ-loop
-add-fourth c = omega arith
-
 loop-holds : tie.Need-loop-holds Inv-loop μ-loop
 loop-holds c =
     let a = c .args in
     let f : ℕ → ℕ → Float = λ o k. getD (a .l .now) (a .start + k) nan *ᶠ getD (drop o (a .w .now)) k nan in
     (omega arith, summed-none (f 0), summed-none (f (a .c)), summed-none (f (a .c + a .c)), summed-none (f (a .c + a .c + a .c)))
-
-add-x : tie.Need-add-x Inv-loop μ-loop
-add-x c = omega arith
-
-mul-x : tie.Need-mul-x Inv-loop μ-loop
-mul-x c = omega arith
-
-shared-slice-read-x : tie.Need-shared-slice-read-x Inv-loop μ-loop
-shared-slice-read-x c = omega arith
-
-mul-s : tie.Need-mul-s Inv-loop μ-loop
-mul-s c = omega arith
-
-shared-slice-read-s : tie.Need-shared-slice-read-s Inv-loop μ-loop
-shared-slice-read-s c = omega arith
-
-add-t : tie.Need-add-t Inv-loop μ-loop
-add-t c = omega arith
-
-mul-t : tie.Need-mul-t Inv-loop μ-loop
-mul-t c = omega arith
-
-shared-slice-read-t : tie.Need-shared-slice-read-t Inv-loop μ-loop
-shared-slice-read-t c = omega arith
-
-add-u : tie.Need-add-u Inv-loop μ-loop
-add-u c = omega arith
-
-mul-u : tie.Need-mul-u Inv-loop μ-loop
-mul-u c = omega arith
-
-shared-slice-read-u : tie.Need-shared-slice-read-u Inv-loop μ-loop
-shared-slice-read-u c = omega arith
-
-add-v : tie.Need-add-v Inv-loop μ-loop
-add-v c = omega arith
-
-mul-v : tie.Need-mul-v Inv-loop μ-loop
-mul-v c = omega arith
-
-shared-slice-read-v : tie.Need-shared-slice-read-v Inv-loop μ-loop
-shared-slice-read-v c = omega arith
-
-add-k : tie.Need-add-k Inv-loop μ-loop
-add-k c = omega arith
-
-loop-less : tie.Need-loop-less Inv-loop μ-loop
-loop-less c = omega arith
 
 loop-again : tie.Need-loop-again Inv-loop μ-loop
 loop-again c =
@@ -102,24 +48,24 @@ row-dots-spec =
     (tie.spec
     Inv-loop
     μ-loop
-    add-third
-    add-fourth
+    (λ c. omega arith)
+    (λ c. omega arith)
     loop-holds
-    add-x
-    mul-x
-    shared-slice-read-x
-    mul-s
-    shared-slice-read-s
-    add-t
-    mul-t
-    shared-slice-read-t
-    add-u
-    mul-u
-    shared-slice-read-u
-    add-v
-    mul-v
-    shared-slice-read-v
-    add-k
-    loop-less
+    (λ c. omega arith)
+    (λ c. omega arith)
+    (λ c. omega arith)
+    (λ c. omega arith)
+    (λ c. omega arith)
+    (λ c. omega arith)
+    (λ c. omega arith)
+    (λ c. omega arith)
+    (λ c. omega arith)
+    (λ c. omega arith)
+    (λ c. omega arith)
+    (λ c. omega arith)
+    (λ c. omega arith)
+    (λ c. omega arith)
+    (λ c. omega arith)
+    (λ c. omega arith)
     loop-again
     returns)

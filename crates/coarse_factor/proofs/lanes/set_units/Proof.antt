@@ -13,20 +13,11 @@ use Rattle.numbers.proofs.zero_floats.Reads as zero-floats-reads
 zeros : (c : tie.After-zero-floats) → length (c .zero-floats .last .0) ≡ length (c .before .before .before .args .w .now)
 zeros c = ap length (c .zero-floats .ensures) ∙ length-replicate (length (c .before .before .before .args .w .now)) zeroᶠ
 
-zero-floats-requires : tie.Need-zero-floats-requires
-zero-floats-requires c κs = search needs
-
 mul-w : tie.Need-mul-w
 mul-w c = omega (arith, zeros (c .before .before))
 
 slice-write-w : tie.Need-slice-write-w
 slice-write-w c = omega (arith, zeros (c .before .before))
-
-add-w : tie.Need-add-w
-add-w c = search needs
-
-add-w-2 : tie.Need-add-w-2
-add-w-2 c = search needs
 
 mul-w-2 : tie.Need-mul-w-2
 mul-w-2 c = omega (arith, zeros (c .before .before))
@@ -34,32 +25,11 @@ mul-w-2 c = omega (arith, zeros (c .before .before))
 slice-write-w-2 : tie.Need-slice-write-w-2
 slice-write-w-2 c = simp length-set (omega (arith, zeros (c .before .before)))
 
-add-w-3 : tie.Need-add-w-3
-add-w-3 c = search needs
-
-add-w-4 : tie.Need-add-w-4
-add-w-4 c = search needs
-
-add-w-5 : tie.Need-add-w-5
-add-w-5 c = search needs
-
 mul-w-3 : tie.Need-mul-w-3
 mul-w-3 c = omega (arith, zeros (c .before .before))
 
 slice-write-w-3 : tie.Need-slice-write-w-3
 slice-write-w-3 c = simp length-set (omega (arith, zeros (c .before .before)))
-
-add-w-6 : tie.Need-add-w-6
-add-w-6 c = search needs
-
-add-w-7 : tie.Need-add-w-7
-add-w-7 c = search needs
-
-add-w-8 : tie.Need-add-w-8
-add-w-8 c = search needs
-
-add-w-9 : tie.Need-add-w-9
-add-w-9 c = search needs
 
 mul-w-4 : tie.Need-mul-w-4
 mul-w-4 c = omega (arith, zeros (c .before .before))
@@ -79,22 +49,22 @@ pub set-units-spec : {M : Type 1} → statement M
 set-units-spec =
     tie.close
     (tie.spec
-    zero-floats-requires
+    (λ c κs. search needs)
     mul-w
     slice-write-w
-    add-w
-    add-w-2
+    (λ c. search needs)
+    (λ c. search needs)
     mul-w-2
     slice-write-w-2
-    add-w-3
-    add-w-4
-    add-w-5
+    (λ c. search needs)
+    (λ c. search needs)
+    (λ c. search needs)
     mul-w-3
     slice-write-w-3
-    add-w-6
-    add-w-7
-    add-w-8
-    add-w-9
+    (λ c. search needs)
+    (λ c. search needs)
+    (λ c. search needs)
+    (λ c. search needs)
     mul-w-4
     slice-write-w-4
     same-length

@@ -40,12 +40,6 @@ loop-holds c =
     let z : length (a .y .now) - 0 ≡ length (a .y .now) = omega arith in
     (omega arith, refl, refl, rw z (s .pre .0), backward-none (a .l .now) (a .y .now) (length (a .y .now)), refl, λ e. absurd (true≢false (sym e)))
 
-sub-i : tie.Need-sub-i Inv-loop μ-loop
-sub-i c = search needs
-
-sub-i-2 : tie.Need-sub-i-2 Inv-loop μ-loop
-sub-i-2 c = search needs
-
 slice-aggregate-col-sum : tie.Need-slice-aggregate-col-sum Inv-loop μ-loop
 slice-aggregate-col-sum c = sym (c .before .before .before .loop .inv .5)
 
@@ -86,12 +80,6 @@ add-end c = omega (arith, facts (c .before .before .before .before .before .befo
 sub-end : tie.Need-sub-end Inv-loop μ-loop
 sub-end c = omega (arith, facts (c .before .before .before .before .before .before), row-is (c .before .before .before .before .before .before))
 
-add-k : tie.Need-add-k Inv-loop μ-loop
-add-k c = search needs
-
-loop-less : tie.Need-loop-less Inv-loop μ-loop
-loop-less c = omega arith
-
 loop-again : tie.Need-loop-again Inv-loop μ-loop
 loop-again c =
     let s = c .before .before .before .before .before .before .before .before .before .before in
@@ -111,9 +99,6 @@ loop-again c =
       kept-next (a .l .now) (d .last .1 .1 .1 .1 .1 .0) (length (l .y)) (length (a .y .now)) (l .k) i (l .inv .2) (r .1) (l .known) (d .ensures .1 .1),
     )
 
-same-length : tie.Need-same-length Inv-loop μ-loop
-same-length c = search needs
-
 returns : tie.Need-returns Inv-loop μ-loop
 returns c =
     let a = c .before .before .before .before .args in
@@ -127,8 +112,8 @@ backward-spec =
     Inv-loop
     μ-loop
     loop-holds
-    sub-i
-    sub-i-2
+    (λ c. search needs)
+    (λ c. search needs)
     slice-aggregate-col-sum
     col-sum-requires
     mul-y
@@ -140,8 +125,8 @@ backward-spec =
     slice-write-y
     add-end
     sub-end
-    add-k
-    loop-less
+    (λ c. search needs)
+    (λ c. omega arith)
     loop-again
-    same-length
+    (λ c. search needs)
     returns)

@@ -22,9 +22,6 @@ room c =
     let o = c .before .loop in
     rw (p .2) (walk-room (o .at) (c .before .before .args .i) (o .j) (length (c .before .before .args .y .now)) (o .inv .0) (omega arith) (p .4) (o .inv .3))
 
-add-j : tie.Need-add-j Inv-loop μ-loop
-add-j c = search needs
-
 loop-holds : tie.Need-loop-holds Inv-loop μ-loop
 loop-holds c =
     let a = c .args in
@@ -39,9 +36,6 @@ mul-kept c = omega (arith, room c)
 shared-slice-read-kept : tie.Need-shared-slice-read-kept Inv-loop μ-loop
 shared-slice-read-kept c = omega (arith, room (c .before))
 
-mul-kept-2 : tie.Need-mul-kept-2 Inv-loop μ-loop
-mul-kept-2 c = omega arith
-
 slice-write-kept : tie.Need-slice-write-kept Inv-loop μ-loop
 slice-write-kept c = omega (arith, c .before .before .loop .inv .5 .long)
 
@@ -51,23 +45,11 @@ mul-sum c = omega (arith, room (c .before))
 shared-slice-read-sum : tie.Need-shared-slice-read-sum Inv-loop μ-loop
 shared-slice-read-sum c = omega (arith, room (c .before .before))
 
-mul-sum-2 : tie.Need-mul-sum-2 Inv-loop μ-loop
-mul-sum-2 c = search needs
-
-shared-slice-read-sum-2 : tie.Need-shared-slice-read-sum-2 Inv-loop μ-loop
-shared-slice-read-sum-2 c = search needs
-
 add-at : tie.Need-add-at Inv-loop μ-loop
 add-at c = omega (arith, room (c .before .before .before))
 
 add-at-2 : tie.Need-add-at-2 Inv-loop μ-loop
 add-at-2 c = omega (arith, room (c .before .before .before))
-
-add-j-2 : tie.Need-add-j-2 Inv-loop μ-loop
-add-j-2 c = search needs
-
-loop-less : tie.Need-loop-less Inv-loop μ-loop
-loop-less c = omega arith
 
 loop-again : tie.Need-loop-again Inv-loop μ-loop
 loop-again c =
@@ -96,21 +78,21 @@ col-dot-spec =
     (tie.spec
     Inv-loop
     μ-loop
-    add-j
+    (λ c. search needs)
     loop-holds
     sub-kept
     mul-kept
     shared-slice-read-kept
-    mul-kept-2
+    (λ c. omega arith)
     slice-write-kept
     mul-sum
     shared-slice-read-sum
-    mul-sum-2
-    shared-slice-read-sum-2
+    (λ c. search needs)
+    (λ c. search needs)
     add-at
     add-at-2
-    add-j-2
-    loop-less
+    (λ c. search needs)
+    (λ c. omega arith)
     loop-again
     same-length
     returns)

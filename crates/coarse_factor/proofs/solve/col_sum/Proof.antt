@@ -18,30 +18,6 @@ room c =
     let s = c .before .before .before .before in
     rw (s .pre .0 .2) (end-room (s .args .end) (s .args .i) (length (s .args .y .now)) (s .pre .0 .0) (s .pre .0 .4) (s .pre .0 .1))
 
-add-first : tie.Need-add-first
-add-first c = search needs
-
-mul-row-dot : tie.Need-mul-row-dot
-mul-row-dot c = search needs
-
-sub-row-dot : tie.Need-sub-row-dot
-sub-row-dot c = search needs
-
-part-row-dot-start : tie.Need-part-row-dot-start
-part-row-dot-start c = search needs
-
-part-row-dot-end : tie.Need-part-row-dot-end
-part-row-dot-end c = search needs
-
-sub-row-dot-2 : tie.Need-sub-row-dot-2
-sub-row-dot-2 c = search needs
-
-row-dot-requires : tie.Need-row-dot-requires
-row-dot-requires c κs = search needs
-
-same-length : tie.Need-same-length
-same-length c = search needs
-
 returns : tie.Need-returns
 returns c =
     let s = c .before .before .before .before .before .before .before in
@@ -67,15 +43,6 @@ mul-kept c = omega (arith, room (c .before .before .before .before .before))
 shared-slice-read-kept : tie.Need-shared-slice-read-kept
 shared-slice-read-kept c = omega (arith, room (c .before .before .before .before .before .before))
 
-mul-kept-2 : tie.Need-mul-kept-2
-mul-kept-2 c = search needs
-
-slice-write-kept : tie.Need-slice-write-kept
-slice-write-kept c = search needs
-
-same-length-2 : tie.Need-same-length-2
-same-length-2 c = search needs
-
 returns-2 : tie.Need-returns-2
 returns-2 c =
     let s = c .before .before .before .before .before .before .before .before .before .before in
@@ -83,9 +50,6 @@ returns-2 c =
     let d = c .before .before .before .before .col-dot in
     let k = d .ensures .1 in
     (d .ensures .0, (simp length-set (k .long), λ e h. kept-column (a .l .now) (a .kept .now) (d .last .1 .1 .1 .1 .0) (a .i) (length (a .y .now)) (a .end) h (omega arith) (s .pre .0 .1) k))
-
-same-length-3 : tie.Need-same-length-3
-same-length-3 c = search needs
 
 returns-3 : tie.Need-returns-3
 returns-3 c =
@@ -96,23 +60,23 @@ pub col-sum-spec : {M : Type 1} → statement M
 col-sum-spec =
     tie.close
     (tie.spec
-    add-first
-    mul-row-dot
-    sub-row-dot
-    part-row-dot-start
-    part-row-dot-end
-    sub-row-dot-2
-    row-dot-requires
-    same-length
+    (λ c. search needs)
+    (λ c. search needs)
+    (λ c. search needs)
+    (λ c. search needs)
+    (λ c. search needs)
+    (λ c. search needs)
+    (λ c κs. search needs)
+    (λ c. search needs)
     returns
     add-col-dot
     col-dot-requires
     sub-kept
     mul-kept
     shared-slice-read-kept
-    mul-kept-2
-    slice-write-kept
-    same-length-2
+    (λ c. search needs)
+    (λ c. search needs)
+    (λ c. search needs)
     returns-2
-    same-length-3
+    (λ c. search needs)
     returns-3)

@@ -35,9 +35,6 @@ loop-holds c =
     let a = c .before .before .args in
     (omega arith, refl, refl, forward-none (a .l .now) (a .y .now))
 
-add-loop : tie.Need-add-loop Inv-loop μ-loop
-add-loop c = search needs
-
 add-next : tie.Need-add-next Inv-loop μ-loop
 add-next c = omega (arith, fits c)
 
@@ -80,9 +77,6 @@ add-start-2 c = omega (arith, fits (c .before .before .before .before .before .b
 add-i : tie.Need-add-i Inv-loop μ-loop
 add-i c = omega (arith, fits (c .before .before .before .before .before .before .before .before .before .before .before .before .before))
 
-loop-less : tie.Need-loop-less Inv-loop μ-loop
-loop-less c = omega arith
-
 loop-again : tie.Need-loop-again Inv-loop μ-loop
 loop-again c =
     let s = c .before .before .before .before .before .before .before .before .before .before .before .before .before .before .before .before .before in
@@ -104,18 +98,12 @@ row-dot-requires c κs = (omega arith, omega (arith, last (c .before .before) (o
 put-row-requires-3 : tie.Need-put-row-requires-3 Inv-loop μ-loop
 put-row-requires-3 c κs = (omega arith, omega (arith, last (c .before .before .before .before) (omega arith)))
 
-same-length : tie.Need-same-length Inv-loop μ-loop
-same-length c = search needs
-
 returns : tie.Need-returns Inv-loop μ-loop
 returns c =
     let s = c .before .before .before .before .before .before .before .before .before .before .before in
     let a = s .args in
     let l = c .before .before .before .before .before .before .before .before .loop in
     forward-all (a .l .now) (a .y .now) _ (l .i + 1) (omega arith) (c .before .before .put-row3 .ensures ∙ forward-one (a .l .now) (a .y .now) (l .y) (l .i) (l .start) (l .inv .3) (l .inv .2) (c .before .before .before .before .row-dot .result) (omega arith) (c .before .before .before .before .row-dot .ensures))
-
-same-length-2 : tie.Need-same-length-2 Inv-loop μ-loop
-same-length-2 c = search needs
 
 returns-2 : tie.Need-returns-2 Inv-loop μ-loop
 returns-2 c =
@@ -130,7 +118,7 @@ forward-spec =
     Inv-loop
     μ-loop
     loop-holds
-    add-loop
+    (λ c. search needs)
     add-next
     add-next-2
     two-rows-requires
@@ -145,11 +133,11 @@ forward-spec =
     add-start
     add-start-2
     add-i
-    loop-less
+    (λ c. omega arith)
     loop-again
     row-dot-requires
     put-row-requires-3
-    same-length
+    (λ c. search needs)
     returns
-    same-length-2
+    (λ c. search needs)
     returns-2)

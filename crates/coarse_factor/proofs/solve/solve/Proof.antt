@@ -9,18 +9,12 @@ use Rattle.coarse_factor.proofs.solve.solve.Lts as lts
 use Rattle.coarse_factor.proofs.solve.backward.Reads as backward-reads
 use Rattle.coarse_factor.proofs.solve.forward.Reads as forward-reads
 
-forward-requires : tie.Need-forward-requires
-forward-requires c κs = search needs
-
 backward-requires : tie.Need-backward-requires
 backward-requires c κs =
     let s = c .before .before .before .before .before .before .before in
     let f = c .before .before .before .forward in
     let e : length (f .last .1 .0) ≡ length (s .args .y .now) = ap length (f .ensures) ∙ length-forward (s .args .l .now) (s .args .y .now) (length (s .args .y .now)) in
     rw e (s .pre)
-
-same-length : tie.Need-same-length
-same-length c = search needs
 
 returns : tie.Need-returns
 returns c =
@@ -30,4 +24,4 @@ returns c =
     solve-law (a .l .now) (a .y .now) (f .last .1 .0) (b .last .1 .0) (f .ensures) (b .ensures)
 
 pub solve-spec : {M : Type 1} → statement M
-solve-spec = tie.close (tie.spec forward-requires backward-requires same-length returns)
+solve-spec = tie.close (tie.spec (λ c κs. search needs) backward-requires (λ c. search needs) returns)

@@ -9,29 +9,14 @@ use Rattle.coarse_factor.proofs.stored.inverse_rows.Reads as inverse-ro
 use Rattle.coarse_factor.proofs.stored.move_front.Reads as move-front-reads
 use Rattle.numbers.proofs.zero_floats.Reads as zero-floats-reads
 
-inverse-rows-requires : tie.Need-inverse-rows-requires
-inverse-rows-requires c κs = search needs
-
 move-front-requires : tie.Need-move-front-requires
 move-front-requires c κs = omega (arith, c .before .before .before .inverse-rows .ensures .long)
 
 mul-zero-floats : tie.Need-mul-zero-floats
 mul-zero-floats c = omega (arith, c .before .before .move-front .ensures .long, c .before .before .before .before .before .before .inverse-rows .ensures .long)
 
-sub-zero-floats : tie.Need-sub-zero-floats
-sub-zero-floats c = search needs
-
 part-zero-floats-start : tie.Need-part-zero-floats-start
 part-zero-floats-start c = omega (arith, c .before .before .move-front .ensures .long, c .before .before .before .before .before .before .inverse-rows .ensures .long)
-
-part-zero-floats-end : tie.Need-part-zero-floats-end
-part-zero-floats-end c = search needs
-
-zero-floats-requires : tie.Need-zero-floats-requires
-zero-floats-requires c κs = search needs
-
-same-length : tie.Need-same-length
-same-length c = search needs
 
 returns : tie.Need-returns
 returns c =
@@ -42,12 +27,12 @@ pub by-inverse-spec : {M : Type 1} → statement M
 by-inverse-spec =
     tie.close
     (tie.spec
-    inverse-rows-requires
+    (λ c κs. search needs)
     move-front-requires
     mul-zero-floats
-    sub-zero-floats
+    (λ c. search needs)
     part-zero-floats-start
-    part-zero-floats-end
-    zero-floats-requires
-    same-length
+    (λ c. search needs)
+    (λ c κs. search needs)
+    (λ c. search needs)
     returns)

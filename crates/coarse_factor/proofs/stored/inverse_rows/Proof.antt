@@ -67,12 +67,6 @@ slice-write-work-2 c = simp length-set (omega (arith, room (c .before .before)))
 add-base : tie.Need-add-base Inv-loop μ-loop
 add-base c = omega (arith, room (c .before .before))
 
-add-i : tie.Need-add-i Inv-loop μ-loop
-add-i c = search needs
-
-loop-less : tie.Need-loop-less Inv-loop μ-loop
-loop-less c = omega arith
-
 loop-again : tie.Need-loop-again Inv-loop μ-loop
 loop-again c =
     let s = c .before .before .before .before .before .before in
@@ -93,9 +87,6 @@ mul-work-3 c = omega (arith, last (c .before .before .before) (omega arith))
 slice-write-work-3 : tie.Need-slice-write-work-3 Inv-loop μ-loop
 slice-write-work-3 c = omega (arith, last (c .before .before .before) (omega arith))
 
-same-length : tie.Need-same-length Inv-loop μ-loop
-same-length c = search needs
-
 returns : tie.Need-returns Inv-loop μ-loop
 returns c =
     let s = c .before .before .before .before .before .before .before in
@@ -103,9 +94,6 @@ returns c =
     let o = c .before .before .before .before .loop in
     let e : o .i + 1 ≡ a .c = omega arith in
     rw e at (products-more (a .c) (a .part .now) (a .work .now) (o .work) (o .i) (o .base) (c .row-dot .result) (omega arith) (s .pre .1) (o .inv .1) (o .inv .2) (c .row-dot .ensures))
-
-same-length-2 : tie.Need-same-length-2 Inv-loop μ-loop
-same-length-2 c = search needs
 
 returns-2 : tie.Need-returns-2 Inv-loop μ-loop
 returns-2 c =
@@ -130,14 +118,14 @@ inverse-rows-spec =
     mul-work-2
     slice-write-work-2
     add-base
-    add-i
-    loop-less
+    (λ c. search needs)
+    (λ c. omega arith)
     loop-again
     row-dot-requires
     add-work-4
     mul-work-3
     slice-write-work-3
-    same-length
+    (λ c. search needs)
     returns
-    same-length-2
+    (λ c. search needs)
     returns-2)

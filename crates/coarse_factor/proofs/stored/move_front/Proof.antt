@@ -33,12 +33,6 @@ mul-work-2 c = omega (arith, c .before .before .loop .inv .1 .long)
 slice-write-work : tie.Need-slice-write-work Inv-loop μ-loop
 slice-write-work c = omega (arith, c .before .before .loop .inv .1 .long)
 
-add-i : tie.Need-add-i Inv-loop μ-loop
-add-i c = search needs
-
-loop-less : tie.Need-loop-less Inv-loop μ-loop
-loop-less c = omega arith
-
 loop-again : tie.Need-loop-again Inv-loop μ-loop
 loop-again c = (omega arith, moved-more (c .before .before .before .args .c) (c .before .before .before .args .work .now) (c .before .before .loop .work) (c .before .before .loop .i) (omega arith) (c .before .before .before .pre) (c .before .before .loop .inv .1))
 
@@ -60,8 +54,8 @@ move-front-spec =
     slice-read-work
     mul-work-2
     slice-write-work
-    add-i
-    loop-less
+    (λ c. search needs)
+    (λ c. omega arith)
     loop-again
     same-length
     returns)

@@ -9,38 +9,20 @@ use Rattle.coarse_factor.proofs.stored.solve_stored.Lts as lts
 use Rattle.coarse_factor.proofs.stored.by_factor.Reads as by-factor-reads
 use Rattle.coarse_factor.proofs.stored.by_inverse.Reads as by-inverse-reads
 
-enum-told : tie.Need-enum-told
-enum-told c = search needs
-
 by-factor-requires : tie.Need-by-factor-requires
 by-factor-requires c κs = let a = c .before .before .before .before .before .args in let p = c .before .before .before .before .before .pre in (p .0 ∙ length-auto (a .policy) (a .c) (c .before .enum-told .given .1), p .1, p .2)
-
-enum-told-2 : tie.Need-enum-told-2
-enum-told-2 c = search needs
 
 by-factor-requires-2 : tie.Need-by-factor-requires-2
 by-factor-requires-2 c κs = let a = c .before .before .before .before .before .args in let p = c .before .before .before .before .before .pre in (p .0 ∙ length-factor (a .policy) (a .c) (c .before .enum-told2 .given .1), p .1, p .2)
 
-enum-told-3 : tie.Need-enum-told-3
-enum-told-3 c = search needs
-
 by-inverse-requires : tie.Need-by-inverse-requires
 by-inverse-requires c κs = let a = c .before .before .before .before .before .args in let p = c .before .before .before .before .before .pre in (p .0 ∙ length-inverse (a .policy) (a .c) (c .before .enum-told3 .given .1), p .1, p .2)
-
-same-length : tie.Need-same-length
-same-length c = search needs
 
 returns : tie.Need-returns
 returns c = let a = c .before .before .before .before .before .before .before .before .args in c .before .before .by-factor .ensures ∙ solve-auto (a .policy) (a .c) (a .part .now) (take (a .c) (a .work .now)) (length (a .work .now)) (c .before .before .before .before .enum-told .given .1)
 
-same-length-2 : tie.Need-same-length-2
-same-length-2 c = search needs
-
 returns-2 : tie.Need-returns-2
 returns-2 c = let a = c .before .before .before .before .before .before .before .before .args in c .before .before .by-factor2 .ensures ∙ solve-factor (a .policy) (a .c) (a .part .now) (take (a .c) (a .work .now)) (length (a .work .now)) (c .before .before .before .before .enum-told2 .given .1)
-
-same-length-3 : tie.Need-same-length-3
-same-length-3 c = search needs
 
 returns-3 : tie.Need-returns-3
 returns-3 c = let a = c .before .before .before .before .before .before .before .before .args in c .before .before .by-inverse .ensures ∙ solve-inverse (a .policy) (a .c) (a .part .now) (take (a .c) (a .work .now)) (length (a .work .now)) (c .before .before .before .before .enum-told3 .given .1)
@@ -49,15 +31,15 @@ pub solve-stored-spec : {M : Type 1} → statement M
 solve-stored-spec =
     tie.close
     (tie.spec
-    enum-told
+    (λ c. search needs)
     by-factor-requires
-    enum-told-2
+    (λ c. search needs)
     by-factor-requires-2
-    enum-told-3
+    (λ c. search needs)
     by-inverse-requires
-    same-length
+    (λ c. search needs)
     returns
-    same-length-2
+    (λ c. search needs)
     returns-2
-    same-length-3
+    (λ c. search needs)
     returns-3)

@@ -29,15 +29,6 @@ place-ok c = rw (c .coarse-of .ensures) (c .before .before .before .before .befo
 loop-holds : tie.Need-loop-holds Inv-loop μ-loop
 loop-holds c = (omega arith, omega arith, refl, refl)
 
-mul-wide : tie.Need-mul-wide Inv-loop μ-loop
-mul-wide c = search needs
-
-shared-slice-read-wide : tie.Need-shared-slice-read-wide Inv-loop μ-loop
-shared-slice-read-wide c = search needs
-
-wide-requires : tie.Need-wide-requires Inv-loop μ-loop
-wide-requires c κs = search needs
-
 coarse-of-requires : tie.Need-coarse-of-requires Inv-loop μ-loop
 coarse-of-requires c κs =
     let g = c .before .before .before .before .before .before .before .before .pre .1 .1 in
@@ -46,20 +37,8 @@ coarse-of-requires c κs =
 add-at : tie.Need-add-at Inv-loop μ-loop
 add-at c = omega (arith, place-ok c)
 
-mul-add-at : tie.Need-mul-add-at Inv-loop μ-loop
-mul-add-at c = search needs
-
-shared-slice-read-add-at : tie.Need-shared-slice-read-add-at Inv-loop μ-loop
-shared-slice-read-add-at c = search needs
-
 add-at-requires : tie.Need-add-at-requires Inv-loop μ-loop
 add-at-requires c κs = omega (arith, place-ok (c .before .before), c .before .before .before .before .before .before .loop .inv .2, c .before .before .before .before .before .before .before .before .before .before .before .pre .0)
-
-add-k : tie.Need-add-k Inv-loop μ-loop
-add-k c = search needs
-
-loop-less : tie.Need-loop-less Inv-loop μ-loop
-loop-less c = omega arith
 
 loop-again : tie.Need-loop-again Inv-loop μ-loop
 loop-again c =
@@ -76,9 +55,6 @@ loop-again c =
           (omega arith) (omega arith) (omega arith) (l .inv .3) (w .ensures) (ap (λ n. a .base + n) (co .ensures)) (d .ensures),
     )
 
-same-length : tie.Need-same-length Inv-loop μ-loop
-same-length c = search needs
-
 returns : tie.Need-returns Inv-loop μ-loop
 returns c =
     let a = c .before .before .before .before .before .before .args in
@@ -93,16 +69,16 @@ add-entries-spec =
     Inv-loop
     μ-loop
     loop-holds
-    mul-wide
-    shared-slice-read-wide
-    wide-requires
+    (λ c. search needs)
+    (λ c. search needs)
+    (λ c κs. search needs)
     coarse-of-requires
     add-at
-    mul-add-at
-    shared-slice-read-add-at
+    (λ c. search needs)
+    (λ c. search needs)
     add-at-requires
-    add-k
-    loop-less
+    (λ c. search needs)
+    (λ c. omega arith)
     loop-again
-    same-length
+    (λ c. search needs)
     returns)

@@ -40,26 +40,11 @@ coarse-of-requires c κs =
     let l = c .before .loop in
     (g .some, g .known (l .r) (omega arith), omega (arith, g .within (l .r) (omega arith), g .small))
 
-mul-wide : tie.Need-mul-wide Inv-loop μ-loop
-mul-wide c = search needs
-
 shared-slice-read-wide : tie.Need-shared-slice-read-wide Inv-loop μ-loop
 shared-slice-read-wide c = omega (arith, c .before .before .before .before .before .before .before .before .before .pre .0 .long)
 
-wide-requires : tie.Need-wide-requires Inv-loop μ-loop
-wide-requires c κs = search needs
-
-add-wide : tie.Need-add-wide Inv-loop μ-loop
-add-wide c = search needs
-
-mul-wide-2 : tie.Need-mul-wide-2 Inv-loop μ-loop
-mul-wide-2 c = search needs
-
 shared-slice-read-wide-2 : tie.Need-shared-slice-read-wide-2 Inv-loop μ-loop
 shared-slice-read-wide-2 c = omega (arith, c .before .before .before .before .before .before .before .before .before .before .before .pre .0 .long)
-
-wide-requires-2 : tie.Need-wide-requires-2 Inv-loop μ-loop
-wide-requires-2 c κs = search needs
 
 mul-add-entries : tie.Need-mul-add-entries Inv-loop μ-loop
 mul-add-entries c = omega (arith, place-ok (c .before .before .before .before), c .before .before .before .before .before .before .before .before .before .before .before .before .pre .1 .1)
@@ -70,12 +55,6 @@ add-entries-requires c κs =
     let l = c .before .before .before .before .before .before .before .loop in
     let h = row-stored (l .r) (c .before .before .before .wide .result) (c .before .wide2 .result) (s .pre .0) (omega arith) (c .before .before .before .wide .ensures) (c .before .wide2 .ensures) in
     ((h .0, h .1, s .pre .0 .same, omega (arith, place-ok (c .before .before .before .before .before), s .pre .1 .1, l .inv .1)), (s .pre .0 .within, s .pre .1 .0))
-
-add-r : tie.Need-add-r Inv-loop μ-loop
-add-r c = search needs
-
-loop-less : tie.Need-loop-less Inv-loop μ-loop
-loop-less c = omega arith
 
 loop-again : tie.Need-loop-again Inv-loop μ-loop
 loop-again c =
@@ -94,9 +73,6 @@ loop-again c =
           (l .inv .2) (co .ensures) (f .ensures) (t .ensures) (d .ensures),
     )
 
-same-length : tie.Need-same-length Inv-loop μ-loop
-same-length c = search needs
-
 returns : tie.Need-returns Inv-loop μ-loop
 returns c =
     let l = c .before .loop in
@@ -111,17 +87,17 @@ add-matrix-spec =
     μ-loop
     loop-holds
     coarse-of-requires
-    mul-wide
+    (λ c. search needs)
     shared-slice-read-wide
-    wide-requires
-    add-wide
-    mul-wide-2
+    (λ c κs. search needs)
+    (λ c. search needs)
+    (λ c. search needs)
     shared-slice-read-wide-2
-    wide-requires-2
+    (λ c κs. search needs)
     mul-add-entries
     add-entries-requires
-    add-r
-    loop-less
+    (λ c. search needs)
+    (λ c. omega arith)
     loop-again
-    same-length
+    (λ c. search needs)
     returns)

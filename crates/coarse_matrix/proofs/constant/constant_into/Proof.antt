@@ -15,24 +15,6 @@ use Rattle.averaging.proofs.average.Reads as average-reads
 use Rattle.coarse_matrix.proofs.constant.add_matrix.Reads as add-matrix-reads
 use Rattle.numbers.proofs.zero_floats.Reads as zero-floats-reads
 
-zero-floats-requires : tie.Need-zero-floats-requires
-zero-floats-requires c κs = search needs
-
-mul-square : tie.Need-mul-square
-mul-square c = search needs
-
-mul-add-matrix : tie.Need-mul-add-matrix
-mul-add-matrix c = search needs
-
-sub-add-matrix : tie.Need-sub-add-matrix
-sub-add-matrix c = search needs
-
-part-add-matrix-start : tie.Need-part-add-matrix-start
-part-add-matrix-start c = search needs
-
-part-add-matrix-end : tie.Need-part-add-matrix-end
-part-add-matrix-end c = search needs
-
 add-matrix-requires : tie.Need-add-matrix-requires
 add-matrix-requires c κs =
     let a = c .before .before .before .before .before .before .before .before .before .before .args in
@@ -40,12 +22,6 @@ add-matrix-requires c κs =
     let z = c .before .before .before .zero-floats in
     let n : length (z .last .0) ≡ length (a .coarse .now) = ap length (z .ensures) ∙ length-replicate (length (a .coarse .now)) _ in
     (p .0, (p .1 .0, omega (arith, front-length (z .last .0) (a .c * a .c) (omega (arith, n, p .1 .1)))))
-
-average-requires : tie.Need-average-requires
-average-requires c κs = search needs
-
-same-length : tie.Need-same-length
-same-length c = search needs
 
 returns : tie.Need-returns
 returns c =
@@ -61,13 +37,13 @@ pub constant-into-spec : {M : Type 1} → statement M
 constant-into-spec =
     tie.close
     (tie.spec
-    zero-floats-requires
-    mul-square
-    mul-add-matrix
-    sub-add-matrix
-    part-add-matrix-start
-    part-add-matrix-end
+    (λ c κs. search needs)
+    (λ c. search needs)
+    (λ c. search needs)
+    (λ c. search needs)
+    (λ c. search needs)
+    (λ c. search needs)
     add-matrix-requires
-    average-requires
-    same-length
+    (λ c κs. search needs)
+    (λ c. search needs)
     returns)

@@ -37,15 +37,6 @@ loop-holds c =
     let a = c .before .before .before .before .args in
     (omega arith, omega arith, rw (scaled-none (a .idx .now) (a .weights .now) (a .value) (a .from)) (put-none (a .c) (a .base) (a .token) (a .ints .now) (a .floats .now) (a .count) (c .before .before .before .before .pre .1 .1)))
 
-mul-wide : tie.Need-mul-wide Inv-loop μ-loop
-mul-wide c = search needs
-
-shared-slice-read-wide : tie.Need-shared-slice-read-wide Inv-loop μ-loop
-shared-slice-read-wide c = search needs
-
-wide-requires : tie.Need-wide-requires Inv-loop μ-loop
-wide-requires c κs = search needs
-
 mark-requires : tie.Need-mark-requires Inv-loop μ-loop
 mark-requires c κs =
     let a = c .before .before .before .before .before .before .before .before .before .before .args in
@@ -56,20 +47,8 @@ mark-requires c κs =
 add-add-at : tie.Need-add-add-at Inv-loop μ-loop
 add-add-at c = omega (arith, column (c .before .before .before .before .before .before .before .before), c .before .before .before .before .before .before .before .before .before .before .before .before .before .before .before .before .pre .0 .4)
 
-mul-add-at : tie.Need-mul-add-at Inv-loop μ-loop
-mul-add-at c = search needs
-
-shared-slice-read-add-at : tie.Need-shared-slice-read-add-at Inv-loop μ-loop
-shared-slice-read-add-at c = search needs
-
 add-at-requires : tie.Need-add-at-requires Inv-loop μ-loop
 add-at-requires c κs = omega (arith, column (c .before .before .before .before .before .before .before .before .before), long (c .before .before .before .before .before .before), c .before .before .before .before .before .before .before .before .before .before .before .before .before .before .before .before .before .pre .0 .4, c .before .before .before .before .before .before .before .before .before .before .before .before .loop .inv .2 .floats-long)
-
-add-q : tie.Need-add-q Inv-loop μ-loop
-add-q c = search needs
-
-loop-less : tie.Need-loop-less Inv-loop μ-loop
-loop-less c = omega arith
 
 loop-again : tie.Need-loop-again Inv-loop μ-loop
 loop-again c =
@@ -102,16 +81,16 @@ add-products-spec =
     Inv-loop
     μ-loop
     loop-holds
-    mul-wide
-    shared-slice-read-wide
-    wide-requires
+    (λ c. search needs)
+    (λ c. search needs)
+    (λ c κs. search needs)
     mark-requires
     add-add-at
-    mul-add-at
-    shared-slice-read-add-at
+    (λ c. search needs)
+    (λ c. search needs)
     add-at-requires
-    add-q
-    loop-less
+    (λ c. search needs)
+    (λ c. omega arith)
     loop-again
     same-length
     same-length-2

@@ -27,23 +27,11 @@ loop-holds c =
     let a = c .before .before .before .before .before .before .before .args in
     (omega arith, omega arith, rw (products-none (a .tptr .now) (a .tidx .now) (a .weights .now) (a .idx .now) (a .vals .now) (a .from)) (put-none (a .c) (a .base) (a .token) (a .ints .now) (a .floats .now) 0 (c .before .before .before .before .before .before .before .pre .1 .1 .1)))
 
-mul-wide : tie.Need-mul-wide Inv-loop μ-loop
-mul-wide c = search needs
-
-shared-slice-read-wide : tie.Need-shared-slice-read-wide Inv-loop μ-loop
-shared-slice-read-wide c = search needs
-
-wide-requires : tie.Need-wide-requires Inv-loop μ-loop
-wide-requires c κs = search needs
-
 mul-wide-2 : tie.Need-mul-wide-2 Inv-loop μ-loop
 mul-wide-2 c = omega (arith, column c, c .before .before .before .before .before .before .before .before .before .before .before .pre .1 .1 .0 .long)
 
 shared-slice-read-wide-2 : tie.Need-shared-slice-read-wide-2 Inv-loop μ-loop
 shared-slice-read-wide-2 c = omega (arith, column (c .before), c .before .before .before .before .before .before .before .before .before .before .before .before .pre .1 .1 .0 .long)
-
-wide-requires-2 : tie.Need-wide-requires-2 Inv-loop μ-loop
-wide-requires-2 c κs = search needs
 
 add-wide : tie.Need-add-wide Inv-loop μ-loop
 add-wide c = omega (arith, column (c .before .before), c .before .before .before .before .before .before .before .before .before .before .before .before .before .pre .1 .1 .0 .long)
@@ -54,15 +42,6 @@ mul-wide-3 c = omega (arith, column (c .before .before), c .before .before .befo
 shared-slice-read-wide-3 : tie.Need-shared-slice-read-wide-3 Inv-loop μ-loop
 shared-slice-read-wide-3 c = omega (arith, column (c .before .before .before), c .before .before .before .before .before .before .before .before .before .before .before .before .before .before .pre .1 .1 .0 .long)
 
-wide-requires-3 : tie.Need-wide-requires-3 Inv-loop μ-loop
-wide-requires-3 c κs = search needs
-
-mul-add-products : tie.Need-mul-add-products Inv-loop μ-loop
-mul-add-products c = search needs
-
-shared-slice-read-add-products : tie.Need-shared-slice-read-add-products Inv-loop μ-loop
-shared-slice-read-add-products c = search needs
-
 add-products-requires : tie.Need-add-products-requires Inv-loop μ-loop
 add-products-requires c κs =
     let a = c .before .before .before .before .before .before .before .before .before .before .before .before .before .before .before .before .before .before .args in
@@ -71,12 +50,6 @@ add-products-requires c κs =
     let w = p .1 .1 .0 in
     let h = row-stored (c .before .before .before .before .before .before .before .wide .result) (c .before .before .before .before .before .wide2 .result) (c .before .before .before .wide3 .result) w (column (c .before .before .before .before .before .before .before)) (c .before .before .before .before .before .wide2 .ensures) (c .before .before .before .wide3 .ensures) in
     ((h .0, h .1, w .same, p .0 .3, omega (arith, p .0 .4, o .inv .2 .floats-long)), (w .within, o .inv .2 .room))
-
-add-p : tie.Need-add-p Inv-loop μ-loop
-add-p c = search needs
-
-loop-less : tie.Need-loop-less Inv-loop μ-loop
-loop-less c = omega arith
 
 loop-again : tie.Need-loop-again Inv-loop μ-loop
 loop-again c =
@@ -105,21 +78,21 @@ add-row-spec =
     Inv-loop
     μ-loop
     loop-holds
-    mul-wide
-    shared-slice-read-wide
-    wide-requires
+    (λ c. search needs)
+    (λ c. search needs)
+    (λ c κs. search needs)
     mul-wide-2
     shared-slice-read-wide-2
-    wide-requires-2
+    (λ c κs. search needs)
     add-wide
     mul-wide-3
     shared-slice-read-wide-3
-    wide-requires-3
-    mul-add-products
-    shared-slice-read-add-products
+    (λ c κs. search needs)
+    (λ c. search needs)
+    (λ c. search needs)
     add-products-requires
-    add-p
-    loop-less
+    (λ c. search needs)
+    (λ c. omega arith)
     loop-again
     same-length
     same-length-2

@@ -8,21 +8,6 @@ use borrow.Author.Needs.{needs}
 use Rattle.coarse_matrix.proofs.galerkin.galerkin_into.Statement.{statement}
 use Rattle.coarse_matrix.proofs.galerkin.galerkin_into.Tie as tie
 
-galerkin-sum-requires : tie.Need-galerkin-sum-requires
-galerkin-sum-requires c κs = search needs
-
-average-requires : tie.Need-average-requires
-average-requires c κs = search needs
-
-zero-ints-requires : tie.Need-zero-ints-requires
-zero-ints-requires c κs = search needs
-
-same-length : tie.Need-same-length
-same-length c = search needs
-
-same-length-2 : tie.Need-same-length-2
-same-length-2 c = search needs
-
 returns : tie.Need-returns
 returns c =
     let a = c .before .before .before .before .before .before .before .before .before .before .before .before .before .before .before .before .before .before .before .before .before .before .before .args in
@@ -37,9 +22,9 @@ pub galerkin-into-spec : {M : Type 1} → statement M
 galerkin-into-spec =
     tie.close
     (tie.spec
-    galerkin-sum-requires
-    average-requires
-    zero-ints-requires
-    same-length
-    same-length-2
+    (λ c κs. search needs)
+    (λ c κs. search needs)
+    (λ c κs. search needs)
+    (λ c. search needs)
+    (λ c. search needs)
     returns)

@@ -23,36 +23,6 @@ put c =
     let a = c .before .before .before .before .before .before .before .before .before .before .before .before .before .before .before .args in
     rw (entries-are (a .n) (a .ptr .now) (a .idx .now) (a .vals .now) (a .r) (c .before .before .before .before .before .wide .result) (c .before .before .before .wide2 .result) (c .before .before .before .before .before .wide .ensures) (c .before .before .before .wide2 .ensures)) at (c .add-row .ensures)
 
-mul-base : tie.Need-mul-base
-mul-base c = search needs
-
-mul-wide : tie.Need-mul-wide
-mul-wide c = search needs
-
-shared-slice-read-wide : tie.Need-shared-slice-read-wide
-shared-slice-read-wide c = search needs
-
-wide-requires : tie.Need-wide-requires
-wide-requires c κs = search needs
-
-add-wide : tie.Need-add-wide
-add-wide c = search needs
-
-mul-wide-2 : tie.Need-mul-wide-2
-mul-wide-2 c = search needs
-
-shared-slice-read-wide-2 : tie.Need-shared-slice-read-wide-2
-shared-slice-read-wide-2 c = search needs
-
-wide-requires-2 : tie.Need-wide-requires-2
-wide-requires-2 c κs = search needs
-
-add-token : tie.Need-add-token
-add-token c = search needs
-
-cast-add-row : tie.Need-cast-add-row
-cast-add-row c = search needs
-
 add-row-requires : tie.Need-add-row-requires
 add-row-requires c κs =
     let a = c .before .before .before .before .before .before .before .before .before .before .before .before .before .before .args in
@@ -60,27 +30,6 @@ add-row-requires c κs =
     let w = p .1 .0 in
     let h = row-stored (a .r) (c .before .before .before .before .wide .result) (c .before .before .wide2 .result) w (p .0 .0) (c .before .before .before .before .wide .ensures) (c .before .before .wide2 .ensures) in
     ((h .0, h .1, w .same, p .0 .2, p .0 .4), (w .within, (p .1 .1 .0, room-first (a .c) (a .r + 1) (a .ints .now) (p .0 .3) (λ j q. omega (arith, p .1 .1 .1 j q)))))
-
-mul-wide-3 : tie.Need-mul-wide-3
-mul-wide-3 c = search needs
-
-shared-slice-read-wide-3 : tie.Need-shared-slice-read-wide-3
-shared-slice-read-wide-3 c = search needs
-
-wide-requires-3 : tie.Need-wide-requires-3
-wide-requires-3 c κs = search needs
-
-add-wide-2 : tie.Need-add-wide-2
-add-wide-2 c = search needs
-
-mul-wide-4 : tie.Need-mul-wide-4
-mul-wide-4 c = search needs
-
-shared-slice-read-wide-4 : tie.Need-shared-slice-read-wide-4
-shared-slice-read-wide-4 c = search needs
-
-wide-requires-4 : tie.Need-wide-requires-4
-wide-requires-4 c κs = search needs
 
 weigh-row-requires : tie.Need-weigh-row-requires
 weigh-row-requires c κs =
@@ -122,24 +71,24 @@ pub galerkin-row-spec : {M : Type 1} → statement M
 galerkin-row-spec =
     tie.close
     (tie.spec
-    mul-base
-    mul-wide
-    shared-slice-read-wide
-    wide-requires
-    add-wide
-    mul-wide-2
-    shared-slice-read-wide-2
-    wide-requires-2
-    add-token
-    cast-add-row
+    (λ c. search needs)
+    (λ c. search needs)
+    (λ c. search needs)
+    (λ c κs. search needs)
+    (λ c. search needs)
+    (λ c. search needs)
+    (λ c. search needs)
+    (λ c κs. search needs)
+    (λ c. search needs)
+    (λ c. search needs)
     add-row-requires
-    mul-wide-3
-    shared-slice-read-wide-3
-    wide-requires-3
-    add-wide-2
-    mul-wide-4
-    shared-slice-read-wide-4
-    wide-requires-4
+    (λ c. search needs)
+    (λ c. search needs)
+    (λ c κs. search needs)
+    (λ c. search needs)
+    (λ c. search needs)
+    (λ c. search needs)
+    (λ c κs. search needs)
     weigh-row-requires
     same-length
     same-length-2

@@ -26,12 +26,6 @@ galerkin-row-requires c κs =
     let o = c .before .before .before .loop in
     ((omega arith, p .0 .0, p .0 .1, omega (arith, p .0 .2, o .inv .1 .ints-long), omega (arith, p .0 .3, o .inv .1 .floats-long)), (p .1 .0, (p .1 .1 .0, o .inv .1 .stamps)))
 
-add-r : tie.Need-add-r Inv-loop μ-loop
-add-r c = search needs
-
-loop-less : tie.Need-loop-less Inv-loop μ-loop
-loop-less c = omega arith
-
 loop-again : tie.Need-loop-again Inv-loop μ-loop
 loop-again c =
     let a = c .before .before .before .before .before .before .before .before .before .before .before .before .before .before .before .before .before .args in
@@ -56,8 +50,8 @@ galerkin-rows-spec =
     μ-loop
     loop-holds
     galerkin-row-requires
-    add-r
-    loop-less
+    (λ c. search needs)
+    (λ c. omega arith)
     loop-again
     same-length
     same-length-2

@@ -14,12 +14,6 @@ use Rattle.coarse_matrix.proofs.galerkin.galerkin_rows.Reads as galerki
 use Rattle.numbers.proofs.zero_floats.Reads as zero-floats-reads
 use Rattle.numbers.proofs.zero_ints.Reads as zero-ints-reads
 
-zero-ints-requires : tie.Need-zero-ints-requires
-zero-ints-requires c κs = search needs
-
-zero-floats-requires : tie.Need-zero-floats-requires
-zero-floats-requires c κs = search needs
-
 galerkin-rows-requires : tie.Need-galerkin-rows-requires
 galerkin-rows-requires c κs =
     let a = c .before .before .before .before .before .before .before .before .before .before .before .before .before .before .before .before .before .before .args in
@@ -38,12 +32,6 @@ galerkin-rows-requires c κs =
       ),
     )
 
-same-length : tie.Need-same-length
-same-length c = search needs
-
-same-length-2 : tie.Need-same-length-2
-same-length-2 c = search needs
-
 returns : tie.Need-returns
 returns c =
     let a = c .before .before .before .before .before .before .before .before .before .before .before .before .before .before .before .before .before .before .before .before .before .before .before .args in
@@ -56,9 +44,9 @@ pub galerkin-sum-spec : {M : Type 1} → statement M
 galerkin-sum-spec =
     tie.close
     (tie.spec
-    zero-ints-requires
-    zero-floats-requires
+    (λ c κs. search needs)
+    (λ c κs. search needs)
     galerkin-rows-requires
-    same-length
-    same-length-2
+    (λ c. search needs)
+    (λ c. search needs)
     returns)

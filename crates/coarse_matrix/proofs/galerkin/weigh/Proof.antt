@@ -33,18 +33,6 @@ long c =
 loop-holds : tie.Need-loop-holds Inv-loop μ-loop
 loop-holds c = let a = c .before .before .args in (omega arith, weigh-none (a .ints .now) (a .c) (a .weight) (a .dst) (a .base) (a .floats .now))
 
-add-wide : tie.Need-add-wide Inv-loop μ-loop
-add-wide c = search needs
-
-mul-wide : tie.Need-mul-wide Inv-loop μ-loop
-mul-wide c = search needs
-
-shared-slice-read-wide : tie.Need-shared-slice-read-wide Inv-loop μ-loop
-shared-slice-read-wide c = search needs
-
-wide-requires : tie.Need-wide-requires Inv-loop μ-loop
-wide-requires c κs = search needs
-
 add-x : tie.Need-add-x Inv-loop μ-loop
 add-x c = omega (arith, column c)
 
@@ -59,12 +47,6 @@ add-add-at c = omega (arith, column (c .before .before), long (c .before .before
 
 add-at-requires : tie.Need-add-at-requires Inv-loop μ-loop
 add-at-requires c κs = omega (arith, column (c .before .before), long (c .before .before .before .before .before))
-
-add-t : tie.Need-add-t Inv-loop μ-loop
-add-t c = search needs
-
-loop-less : tie.Need-loop-less Inv-loop μ-loop
-loop-less c = omega arith
 
 loop-again : tie.Need-loop-again Inv-loop μ-loop
 loop-again c =
@@ -89,17 +71,17 @@ weigh-spec =
     Inv-loop
     μ-loop
     loop-holds
-    add-wide
-    mul-wide
-    shared-slice-read-wide
-    wide-requires
+    (λ c. search needs)
+    (λ c. search needs)
+    (λ c. search needs)
+    (λ c κs. search needs)
     add-x
     mul-x
     slice-read-x
     add-add-at
     add-at-requires
-    add-t
-    loop-less
+    (λ c. search needs)
+    (λ c. omega arith)
     loop-again
     same-length
     returns)

@@ -34,21 +34,6 @@ loop-holds c =
     let a = c .before .before .before .before .args in
     (omega arith, omega arith, weighed-none (a .c) (a .base) (a .floats .now) (take (a .count) (drop (a .c) (a .ints .now))) (a .tidx .now) (a .weights .now) (a .from))
 
-mul-wide : tie.Need-mul-wide Inv-loop μ-loop
-mul-wide c = search needs
-
-shared-slice-read-wide : tie.Need-shared-slice-read-wide Inv-loop μ-loop
-shared-slice-read-wide c = search needs
-
-wide-requires : tie.Need-wide-requires Inv-loop μ-loop
-wide-requires c κs = search needs
-
-mul-weigh : tie.Need-mul-weigh Inv-loop μ-loop
-mul-weigh c = search needs
-
-shared-slice-read-weigh : tie.Need-shared-slice-read-weigh Inv-loop μ-loop
-shared-slice-read-weigh c = search needs
-
 mul-weigh-2 : tie.Need-mul-weigh-2 Inv-loop μ-loop
 mul-weigh-2 c = omega (arith, row-room (c .before .wide .result) (c .before .before .before .before .before .before .before .before .before .args .c) (column (c .before)), c .before .before .before .before .before .before .before .before .before .pre .0 .3)
 
@@ -57,12 +42,6 @@ weigh-requires c κs =
     let a = c .before .before .before .before .before .before .before .before .before .before .args in
     let p = c .before .before .before .before .before .before .before .before .before .before .pre in
     ((omega (arith, row-room (c .before .before .wide .result) (a .c) (column (c .before .before)), p .0 .3), omega (arith, p .0 .4, long (c .before .before .before .before .before)), p .0 .5), p .1 .1)
-
-add-q : tie.Need-add-q Inv-loop μ-loop
-add-q c = search needs
-
-loop-less : tie.Need-loop-less Inv-loop μ-loop
-loop-less c = omega arith
 
 loop-again : tie.Need-loop-again Inv-loop μ-loop
 loop-again c =
@@ -88,15 +67,15 @@ weigh-row-spec =
     Inv-loop
     μ-loop
     loop-holds
-    mul-wide
-    shared-slice-read-wide
-    wide-requires
-    mul-weigh
-    shared-slice-read-weigh
+    (λ c. search needs)
+    (λ c. search needs)
+    (λ c κs. search needs)
+    (λ c. search needs)
+    (λ c. search needs)
     mul-weigh-2
     weigh-requires
-    add-q
-    loop-less
+    (λ c. search needs)
+    (λ c. omega arith)
     loop-again
     same-length
     returns)

@@ -10,18 +10,6 @@ use Rattle.grouping_text.proofs.answers.put_groups.Lts as lts
 use Rattle.grouping_text.proofs.printing.put_head.Reads as put-head-reads
 use Rattle.grouping_text.proofs.printing.put_ids.Reads as put-ids-reads
 
-slice-aggregate-put-head : tie.Need-slice-aggregate-put-head
-slice-aggregate-put-head c = search needs
-
-put-head-requires : tie.Need-put-head-requires
-put-head-requires c κs = search needs
-
-put-ids-requires : tie.Need-put-ids-requires
-put-ids-requires c κs = search needs
-
-same-length : tie.Need-same-length
-same-length c = search needs
-
 returns : tie.Need-returns
 returns c =
     let a = c .before .before .before .before .before .before .before .before .before .before .before .args in
@@ -32,4 +20,4 @@ returns c =
 pub put-groups-spec : {M : Type 1} → statement M
 put-groups-spec =
     tie.close
-    (tie.spec slice-aggregate-put-head put-head-requires put-ids-requires same-length returns)
+    (tie.spec (λ c. search needs) (λ c κs. search needs) (λ c κs. search needs) (λ c. search needs) returns)

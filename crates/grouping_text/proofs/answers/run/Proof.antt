@@ -18,36 +18,6 @@ use Rattle.causes.proofs.number_of.Reads as number-of-reads
 use Rattle.grouping_text.proofs.answers.put_groups.Reads as put-groups-reads
 use Rattle.grouping_text.proofs.printing.put_head.Reads as put-head-reads
 
-group-requires : tie.Need-group-requires
-group-requires c κs = search needs
-
-enum-known-found : tie.Need-enum-known-found
-enum-known-found c = search needs
-
-slice-aggregate-put-head : tie.Need-slice-aggregate-put-head
-slice-aggregate-put-head c = search needs
-
-number-of-requires : tie.Need-number-of-requires
-number-of-requires c κs = search needs
-
-put-head-requires : tie.Need-put-head-requires
-put-head-requires c κs = search needs
-
-enum-known-found-2 : tie.Need-enum-known-found-2
-enum-known-found-2 c = search needs
-
-put-groups-requires : tie.Need-put-groups-requires
-put-groups-requires c κs = search needs
-
-same-length : tie.Need-same-length
-same-length c = search needs
-
-same-length-2 : tie.Need-same-length-2
-same-length-2 c = search needs
-
-same-length-3 : tie.Need-same-length-3
-same-length-3 c = search needs
-
 returns : tie.Need-returns
 returns c =
     let s = c .before .before .before .before .before .before .before .before .before .before .before .before .before .before .before .before .before .before .before .before .before in
@@ -57,15 +27,6 @@ returns c =
     let h = c .before .before .put-head in
     let e : g .result ≡ groupingAnswer (groupingCall (a .nodes) (a .size) (a .offsets .now) (a .neighbours .now) (a .nodes) (8 * a .nodes + 4 * length (a .neighbours .now) + 16)) = g .ensures .0 ∙ ap (λ i. groupingAnswer (groupingCall (a .nodes) (a .size) (a .offsets .now) (a .neighbours .now) i (length (a .work .now)))) (s .pre .0) ∙ ap (λ j. groupingAnswer (groupingCall (a .nodes) (a .size) (a .offsets .now) (a .neighbours .now) (a .nodes) j)) (s .pre .1) in
     puts-as (a .out .now) 0 (line refusedWord (decimal (m .result))) (printed (groupingCall (a .nodes) (a .size) (a .offsets .now) (a .neighbours .now) (a .nodes) (8 * a .nodes + 4 * length (a .neighbours .now) + 16))) (h .last .0) (h .result) (printed-refused (groupingCall (a .nodes) (a .size) (a .offsets .now) (a .neighbours .now) (a .nodes) (8 * a .nodes + 4 * length (a .neighbours .now) + 16)) (g .result) (c .before .before .before .before .before .before .before .found .given .0 .0) (m .result) e (c .before .before .before .before .before .before .before .found .given .1) (m .ensures)) (h .ensures)
-
-same-length-4 : tie.Need-same-length-4
-same-length-4 c = search needs
-
-same-length-5 : tie.Need-same-length-5
-same-length-5 c = search needs
-
-same-length-6 : tie.Need-same-length-6
-same-length-6 c = search needs
 
 returns-2 : tie.Need-returns-2
 returns-2 c =
@@ -83,18 +44,18 @@ pub run-spec : {M : Type 1} → statement M
 run-spec =
     tie.close
     (tie.spec
-    group-requires
-    enum-known-found
-    slice-aggregate-put-head
-    number-of-requires
-    put-head-requires
-    enum-known-found-2
-    put-groups-requires
-    same-length
-    same-length-2
-    same-length-3
+    (λ c κs. search needs)
+    (λ c. search needs)
+    (λ c. search needs)
+    (λ c κs. search needs)
+    (λ c κs. search needs)
+    (λ c. search needs)
+    (λ c κs. search needs)
+    (λ c. search needs)
+    (λ c. search needs)
+    (λ c. search needs)
     returns
-    same-length-4
-    same-length-5
-    same-length-6
+    (λ c. search needs)
+    (λ c. search needs)
+    (λ c. search needs)
     returns-2)

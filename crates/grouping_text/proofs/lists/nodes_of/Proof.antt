@@ -17,9 +17,6 @@ Inv-loop numbers at nodes offsets₀ neighbours₀ i₀ have₀ pos₀ offsets n
 abbrev μ-loop : tie.MeasureT-loop
 μ-loop numbers at nodes offsets₀ neighbours₀ i₀ have₀ pos₀ offsets neighbours i have pos = nodes - i
 
-slice-write-offsets : tie.Need-slice-write-offsets Inv-loop μ-loop
-slice-write-offsets c = search needs
-
 loop-holds : tie.Need-loop-holds Inv-loop μ-loop
 loop-holds c =
     let s = c .before .before .before in
@@ -45,23 +42,14 @@ returns c =
     let n = c .before .before .before .node-of in
     (noting-bad (a .numbers .now) (a .at) (a .nodes) (set (a .offsets .now) 0 0) (a .neighbours .now) (simp length-set (s .pre .0)) (s .pre .1) (l .offsets) (l .neighbours) (l .i) (l .have) (l .pos) (l .inv) (c .before .before .before .before .before .loop-test .taken) (n .last .1 .1 .0) (n .result) (n .kept .1 .1 .0) (n .ensures .0) (n .ensures .1) (record { cause = n .result .cause; count = 0; next = 0 }) (c .if1 .left) refl (take (a .nodes + 1) (l .offsets)) (take 0 (n .last .1 .1 .0)), omega arith)
 
-add-i : tie.Need-add-i Inv-loop μ-loop
-add-i c = search needs
-
 cast-offsets : tie.Need-cast-offsets Inv-loop μ-loop
 cast-offsets c = omega (arith, c .before .before .before .node-of .ensures .1)
-
-mul-offsets : tie.Need-mul-offsets Inv-loop μ-loop
-mul-offsets c = omega arith
 
 slice-write-offsets-2 : tie.Need-slice-write-offsets-2 Inv-loop μ-loop
 slice-write-offsets-2 c =
     let l = c .before .before .before .before .before .before .loop in
     let w : length (set (c .before .before .before .before .before .before .before .before .before .before .args .offsets .now) 0 0) ≡ length (c .before .before .before .before .before .before .before .before .before .before .args .offsets .now) = length-set (c .before .before .before .before .before .before .before .before .before .before .args .offsets .now) 0 0 in
     omega (arith, l .inv .same-o, w, c .before .before .before .before .before .before .before .before .before .before .pre .0, c .before .before .before .before .before .loop-test .taken)
-
-loop-less : tie.Need-loop-less Inv-loop μ-loop
-loop-less c = omega arith
 
 loop-again : tie.Need-loop-again Inv-loop μ-loop
 loop-again c =
@@ -90,17 +78,17 @@ nodes-of-spec =
     (tie.spec
     Inv-loop
     μ-loop
-    slice-write-offsets
+    (λ c. search needs)
     loop-holds
     node-of-requires
     same-length
     same-length-2
     returns
-    add-i
+    (λ c. search needs)
     cast-offsets
-    mul-offsets
+    (λ c. omega arith)
     slice-write-offsets-2
-    loop-less
+    (λ c. omega arith)
     loop-again
     same-length-3
     same-length-4

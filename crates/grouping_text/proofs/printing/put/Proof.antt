@@ -6,15 +6,6 @@ use Rattle.grouping_text.proofs.printing.put.Tie as tie
 use Rattle.grouping_text.proofs.printing.put.Reads as reads
 use Rattle.grouping_text.proofs.printing.put.Lts as lts
 
-slice-write-out : tie.Need-slice-write-out
-slice-write-out c = search needs
-
-add-result : tie.Need-add-result
-add-result c = search needs
-
-same-length : tie.Need-same-length
-same-length c = search needs
-
 returns : tie.Need-returns
 returns c = puts-one (c .before .args .out .now) (c .before .args .at) (c .before .args .b) (c .if1 .taken)
 
@@ -22,4 +13,4 @@ returns-2 : tie.Need-returns-2
 returns-2 c = puts-over (c .before .args .out .now) (c .before .args .at) (c .before .args .b) (c .before .pre) (c .if1 .left)
 
 pub put-spec : {M : Type 1} → statement M
-put-spec = tie.close (tie.spec slice-write-out add-result same-length returns returns-2)
+put-spec = tie.close (tie.spec (λ c. search needs) (λ c. search needs) (λ c. search needs) returns returns-2)

@@ -21,17 +21,8 @@ loop-holds c =
     let s = c .before .before in
     copy-first (s .args .out .now) (s .args .at) (s .pre) (s .args .bytes .now)
 
-shared-slice-read-put : tie.Need-shared-slice-read-put Inv-loop μ-loop
-shared-slice-read-put c = search needs
-
 put-requires : tie.Need-put-requires Inv-loop μ-loop
 put-requires c κs = c .before .before .before .loop .inv .within
-
-add-i : tie.Need-add-i Inv-loop μ-loop
-add-i c = search needs
-
-loop-less : tie.Need-loop-less Inv-loop μ-loop
-loop-less c = omega arith
 
 loop-again : tie.Need-loop-again Inv-loop μ-loop
 loop-again c =
@@ -58,10 +49,10 @@ put-all-spec =
     Inv-loop
     μ-loop
     loop-holds
-    shared-slice-read-put
+    (λ c. search needs)
     put-requires
-    add-i
-    loop-less
+    (λ c. search needs)
+    (λ c. omega arith)
     loop-again
     same-length
     returns)

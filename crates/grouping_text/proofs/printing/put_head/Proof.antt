@@ -10,21 +10,6 @@ use Rattle.grouping_text.proofs.printing.put.Reads as put-reads
 use Rattle.grouping_text.proofs.printing.put_all.Reads as put-all-reads
 use Rattle.grouping_text.proofs.printing.put_decimal.Reads as put-decimal-reads
 
-put-all-requires : tie.Need-put-all-requires
-put-all-requires c κs = search needs
-
-put-requires : tie.Need-put-requires
-put-requires c κs = search needs
-
-put-decimal-requires : tie.Need-put-decimal-requires
-put-decimal-requires c κs = search needs
-
-put-requires-2 : tie.Need-put-requires-2
-put-requires-2 c κs = search needs
-
-same-length : tie.Need-same-length
-same-length c = search needs
-
 returns : tie.Need-returns
 returns c =
     let s = c .before .before .before .before .before .before .before .before .before .before .before .before .before .before .before .before .before .before in
@@ -39,9 +24,9 @@ pub put-head-spec : {M : Type 1} → statement M
 put-head-spec =
     tie.close
     (tie.spec
-    put-all-requires
-    put-requires
-    put-decimal-requires
-    put-requires-2
-    same-length
+    (λ c κs. search needs)
+    (λ c κs. search needs)
+    (λ c κs. search needs)
+    (λ c κs. search needs)
+    (λ c. search needs)
     returns)

@@ -21,23 +21,11 @@ loop-holds c =
     let s = c .before .before in
     list-first (s .args .out .now) (s .args .at) (s .pre) (s .args .ids .now)
 
-mul-put-line : tie.Need-mul-put-line Inv-loop μ-loop
-mul-put-line c = search needs
-
-shared-slice-read-put-line : tie.Need-shared-slice-read-put-line Inv-loop μ-loop
-shared-slice-read-put-line c = search needs
-
 cast-put-line : tie.Need-cast-put-line Inv-loop μ-loop
 cast-put-line c = omega (arith, c .shared-slice-known2 .given (c .before .before .before .loop .v))
 
 put-line-requires : tie.Need-put-line-requires Inv-loop μ-loop
 put-line-requires c κs = c .before .before .before .loop .inv .within
-
-add-v : tie.Need-add-v Inv-loop μ-loop
-add-v c = search needs
-
-loop-less : tie.Need-loop-less Inv-loop μ-loop
-loop-less c = omega arith
 
 loop-again : tie.Need-loop-again Inv-loop μ-loop
 loop-again c =
@@ -64,12 +52,12 @@ put-ids-spec =
     Inv-loop
     μ-loop
     loop-holds
-    mul-put-line
-    shared-slice-read-put-line
+    (λ c. search needs)
+    (λ c. search needs)
     cast-put-line
     put-line-requires
-    add-v
-    loop-less
+    (λ c. search needs)
+    (λ c. omega arith)
     loop-again
     same-length
     returns)

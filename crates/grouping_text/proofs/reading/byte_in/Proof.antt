@@ -28,9 +28,6 @@ blank-requires c κs = tt
 close-requires : tie.Need-close-requires
 close-requires c κs = tt
 
-same-length : tie.Need-same-length
-same-length c = search needs
-
 returns-2 : tie.Need-returns-2
 returns-2 c =
     let a = c .before .before .before .before .before .before .before .before .before .before .args in
@@ -53,7 +50,7 @@ byte-in-spec =
     returns
     blank-requires
     close-requires
-    same-length
+    (λ c. search needs)
     returns-2
     returns-3
     returns-4)

@@ -6,18 +6,6 @@ use Rattle.grouping_text.proofs.reading.close.Tie as tie
 use Rattle.grouping_text.proofs.reading.close.Reads as reads
 use Rattle.grouping_text.proofs.reading.close.Lts as lts
 
-mul-numbers : tie.Need-mul-numbers
-mul-numbers c = search needs
-
-slice-write-numbers : tie.Need-slice-write-numbers
-slice-write-numbers c = search needs
-
-add-t9 : tie.Need-add-t9
-add-t9 c = search needs
-
-same-length : tie.Need-same-length
-same-length c = search needs
-
 returns : tie.Need-returns
 returns c = let a = c .before .before .args in close-put (a .reader) (a .numbers .now) (c .before .if1 .taken) (c .if2 .taken)
 
@@ -30,4 +18,4 @@ returns-3 c = let a = c .before .args in close-none (a .reader) (a .numbers .now
 pub close-spec : {M : Type 1} → statement M
 close-spec =
     tie.close
-    (tie.spec mul-numbers slice-write-numbers add-t9 same-length returns returns-2 returns-3)
+    (tie.spec (λ c. search needs) (λ c. search needs) (λ c. search needs) (λ c. search needs) returns returns-2 returns-3)

@@ -10,20 +10,8 @@ use Rattle.grouping_text.proofs.reading.more.Reads as reads
 use Rattle.grouping_text.proofs.reading.more.Lts as lts
 use Rattle.grouping_text.proofs.reading.wide.Reads as wide-reads
 
-mul-m : tie.Need-mul-m
-mul-m c = omega arith
-
 wide-requires : tie.Need-wide-requires
 wide-requires c κs = tt
-
-sub-m : tie.Need-sub-m
-sub-m c = omega arith
-
-add-m : tie.Need-add-m
-add-m c = omega arith
-
-cast-result : tie.Need-cast-result
-cast-result c = omega arith
 
 returns : tie.Need-returns
 returns c =
@@ -38,4 +26,4 @@ returns-2 c =
     cap-under (a .n * 10 + (c .before .wide .result - 48)) (c .if1 .left) ∙ ap cap s
 
 pub more-spec : {M : Type 1} → statement M
-more-spec = tie.close (tie.spec mul-m wide-requires sub-m add-m cast-result returns returns-2)
+more-spec = tie.close (tie.spec (λ c. omega arith) wide-requires (λ c. omega arith) (λ c. omega arith) (λ c. omega arith) returns returns-2)

@@ -16,9 +16,6 @@ returns : tie.Need-returns
 unfolding askedOf
 returns c = let a = c .before .before .before .before .args in (asks-1 (a .numbers .now) (a .whole) (c .if1 .left), (omega arith, omega arith))
 
-shared-slice-read-nodes : tie.Need-shared-slice-read-nodes
-shared-slice-read-nodes c = search needs
-
 cast-nodes : tie.Need-cast-nodes
 cast-nodes c = omega (arith, c .shared-slice-known2 .given 0)
 
@@ -30,14 +27,8 @@ returns-3 : tie.Need-returns-3
 unfolding askedOf
 returns-3 c = let a = c .before .before .before .before .before .before .before .args in (asks-3 (a .numbers .now) (a .whole) (c .before .before .before .if1 .taken) (c .before .if2 .left) (c .if3 .left), (omega arith, omega arith))
 
-shared-slice-read-size : tie.Need-shared-slice-read-size
-shared-slice-read-size c = search needs
-
 cast-size : tie.Need-cast-size
 cast-size c = omega (arith, c .shared-slice-known3 .given 1)
-
-nodes-of-requires : tie.Need-nodes-of-requires
-nodes-of-requires c κs = search needs
 
 same-length : tie.Need-same-length
 same-length c = c .before .before .before .before .before .nodes-of .kept .1 .1 .1 .0
@@ -103,13 +94,13 @@ ask-spec =
     tie.close
     (tie.spec
     returns
-    shared-slice-read-nodes
+    (λ c. search needs)
     cast-nodes
     returns-2
     returns-3
-    shared-slice-read-size
+    (λ c. search needs)
     cast-size
-    nodes-of-requires
+    (λ c κs. search needs)
     same-length
     same-length-2
     returns-4

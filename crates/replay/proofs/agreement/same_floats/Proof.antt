@@ -11,57 +11,21 @@ Inv-loop recorded ours i₀ i = Unit {0}
 abbrev μ-loop : tie.MeasureT-loop
 μ-loop recorded ours i₀ i = length ours - i
 
-returns : tie.Need-returns Inv-loop μ-loop
-returns c = search needs
-
-loop-holds : tie.Need-loop-holds Inv-loop μ-loop
-loop-holds c = search needs
-
-mul-expected : tie.Need-mul-expected Inv-loop μ-loop
-mul-expected c = search needs
-
-shared-slice-read-expected : tie.Need-shared-slice-read-expected Inv-loop μ-loop
-shared-slice-read-expected c = search needs
-
-mul-bits-of : tie.Need-mul-bits-of Inv-loop μ-loop
-mul-bits-of c = search needs
-
-shared-slice-read-bits-of : tie.Need-shared-slice-read-bits-of Inv-loop μ-loop
-shared-slice-read-bits-of c = search needs
-
-bits-of-requires : tie.Need-bits-of-requires Inv-loop μ-loop
-bits-of-requires c κs = search needs
-
-returns-2 : tie.Need-returns-2 Inv-loop μ-loop
-returns-2 c = search needs
-
-add-i : tie.Need-add-i Inv-loop μ-loop
-add-i c = search needs
-
-loop-less : tie.Need-loop-less Inv-loop μ-loop
-loop-less c = search needs
-
-loop-again : tie.Need-loop-again Inv-loop μ-loop
-loop-again c = search needs
-
-returns-3 : tie.Need-returns-3 Inv-loop μ-loop
-returns-3 c = search needs
-
 pub same-floats-spec : {M : Type 1} → statement M
 same-floats-spec =
     tie.close
     (tie.spec
     Inv-loop
     μ-loop
-    returns
-    loop-holds
-    mul-expected
-    shared-slice-read-expected
-    mul-bits-of
-    shared-slice-read-bits-of
-    bits-of-requires
-    returns-2
-    add-i
-    loop-less
-    loop-again
-    returns-3)
+    (λ c. search needs)
+    (λ c. search needs)
+    (λ c. search needs)
+    (λ c. search needs)
+    (λ c. search needs)
+    (λ c. search needs)
+    (λ c κs. search needs)
+    (λ c. search needs)
+    (λ c. search needs)
+    (λ c. search needs)
+    (λ c. search needs)
+    (λ c. search needs))

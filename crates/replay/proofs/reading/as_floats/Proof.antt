@@ -12,61 +12,22 @@ Inv-loop from to₀ i₀ to i = length to ≡ length to₀
 abbrev μ-loop : tie.MeasureT-loop
 μ-loop from to₀ i₀ to i = length from - i
 
-loop-holds : tie.Need-loop-holds Inv-loop μ-loop
-loop-holds c = search needs
-
-same-length : tie.Need-same-length Inv-loop μ-loop
-same-length c = search needs
-
-returns : tie.Need-returns Inv-loop μ-loop
-returns c = search needs
-
-mul-of-bits : tie.Need-mul-of-bits Inv-loop μ-loop
-mul-of-bits c = search needs
-
-shared-slice-read-of-bits : tie.Need-shared-slice-read-of-bits Inv-loop μ-loop
-shared-slice-read-of-bits c = search needs
-
-of-bits-requires : tie.Need-of-bits-requires Inv-loop μ-loop
-of-bits-requires c κs = search needs
-
-mul-to : tie.Need-mul-to Inv-loop μ-loop
-mul-to c = search needs
-
-slice-write-to : tie.Need-slice-write-to Inv-loop μ-loop
-slice-write-to c = search needs
-
-add-i : tie.Need-add-i Inv-loop μ-loop
-add-i c = search needs
-
-loop-less : tie.Need-loop-less Inv-loop μ-loop
-loop-less c = search needs
-
-loop-again : tie.Need-loop-again Inv-loop μ-loop
-loop-again c = search needs
-
-same-length-2 : tie.Need-same-length-2 Inv-loop μ-loop
-same-length-2 c = search needs
-
-returns-2 : tie.Need-returns-2 Inv-loop μ-loop
-returns-2 c = search needs
-
 pub as-floats-spec : {M : Type 1} → statement M
 as-floats-spec =
     tie.close
     (tie.spec
     Inv-loop
     μ-loop
-    loop-holds
-    same-length
-    returns
-    mul-of-bits
-    shared-slice-read-of-bits
-    of-bits-requires
-    mul-to
-    slice-write-to
-    add-i
-    loop-less
-    loop-again
-    same-length-2
-    returns-2)
+    (λ c. search needs)
+    (λ c. search needs)
+    (λ c. search needs)
+    (λ c. search needs)
+    (λ c. search needs)
+    (λ c κs. search needs)
+    (λ c. search needs)
+    (λ c. search needs)
+    (λ c. search needs)
+    (λ c. search needs)
+    (λ c. search needs)
+    (λ c. search needs)
+    (λ c. search needs))

@@ -24,9 +24,6 @@ stay c r h = go (ltb c r) (ltb→lt c r)
     go true k = let x = k tt in omega arith
     go false k = refl
 
-add-result : tie.Need-add-result
-add-result c = search needs
-
 returns : tie.Need-returns
 returns c = up (c .before .args .root) (c .before .args .rest) (search needs)
 
@@ -34,4 +31,4 @@ returns-2 : tie.Need-returns-2
 returns-2 c = stay (c .before .args .root) (c .before .args .rest) (search needs)
 
 pub nearest-spec : {M : Type 1} → statement M
-nearest-spec = tie.close (tie.spec add-result returns returns-2)
+nearest-spec = tie.close (tie.spec (λ c. search needs) returns returns-2)

@@ -8,12 +8,6 @@ use Rattle.root.proofs.digits.newton.Tie as tie
 known : (c : tie.Start) → Steps (c .args .a) (c .args .t)
 known c = steps (c .args .a) (c .args .t) (c .pre .0) (c .pre .1) (c .pre .2)
 
-cast-q : tie.Need-cast-q
-cast-q c = search needs
-
-div-q : tie.Need-div-q
-div-q c = search needs
-
 add-s : tie.Need-add-s
 add-s c = record { fits = known c .first-lt }
 
@@ -30,4 +24,4 @@ returns : tie.Need-returns
 returns c = known c .last-lt
 
 pub newton-spec : {M : Type 1} → statement M
-newton-spec = tie.close (tie.spec cast-q div-q add-s cast-s div-result add-result returns)
+newton-spec = tie.close (tie.spec (λ c. search needs) (λ c. search needs) add-s cast-s div-result add-result returns)

@@ -20,32 +20,14 @@ Inv-loop2 a near s₀ s = (s < 2 ^ 30) × (a < (s + 1) * (s + 1))
 abbrev μ-loop2 : tie.MeasureT-loop2
 μ-loop2 a near s₀ s = s
 
-loop-holds : tie.Need-loop-holds Inv-loop μ-loop Inv-loop2 μ-loop2
-loop-holds c = search needs
-
-add-loop : tie.Need-add-loop Inv-loop μ-loop Inv-loop2 μ-loop2
-add-loop c = omega arith
-
-add-loop-2 : tie.Need-add-loop-2 Inv-loop μ-loop Inv-loop2 μ-loop2
-add-loop-2 c = omega arith
-
 mul-loop : tie.Need-mul-loop Inv-loop μ-loop Inv-loop2 μ-loop2
 mul-loop c = record { fits = square-fits (c .loop .s + 1) (omega arith) }
-
-add-s : tie.Need-add-s Inv-loop μ-loop Inv-loop2 μ-loop2
-add-s c = omega arith
-
-loop-less : tie.Need-loop-less Inv-loop μ-loop Inv-loop2 μ-loop2
-loop-less c = omega arith
 
 loop-again : tie.Need-loop-again Inv-loop μ-loop Inv-loop2 μ-loop2
 loop-again c =
     let s = c .before .loop .s in
     let g = root-small (c .before .before .args .a) (s + 1) (omega arith) (c .loop-test .taken) in
     omega arith
-
-loop2-holds : tie.Need-loop2-holds Inv-loop μ-loop Inv-loop2 μ-loop2
-loop2-holds c = search needs
 
 mul-loop2 : tie.Need-mul-loop2 Inv-loop μ-loop Inv-loop2 μ-loop2
 mul-loop2 c = record { fits = square-fits (c .loop2 .s) (omega arith) }
@@ -80,14 +62,14 @@ whole-root-spec =
     μ-loop
     Inv-loop2
     μ-loop2
-    loop-holds
-    add-loop
-    add-loop-2
+    (λ c. search needs)
+    (λ c. omega arith)
+    (λ c. omega arith)
     mul-loop
-    add-s
-    loop-less
+    (λ c. omega arith)
+    (λ c. omega arith)
     loop-again
-    loop2-holds
+    (λ c. search needs)
     mul-loop2
     sub-s
     loop2-less

@@ -13,17 +13,8 @@ use Rattle.root.proofs.starts.start.Reads as start-reads
 
 -- ---- up to the whole root
 
-start-requires : tie.Need-start-requires
-start-requires c κs = search needs
-
-cast-t : tie.Need-cast-t
-cast-t c = search needs
-
 newton-requires : tie.Need-newton-requires
 newton-requires c κs = let e = c .start .ensures in (c .before .pre .1, omega arith, omega arith)
-
-whole-root-requires : tie.Need-whole-root-requires
-whole-root-requires c κs = search needs
 
 -- ---- from it on
 
@@ -69,9 +60,6 @@ mul-if1 c = record { fits = square-fits (a c * 2 ^ 52) (s c) (q c) (u c) (d c) (
 mul-t15 : tie.Need-mul-t15
 mul-t15 c = let b = c .before in record { fits = square-fits (a b * 2 ^ 52) (s b) (q b) (u b) (d b) (known b) }
 
-sub-t16 : tie.Need-sub-t16
-sub-t16 c = search needs
-
 sub-t17 : tie.Need-sub-t17
 sub-t17 c = let b = c .before in let h = cand-pos (a b * 2 ^ 52) (s b) (q b) (u b) (d b) (known b) in omega arith
 
@@ -100,10 +88,10 @@ pub with-rest-spec : {M : Type 1} → statement M
 with-rest-spec =
     tie.close
     (tie.spec
-    start-requires
-    cast-t
+    (λ c κs. search needs)
+    (λ c. search needs)
     newton-requires
-    whole-root-requires
+    (λ c κs. search needs)
     mul-n
     sub-n
     div-q
@@ -111,7 +99,7 @@ with-rest-spec =
     add-c
     mul-if1
     mul-t15
-    sub-t16
+    (λ c. search needs)
     sub-t17
     mul-t18
     sub-t19

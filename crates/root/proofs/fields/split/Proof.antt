@@ -91,9 +91,6 @@ field-lt c = omega arith
 add-t12 : tie.Need-add-t12
 add-t12 c = let e = mask-is (c .before .args .b) in omega arith
 
-cast-t13 : tie.Need-cast-t13
-cast-t13 c = search needs
-
 exponent' : (c : High) → toZ w32 (field c) -ℤ pos 1023 ≡ pos (field c) -ℤ pos 1023
 exponent' c = ap (λ (y : ℤ). y -ℤ pos 1023) (again-is (pos (field c)) (lt-of-lt-of-le (field-lt c) (lit≤ tt)))
 
@@ -111,4 +108,4 @@ returns-2 c =
 pub split-spec : {M : Type 1} → statement M
 split-spec =
     tie.close
-    (tie.spec sub-z cast-t8 shl-t9 cast-t10 sub-t11 add-t12 cast-t13 sub-t14 returns returns-2)
+    (tie.spec sub-z cast-t8 shl-t9 cast-t10 sub-t11 add-t12 (λ c. search needs) sub-t14 returns returns-2)

@@ -19,27 +19,12 @@ abbrev μ-loop : tie.MeasureT-loop
 loop-holds : tie.Need-loop-holds Inv-loop μ-loop
 loop-holds c = (omega arith, refl)
 
-mul-v : tie.Need-mul-v Inv-loop μ-loop
-mul-v c = search needs
-
-shared-slice-read-v : tie.Need-shared-slice-read-v Inv-loop μ-loop
-shared-slice-read-v c = search needs
-
-usable-requires : tie.Need-usable-requires Inv-loop μ-loop
-usable-requires c κs = search needs
-
 returns : tie.Need-returns Inv-loop μ-loop
 unfolding answerOf
 returns c =
     let d = c .before .before .before .before .before .before .before .args .d .now in
     let l = c .before .before .before .before .before .loop in
     ap answerOf (sym (row-negative d (l .i) (omega arith) (sym (c .before .before .usable .ensures) ∙ c .before .if1 .taken) (c .if2 .taken)) ∙ l .inv .1)
-
-add-i : tie.Need-add-i Inv-loop μ-loop
-add-i c = search needs
-
-loop-less : tie.Need-loop-less Inv-loop μ-loop
-loop-less c = omega arith
 
 loop-again : tie.Need-loop-again Inv-loop μ-loop
 loop-again c =
@@ -68,12 +53,12 @@ check-spec =
     Inv-loop
     μ-loop
     loop-holds
-    mul-v
-    shared-slice-read-v
-    usable-requires
+    (λ c. search needs)
+    (λ c. search needs)
+    (λ c κs. search needs)
     returns
-    add-i
-    loop-less
+    (λ c. search needs)
+    (λ c. omega arith)
     loop-again
     returns-2
     returns-3)

@@ -20,34 +20,10 @@ Inv-loop d s₀ table i₀ i-end s i = (i ≤ i-end) × (i-end ≡ length s₀) 
 abbrev μ-loop : tie.MeasureT-loop
 μ-loop d s₀ table i₀ i-end s i = i-end - i
 
-table-requires : tie.Need-table-requires Inv-loop μ-loop
-table-requires c κs = search needs
-
 loop-holds : tie.Need-loop-holds Inv-loop μ-loop
 loop-holds c =
     let a = c .before .before .before .args in
     (omega arith, refl, refl, tab-none (λ k. oneᶠ /ᶠ rootᶠ (getD (a .d .now) k nan)) (a .s .now))
-
-mul-root-by : tie.Need-mul-root-by Inv-loop μ-loop
-mul-root-by c = search needs
-
-shared-slice-read-root-by : tie.Need-shared-slice-read-root-by Inv-loop μ-loop
-shared-slice-read-root-by c = search needs
-
-root-by-requires : tie.Need-root-by-requires Inv-loop μ-loop
-root-by-requires c κs = search needs
-
-mul-s : tie.Need-mul-s Inv-loop μ-loop
-mul-s c = search needs
-
-slice-write-s : tie.Need-slice-write-s Inv-loop μ-loop
-slice-write-s c = search needs
-
-add-i : tie.Need-add-i Inv-loop μ-loop
-add-i c = search needs
-
-loop-less : tie.Need-loop-less Inv-loop μ-loop
-loop-less c = omega arith
 
 loop-again : tie.Need-loop-again Inv-loop μ-loop
 loop-again c =
@@ -58,9 +34,6 @@ loop-again c =
       simp length-set (l .inv .2),
       tab-more (λ k. oneᶠ /ᶠ rootᶠ (getD (a .d .now) k nan)) (l .i) (l .s) (a .s .now) (oneᶠ /ᶠ c .root-by .result) (omega arith) (l .inv .3) (ap (λ v. oneᶠ /ᶠ v) (c .root-by .ensures)),
     )
-
-same-length : tie.Need-same-length Inv-loop μ-loop
-same-length c = search needs
 
 returns : tie.Need-returns Inv-loop μ-loop
 unfolding inverseRoots
@@ -77,15 +50,15 @@ inverse-roots-spec =
     (tie.spec
     Inv-loop
     μ-loop
-    table-requires
+    (λ c κs. search needs)
     loop-holds
-    mul-root-by
-    shared-slice-read-root-by
-    root-by-requires
-    mul-s
-    slice-write-s
-    add-i
-    loop-less
+    (λ c. search needs)
+    (λ c. search needs)
+    (λ c κs. search needs)
+    (λ c. search needs)
+    (λ c. search needs)
+    (λ c. search needs)
+    (λ c. omega arith)
     loop-again
-    same-length
+    (λ c. search needs)
     returns)

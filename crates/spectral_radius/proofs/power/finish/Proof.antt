@@ -20,38 +20,17 @@ rho-ok c =
     rho-is m (take (a .rows) (a .w .now)) (vectorIn (a .rows) (a .w .now)) (vectorIn (a .rows) w) (imageIn (a .rows) w) (c .quotient .result) (c .quotient .ensures)
     (kept-vector (a .rows) m (a .w .now) w (s .pre .1) (d .ensures .0)) (image-made (a .rows) m (a .w .now) w (s .pre .1) (d .ensures .0))
 
-map-vector-requires : tie.Need-map-vector-requires
-map-vector-requires c κs = search needs
-
-quotient-requires : tie.Need-quotient-requires
-quotient-requires c κs = search needs
-
-above-requires : tie.Need-above-requires
-above-requires c κs = search needs
-
-above-requires-2 : tie.Need-above-requires-2
-above-requires-2 c κs = search needs
-
-same-length : tie.Need-same-length
-same-length c = search needs
-
 returns : tie.Need-returns
 unfolding dampingOf
 returns c =
     let a = c .before .before .before .before .before .before .before .before .before .before .before .before .before .before .args in
     finished (csr (a .rows) (a .rows) (a .ptr .now) (a .idx .now) (a .vals .now)) (take (a .rows) (a .w .now)) (vectorIn (a .rows) (a .w .now)) (c .before .before .before .before .quotient .result) (rho-ok (c .before .before .before .before)) (sym (c .before .before .before .above .ensures) ∙ c .before .before .if1 .taken) (sym (c .before .above2 .ensures) ∙ c .if2 .taken)
 
-same-length-2 : tie.Need-same-length-2
-same-length-2 c = search needs
-
 returns-2 : tie.Need-returns-2
 unfolding dampingOf
 returns-2 c =
     let a = c .before .before .before .before .before .before .before .before .before .before .before .before .before .before .args in
     fails-at-4 (csr (a .rows) (a .rows) (a .ptr .now) (a .idx .now) (a .vals .now)) (take (a .rows) (a .w .now)) (vectorIn (a .rows) (a .w .now)) (c .before .before .before .before .quotient .result) (rho-ok (c .before .before .before .before)) (sym (c .before .before .before .above .ensures) ∙ c .before .before .if1 .taken) (sym (c .before .above2 .ensures) ∙ c .if2 .left)
-
-same-length-3 : tie.Need-same-length-3
-same-length-3 c = search needs
 
 returns-3 : tie.Need-returns-3
 returns-3 c =
@@ -62,13 +41,13 @@ pub finish-spec : {M : Type 1} → statement M
 finish-spec =
     tie.close
     (tie.spec
-    map-vector-requires
-    quotient-requires
-    above-requires
-    above-requires-2
-    same-length
+    (λ c κs. search needs)
+    (λ c κs. search needs)
+    (λ c κs. search needs)
+    (λ c κs. search needs)
+    (λ c. search needs)
     returns
-    same-length-2
+    (λ c. search needs)
     returns-2
-    same-length-3
+    (λ c. search needs)
     returns-3)

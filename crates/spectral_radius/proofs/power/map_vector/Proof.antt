@@ -23,32 +23,11 @@ Inv-loop rows ptr idx vals w₀ start sum₀ i₀ w sum i = (i ≤ rows) × (len
 abbrev μ-loop : tie.MeasureT-loop
 μ-loop rows ptr idx vals w₀ start sum₀ i₀ w sum i = rows - i
 
-add-start : tie.Need-add-start Inv-loop μ-loop
-add-start c = search needs
-
 loop-holds : tie.Need-loop-holds Inv-loop μ-loop
 loop-holds c =
     let a = c .before .before .before .before .args in
     let f = imageAt (csr (a .rows) (a .rows) (a .ptr .now) (a .idx .now) (a .vals .now)) (take (a .rows) (a .w .now)) (vectorIn (a .rows) (a .w .now)) in
     (omega arith, refl, refl, filled-none f (a .rows + a .rows) (a .w .now), summed-none (λ k. f k *ᶠ f k))
-
-row-image-requires : tie.Need-row-image-requires Inv-loop μ-loop
-row-image-requires c κs = search needs
-
-add-w : tie.Need-add-w Inv-loop μ-loop
-add-w c = search needs
-
-mul-w : tie.Need-mul-w Inv-loop μ-loop
-mul-w c = search needs
-
-slice-write-w : tie.Need-slice-write-w Inv-loop μ-loop
-slice-write-w c = search needs
-
-add-i : tie.Need-add-i Inv-loop μ-loop
-add-i c = search needs
-
-loop-less : tie.Need-loop-less Inv-loop μ-loop
-loop-less c = omega arith
 
 loop-again : tie.Need-loop-again Inv-loop μ-loop
 loop-again c =
@@ -65,9 +44,6 @@ loop-again c =
       ap (λ x. l .sum +ᶠ x *ᶠ x) v ∙ summed-more (λ k. f k *ᶠ f k) (l .i) (l .sum) _ _ (l .inv .4) refl refl,
     )
 
-same-length : tie.Need-same-length Inv-loop μ-loop
-same-length c = search needs
-
 returns : tie.Need-returns Inv-loop μ-loop
 unfolding image
 returns c =
@@ -83,14 +59,14 @@ map-vector-spec =
     (tie.spec
     Inv-loop
     μ-loop
-    add-start
+    (λ c. search needs)
     loop-holds
-    row-image-requires
-    add-w
-    mul-w
-    slice-write-w
-    add-i
-    loop-less
+    (λ c κs. search needs)
+    (λ c. search needs)
+    (λ c. search needs)
+    (λ c. search needs)
+    (λ c. search needs)
+    (λ c. omega arith)
     loop-again
-    same-length
+    (λ c. search needs)
     returns)

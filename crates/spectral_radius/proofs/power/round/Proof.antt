@@ -6,21 +6,6 @@ use borrow.Author.Needs.{needs}
 use Rattle.spectral_radius.proofs.power.round.Statement.{statement}
 use Rattle.spectral_radius.proofs.power.round.Tie as tie
 
-map-vector-requires : tie.Need-map-vector-requires
-map-vector-requires c κs = search needs
-
-root-requires : tie.Need-root-requires
-root-requires c κs = search needs
-
-usable-requires : tie.Need-usable-requires
-usable-requires c κs = search needs
-
-scale-requires : tie.Need-scale-requires
-scale-requires c κs = search needs
-
-same-length : tie.Need-same-length
-same-length c = search needs
-
 returns : tie.Need-returns
 returns c =
     let s = c .before .before .before .before .before .before .before .before .before .before .before .before .before .before .before in
@@ -30,9 +15,6 @@ returns c =
     let n = c .before .before .before .before .before .before .root in
     let e = norm-on-way (a .rows) m (a .w .now) (k .last .1 .1 .1 .1 .0) (s .pre .1) (k .ensures .0) (k .result) (n .result) (k .ensures .1) (n .ensures) in
     round-passes (a .rows) m (a .w .now) (k .last .1 .1 .1 .1 .0) (s .pre .1) (k .ensures .0) (n .result) e (c .before .before .scale .last .1 .1 .0) (sym (c .before .before .before .before .before .usable .ensures) ∙ c .before .before .before .before .if1 .taken) (c .before .before .scale .ensures)
-
-same-length-2 : tie.Need-same-length-2
-same-length-2 c = search needs
 
 returns-2 : tie.Need-returns-2
 returns-2 c =
@@ -48,11 +30,11 @@ pub round-spec : {M : Type 1} → statement M
 round-spec =
     tie.close
     (tie.spec
-    map-vector-requires
-    root-requires
-    usable-requires
-    scale-requires
-    same-length
+    (λ c κs. search needs)
+    (λ c κs. search needs)
+    (λ c κs. search needs)
+    (λ c κs. search needs)
+    (λ c. search needs)
     returns
-    same-length-2
+    (λ c. search needs)
     returns-2)

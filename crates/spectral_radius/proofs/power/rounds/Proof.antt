@@ -20,15 +20,6 @@ abbrev μ-loop : tie.MeasureT-loop
 loop-holds : tie.Need-loop-holds Inv-loop μ-loop
 loop-holds c = (omega arith, refl, refl, refl)
 
-round-requires : tie.Need-round-requires Inv-loop μ-loop
-round-requires c κs = search needs
-
-add-k : tie.Need-add-k Inv-loop μ-loop
-add-k c = search needs
-
-loop-less : tie.Need-loop-less Inv-loop μ-loop
-loop-less c = omega arith
-
 loop-again : tie.Need-loop-again Inv-loop μ-loop
 loop-again c =
     let a = c .before .before .before .before .before .before .before .before .before .before .before .args in
@@ -42,9 +33,6 @@ loop-again c =
           (rw (c .if1 .taken) at (r .ensures .1)) ∙ (rw z at (l .inv .3)),
     )
 
-same-length : tie.Need-same-length Inv-loop μ-loop
-same-length c = search needs
-
 returns : tie.Need-returns Inv-loop μ-loop
 returns c =
     let a = c .before .before .before .before .before .before .before .before .before .before .before .args in
@@ -55,9 +43,6 @@ returns c =
       rounds-stop (csr (a .rows) (a .rows) (a .ptr .now) (a .idx .now) (a .vals .now)) (take (a .rows) (a .w .now)) (take (a .rows) (l .w)) (vectorIn (a .rows) (l .w)) (vectorIn (a .rows) (r .last .1 .1 .1 .1 .0)) (10 - (l .k + 1)) (l .inv .2)
           (rw (c .if1 .left) at (r .ensures .1)) ∙ (rw z at (l .inv .3)),
     )
-
-same-length-2 : tie.Need-same-length-2 Inv-loop μ-loop
-same-length-2 c = search needs
 
 returns-2 : tie.Need-returns-2 Inv-loop μ-loop
 returns-2 c =
@@ -72,11 +57,11 @@ rounds-spec =
     Inv-loop
     μ-loop
     loop-holds
-    round-requires
-    add-k
-    loop-less
+    (λ c κs. search needs)
+    (λ c. search needs)
+    (λ c. omega arith)
     loop-again
-    same-length
+    (λ c. search needs)
     returns
-    same-length-2
+    (λ c. search needs)
     returns-2)

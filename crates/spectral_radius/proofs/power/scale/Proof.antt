@@ -18,37 +18,10 @@ Inv-loop rows norm w₀ start i₀ w i = (i ≤ rows) × (length w ≡ length w�
 abbrev μ-loop : tie.MeasureT-loop
 μ-loop rows norm w₀ start i₀ w i = rows - i
 
-add-start : tie.Need-add-start Inv-loop μ-loop
-add-start c = search needs
-
 loop-holds : tie.Need-loop-holds Inv-loop μ-loop
 loop-holds c =
     let a = c .args in
     (omega arith, refl, refl, refl, filled-none (scaledAt (a .rows) (a .norm) (a .w .now)) (a .rows) (a .w .now))
-
-add-v : tie.Need-add-v Inv-loop μ-loop
-add-v c = search needs
-
-mul-v : tie.Need-mul-v Inv-loop μ-loop
-mul-v c = search needs
-
-slice-read-v : tie.Need-slice-read-v Inv-loop μ-loop
-slice-read-v c = search needs
-
-add-w : tie.Need-add-w Inv-loop μ-loop
-add-w c = search needs
-
-mul-w : tie.Need-mul-w Inv-loop μ-loop
-mul-w c = search needs
-
-slice-write-w : tie.Need-slice-write-w Inv-loop μ-loop
-slice-write-w c = search needs
-
-add-i : tie.Need-add-i Inv-loop μ-loop
-add-i c = search needs
-
-loop-less : tie.Need-loop-less Inv-loop μ-loop
-loop-less c = omega arith
 
 loop-again : tie.Need-loop-again Inv-loop μ-loop
 loop-again c =
@@ -63,9 +36,6 @@ loop-again c =
           (ap (λ y. y /ᶠ a .norm) (unread (a .rows) (a .norm) (a .w .now) (l .i) (l .w) (omega arith) (l .inv .3))),
     )
 
-same-length : tie.Need-same-length Inv-loop μ-loop
-same-length c = search needs
-
 returns : tie.Need-returns Inv-loop μ-loop
 returns c =
     let a = c .before .before .args in
@@ -79,16 +49,16 @@ scale-spec =
     (tie.spec
     Inv-loop
     μ-loop
-    add-start
+    (λ c. search needs)
     loop-holds
-    add-v
-    mul-v
-    slice-read-v
-    add-w
-    mul-w
-    slice-write-w
-    add-i
-    loop-less
+    (λ c. search needs)
+    (λ c. search needs)
+    (λ c. search needs)
+    (λ c. search needs)
+    (λ c. search needs)
+    (λ c. search needs)
+    (λ c. search needs)
+    (λ c. omega arith)
     loop-again
-    same-length
+    (λ c. search needs)
     returns)

@@ -9,21 +9,6 @@ use borrow.Author.Needs.{needs}
 use Rattle.spectral_radius.proofs.vectors.begin.Statement.{statement}
 use Rattle.spectral_radius.proofs.vectors.begin.Tie as tie
 
-start-requires : tie.Need-start-requires
-start-requires c κs = search needs
-
-norm-requires : tie.Need-norm-requires
-norm-requires c κs = search needs
-
-usable-requires : tie.Need-usable-requires
-usable-requires c κs = search needs
-
-divide-requires : tie.Need-divide-requires
-divide-requires c κs = search needs
-
-same-length : tie.Need-same-length
-same-length c = search needs
-
 returns : tie.Need-returns
 returns c =
     let s = c .before .before .before .before .before .before .before .before .before .before .start in
@@ -32,9 +17,6 @@ returns c =
     let d = c .before .before .divide in
     divided 1 (startOf (length (c .before .before .before .before .before .before .before .before .before .before .before .before .before .args .x .now))) (n .result) (n .ensures ∙ ap norm (s .ensures)) (d .last .0)
     (sym (u .ensures) ∙ c .before .before .before .before .if1 .taken) (d .ensures ∙ ap (λ l. map (λ v. v /ᶠ n .result) l) (s .ensures))
-
-same-length-2 : tie.Need-same-length-2
-same-length-2 c = search needs
 
 returns-2 : tie.Need-returns-2
 returns-2 c =
@@ -47,11 +29,11 @@ pub begin-spec : {M : Type 1} → statement M
 begin-spec =
     tie.close
     (tie.spec
-    start-requires
-    norm-requires
-    usable-requires
-    divide-requires
-    same-length
+    (λ c κs. search needs)
+    (λ c κs. search needs)
+    (λ c κs. search needs)
+    (λ c κs. search needs)
+    (λ c. search needs)
     returns
-    same-length-2
+    (λ c. search needs)
     returns-2)

@@ -22,24 +22,6 @@ abbrev μ-loop : tie.MeasureT-loop
 loop-holds : tie.Need-loop-holds Inv-loop μ-loop
 loop-holds c = let a = c .args in (omega arith, refl, refl, tab-none (λ i. getD (a .x .now) i nan /ᶠ a .norm) (a .x .now))
 
-mul-x : tie.Need-mul-x Inv-loop μ-loop
-mul-x c = search needs
-
-slice-read-x : tie.Need-slice-read-x Inv-loop μ-loop
-slice-read-x c = search needs
-
-mul-x-2 : tie.Need-mul-x-2 Inv-loop μ-loop
-mul-x-2 c = search needs
-
-slice-write-x : tie.Need-slice-write-x Inv-loop μ-loop
-slice-write-x c = search needs
-
-add-k : tie.Need-add-k Inv-loop μ-loop
-add-k c = search needs
-
-loop-less : tie.Need-loop-less Inv-loop μ-loop
-loop-less c = omega arith
-
 loop-again : tie.Need-loop-again Inv-loop μ-loop
 loop-again c =
     let a = c .before .before .before .args in
@@ -49,9 +31,6 @@ loop-again c =
       simp length-set (l .inv .2),
       tab-more (λ i. getD (a .x .now) i nan /ᶠ a .norm) (l .k) (l .x) (a .x .now) (getD (l .x) (l .k) nan /ᶠ a .norm) (omega arith) (l .inv .3) (ap (λ v. v /ᶠ a .norm) (tab-unread nan (λ i. getD (a .x .now) i nan /ᶠ a .norm) (l .k) (l .x) (a .x .now) (omega arith) (l .inv .3))),
     )
-
-same-length : tie.Need-same-length Inv-loop μ-loop
-same-length c = search needs
 
 returns : tie.Need-returns Inv-loop μ-loop
 returns c =
@@ -66,12 +45,12 @@ divide-spec =
     Inv-loop
     μ-loop
     loop-holds
-    mul-x
-    slice-read-x
-    mul-x-2
-    slice-write-x
-    add-k
-    loop-less
+    (λ c. search needs)
+    (λ c. search needs)
+    (λ c. search needs)
+    (λ c. search needs)
+    (λ c. search needs)
+    (λ c. omega arith)
     loop-again
-    same-length
+    (λ c. search needs)
     returns)

@@ -4,14 +4,8 @@ use borrow.Author.Needs.{needs}
 use Rattle.spectral_radius.proofs.vectors.norm.Statement.{statement}
 use Rattle.spectral_radius.proofs.vectors.norm.Tie as tie
 
-dot-requires : tie.Need-dot-requires
-dot-requires c κs = search needs
-
-root-requires : tie.Need-root-requires
-root-requires c κs = search needs
-
 returns : tie.Need-returns
 returns c = norm-is (c .before .before .before .args .x .now) (c .before .dot .result) (c .root .result) (c .before .dot .ensures) (c .root .ensures)
 
 pub norm-spec : {M : Type 1} → statement M
-norm-spec = tie.close (tie.spec dot-requires root-requires returns)
+norm-spec = tie.close (tie.spec (λ c κs. search needs) (λ c κs. search needs) returns)

@@ -21,21 +21,6 @@ abbrev μ-loop : tie.MeasureT-loop
 loop-holds : tie.Need-loop-holds Inv-loop μ-loop
 loop-holds c = let a = c .before .args in (omega arith, refl, refl, tab-none (λ i. oneᶠ +ᶠ ofℕ ((17 * i + 11) % 101)) (a .x .now))
 
-start-at-requires : tie.Need-start-at-requires Inv-loop μ-loop
-start-at-requires c κs = search needs
-
-mul-x : tie.Need-mul-x Inv-loop μ-loop
-mul-x c = search needs
-
-slice-write-x : tie.Need-slice-write-x Inv-loop μ-loop
-slice-write-x c = search needs
-
-add-k : tie.Need-add-k Inv-loop μ-loop
-add-k c = search needs
-
-loop-less : tie.Need-loop-less Inv-loop μ-loop
-loop-less c = omega arith
-
 loop-again : tie.Need-loop-again Inv-loop μ-loop
 loop-again c =
     let a = c .before .before .before .before .args in
@@ -45,9 +30,6 @@ loop-again c =
       simp length-set (l .inv .2),
       tab-more (λ i. oneᶠ +ᶠ ofℕ ((17 * i + 11) % 101)) (l .k) (l .x) (a .x .now) (c .start-at .result) (omega arith) (l .inv .3) (c .start-at .ensures),
     )
-
-same-length : tie.Need-same-length Inv-loop μ-loop
-same-length c = search needs
 
 returns : tie.Need-returns Inv-loop μ-loop
 unfolding startOf
@@ -63,11 +45,11 @@ start-spec =
     Inv-loop
     μ-loop
     loop-holds
-    start-at-requires
-    mul-x
-    slice-write-x
-    add-k
-    loop-less
+    (λ c κs. search needs)
+    (λ c. search needs)
+    (λ c. search needs)
+    (λ c. search needs)
+    (λ c. omega arith)
     loop-again
-    same-length
+    (λ c. search needs)
     returns)

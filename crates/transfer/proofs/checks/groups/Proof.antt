@@ -13,29 +13,8 @@ mul-c c = let p = c .before .pre in omega (arith, mul-le-mul (p .4) (p .3))
 returns : tie.Need-returns
 returns c = let a = c .before .before .args in too-large (a .rows) (a .entries) (a .size) (a .ids .now) (a .count) (a .diagonal) (a .ints) (a .floats) (omega arith)
 
-mul-if2 : tie.Need-mul-if2
-mul-if2 c = search needs
-
-add-if2 : tie.Need-add-if2
-add-if2 c = search needs
-
-add-if2-2 : tie.Need-add-if2-2
-add-if2-2 c = search needs
-
-mul-if2-2 : tie.Need-mul-if2-2
-mul-if2-2 c = search needs
-
-add-if2-3 : tie.Need-add-if2-3
-add-if2-3 c = search needs
-
 returns-2 : tie.Need-returns-2
 returns-2 c = let a = c .before .before .before .args in coarse-ints (a .rows) (a .entries) (a .size) (a .ids .now) (a .count) (a .diagonal) (a .ints) (a .floats) (omega arith) (omega arith)
-
-add-if3 : tie.Need-add-if3
-add-if3 c = search needs
-
-add-if3-2 : tie.Need-add-if3-2
-add-if3-2 c = search needs
 
 returns-3 : tie.Need-returns-3
 returns-3 c = let a = c .before .before .before .before .args in coarse-floats (a .rows) (a .entries) (a .size) (a .ids .now) (a .count) (a .diagonal) (a .ints) (a .floats) (omega arith) (omega arith) (omega arith)
@@ -43,14 +22,8 @@ returns-3 c = let a = c .before .before .before .before .args in coarse-floats (
 returns-4 : tie.Need-returns-4
 returns-4 c = let a = c .before .before .before .before .before .args in wrong-diagonal (a .rows) (a .entries) (a .size) (a .ids .now) (a .count) (a .diagonal) (a .ints) (a .floats) (omega arith) (omega arith) (omega arith) (c .if4 .taken)
 
-div-if5 : tie.Need-div-if5
-div-if5 c = search needs
-
 returns-5 : tie.Need-returns-5
 returns-5 c = let a = c .before .before .before .before .before .before .args in other-ids (a .rows) (a .entries) (a .size) (a .ids .now) (a .count) (a .diagonal) (a .ints) (a .floats) (omega arith) (omega arith) (omega arith) (c .before .if4 .left) (c .if5 .taken)
-
-id-outside-requires : tie.Need-id-outside-requires
-id-outside-requires c κs = search needs
 
 returns-6 : tie.Need-returns-6
 returns-6 c = let a = c .before .before .before .before .before .before .before .before .args in id-outside (a .rows) (a .entries) (a .size) (a .ids .now) (a .count) (a .diagonal) (a .ints) (a .floats) (omega arith) (omega arith) (omega arith) (c .before .before .before .if4 .left) (c .before .before .if5 .left) (sym (c .before .id-outside .ensures) ∙ c .if6 .taken)
@@ -64,18 +37,18 @@ groups-spec =
     (tie.spec
     mul-c
     returns
-    mul-if2
-    add-if2
-    add-if2-2
-    mul-if2-2
-    add-if2-3
+    (λ c. search needs)
+    (λ c. search needs)
+    (λ c. search needs)
+    (λ c. search needs)
+    (λ c. search needs)
     returns-2
-    add-if3
-    add-if3-2
+    (λ c. search needs)
+    (λ c. search needs)
     returns-3
     returns-4
-    div-if5
+    (λ c. search needs)
     returns-5
-    id-outside-requires
+    (λ c κs. search needs)
     returns-6
     returns-7)

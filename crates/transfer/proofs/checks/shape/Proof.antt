@@ -14,26 +14,11 @@ returns-2 c = let a = c .before .before .args in size-none (a .rows) (a .cols) (
 returns-3 : tie.Need-returns-3
 returns-3 c = let a = c .before .before .before .args in size-large (a .rows) (a .cols) (a .entries) (a .size) (a .ints) (a .floats) (c .before .before .if1 .left) (c .before .if2 .left) (c .if3 .taken)
 
-rem-if4 : tie.Need-rem-if4
-rem-if4 c = search needs
-
 returns-4 : tie.Need-returns-4
 returns-4 c = let a = c .before .before .before .before .args in not-multiple (a .rows) (a .cols) (a .entries) (a .size) (a .ints) (a .floats) (c .before .before .before .if1 .left) (c .before .before .if2 .left) (c .before .if3 .left) (c .if4 .taken)
 
-mul-if5 : tie.Need-mul-if5
-mul-if5 c = search needs
-
-add-if5 : tie.Need-add-if5
-add-if5 c = search needs
-
-add-if5-2 : tie.Need-add-if5-2
-add-if5-2 c = search needs
-
 returns-5 : tie.Need-returns-5
 returns-5 c = let a = c .before .before .before .before .before .args in ints-short (a .rows) (a .cols) (a .entries) (a .size) (a .ints) (a .floats) (c .before .before .before .before .if1 .left) (c .before .before .before .if2 .left) (c .before .before .if3 .left) (c .before .if4 .left) (omega arith)
-
-add-if6 : tie.Need-add-if6
-add-if6 c = search needs
 
 returns-6 : tie.Need-returns-6
 returns-6 c = let a = c .before .before .before .before .before .before .args in floats-short (a .rows) (a .cols) (a .entries) (a .size) (a .ints) (a .floats) (c .before .before .before .before .before .if1 .left) (c .before .before .before .before .if2 .left) (c .before .before .before .if3 .left) (c .before .before .if4 .left) (omega arith) (omega arith)
@@ -48,12 +33,12 @@ shape-spec =
     returns
     returns-2
     returns-3
-    rem-if4
+    (λ c. search needs)
     returns-4
-    mul-if5
-    add-if5
-    add-if5-2
+    (λ c. search needs)
+    (λ c. search needs)
+    (λ c. search needs)
     returns-5
-    add-if6
+    (λ c. search needs)
     returns-6
     returns-7)

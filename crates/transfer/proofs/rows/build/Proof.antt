@@ -55,9 +55,6 @@ put-pointer-requires-2 c κs =
     let s = c .before .before .before .before .before .before .before .before .before .before .before .before .before .before .before .before .before .before .before .before .before in
     (omega (arith, ints-length (c .before .before .before .before .before), s .pre .1 .1 .1, c .before .before .before .before .before .before .before .before .loop-test .taken), omega (arith, room-ok (c .before .before .before .before .before) .1, s .pre .0 .fewRows, s .pre .0 .fewEntries))
 
-add-i : tie.Need-add-i Inv-loop μ-loop
-add-i c = search needs
-
 loop-less : tie.Need-loop-less Inv-loop μ-loop
 loop-less c = omega (arith, c .before .before .before .before .before .before .before .before .before .before .before .loop-test .taken)
 
@@ -77,12 +74,6 @@ loop-again c =
           (l .ints) (r .last .1 .1 .1 .1 .1 .1 .1 .1 .1 .1 .1 .0) (l .floats) (r .last .1 .1 .1 .1 .1 .1 .1 .1 .1 .1 .1 .1 .0) (l .inv .4) (r .ensures) (omega (arith, t))
           (omega (arith, s .pre .1 .1 .1, l .inv .1, c .before .before .before .before .before .before .before .before .before .before .before .before .before .before .before .put-pointer .kept .0, r .ensures .many, room-ok (c .before .before .before .before .before .before .before .before) .1)) (omega (arith, ints-length (c .before .before .before .before .before .before .before .before), s .pre .1 .1 .1, t))),
     )
-
-same-length : tie.Need-same-length Inv-loop μ-loop
-same-length c = search needs
-
-same-length-2 : tie.Need-same-length-2 Inv-loop μ-loop
-same-length-2 c = search needs
 
 returns : tie.Need-returns Inv-loop μ-loop
 unfolding transferOf
@@ -107,9 +98,9 @@ build-spec =
     put-row-requires
     add-put-pointer
     put-pointer-requires-2
-    add-i
+    (λ c. search needs)
     loop-less
     loop-again
-    same-length
-    same-length-2
+    (λ c. search needs)
+    (λ c. search needs)
     returns)

@@ -17,33 +17,6 @@ coarse-of-requires c κs =
     let g = s .pre .1 .0 in
     (g .some, g .known (s .args .i) (s .pre .1 .1 .0), omega (arith, g .within (s .args .i) (s .pre .1 .1 .0), g .small))
 
-mul-wide : tie.Need-mul-wide
-mul-wide c = search needs
-
-shared-slice-read-wide : tie.Need-shared-slice-read-wide
-shared-slice-read-wide c = search needs
-
-wide-requires : tie.Need-wide-requires
-wide-requires c κs = search needs
-
-add-wide : tie.Need-add-wide
-add-wide c = search needs
-
-mul-wide-2 : tie.Need-mul-wide-2
-mul-wide-2 c = search needs
-
-shared-slice-read-wide-2 : tie.Need-shared-slice-read-wide-2
-shared-slice-read-wide-2 c = search needs
-
-wide-requires-2 : tie.Need-wide-requires-2
-wide-requires-2 c κs = search needs
-
-mul-d : tie.Need-mul-d
-mul-d c = search needs
-
-shared-slice-read-d : tie.Need-shared-slice-read-d
-shared-slice-read-d c = search needs
-
 weigh-row-requires : tie.Need-weigh-row-requires
 weigh-row-requires c κs =
     let s = c .before .before .before .before .before .before .before .before .before .before .before .before .before .before .before in
@@ -62,12 +35,6 @@ compress-requires c κs =
     let b = visited-below (c .before .before .before .before .before .before .before .before .before .before .before .before .before .before .coarse-of .result ∷ named (coarseColumn (a .size) (a .ids .now)) (slice (c .before .before .before .before .before .before .before .before .before .before .before .before .wide .result) (c .before .before .before .before .before .before .before .before .before .before .wide2 .result) (a .idx .now))) (length (a .w .now)) t (v .result) (v .ensures .0) in
     (r, omega (arith, r, v .kept .1 .1 .1 .1 .1 .1 .1 .1 .1 .1 .0, s .pre .1 .1 .2, s .pre .1 .0 .small), rw (v .kept .1 .1 .1 .1 .1 .1 .1 .1 .1 .1 .1 .0) b)
 
-same-length : tie.Need-same-length
-same-length c = search needs
-
-same-length-2 : tie.Need-same-length-2
-same-length-2 c = search needs
-
 returns : tie.Need-returns
 returns c =
     let s = c .before .before .before .before .before .before .before .before .before .before .before .before .before .before .before .before .before .before .before .before .before .before .before .before .before in
@@ -84,17 +51,17 @@ part-row-spec =
     tie.close
     (tie.spec
     coarse-of-requires
-    mul-wide
-    shared-slice-read-wide
-    wide-requires
-    add-wide
-    mul-wide-2
-    shared-slice-read-wide-2
-    wide-requires-2
-    mul-d
-    shared-slice-read-d
+    (λ c. search needs)
+    (λ c. search needs)
+    (λ c κs. search needs)
+    (λ c. search needs)
+    (λ c. search needs)
+    (λ c. search needs)
+    (λ c κs. search needs)
+    (λ c. search needs)
+    (λ c. search needs)
     weigh-row-requires
     compress-requires
-    same-length
-    same-length-2
+    (λ c. search needs)
+    (λ c. search needs)
     returns)

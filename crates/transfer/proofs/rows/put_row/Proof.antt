@@ -53,45 +53,6 @@ lent-length c = ap length (lent-ok c) ∙ length-take-le (c .part-row .result) (
 below-ok : (c : tie.After-part-row) → Below (length (putMid (c .before .before .before .before .before .before .before .before .before .before .args .rows + length (c .before .before .before .before .before .before .before .before .before .before .args .vals .now)) ((c .before .before .before .before .before .before .before .before .before .before .args .rows + length (c .before .before .before .before .before .before .before .before .before .before .args .vals .now)) + c .before .before .before .before .before .before .before .before .before .before .args .c - (c .before .before .before .before .before .before .before .before .before .before .args .rows + length (c .before .before .before .before .before .before .before .before .before .before .args .vals .now))) (c .before .before .before .before .before .before .before .before .before .before .args .floats .now) (c .part-row .last .1 .1 .1 .1 .1 .1 .1 .1 .1 .1 .0)) - (c .before .before .before .before .before .before .before .before .before .before .args .rows + length (c .before .before .before .before .before .before .before .before .before .before .args .vals .now))) (take ((c .before .before .before .before .before .before .before .before .before .before .args .rows + 1 + (c .before .before .before .before .before .before .before .before .before .before .args .rows + length (c .before .before .before .before .before .before .before .before .before .before .args .vals .now))) + c .part-row .result - (c .before .before .before .before .before .before .before .before .before .before .args .rows + 1 + (c .before .before .before .before .before .before .before .before .before .before .args .rows + length (c .before .before .before .before .before .before .before .before .before .before .args .vals .now)))) (drop (c .before .before .before .before .before .before .before .before .before .before .args .rows + 1 + (c .before .before .before .before .before .before .before .before .before .before .args .rows + length (c .before .before .before .before .before .before .before .before .before .before .args .vals .now))) (putMid (c .before .before .before .before .before .before .before .before .before .before .args .rows + 1 + (c .before .before .before .before .before .before .before .before .before .before .args .rows + length (c .before .before .before .before .before .before .before .before .before .before .args .vals .now))) ((c .before .before .before .before .before .before .before .before .before .before .args .rows + 1 + (c .before .before .before .before .before .before .before .before .before .before .args .rows + length (c .before .before .before .before .before .before .before .before .before .before .args .vals .now))) + c .before .before .before .before .before .before .before .before .before .before .args .c - (c .before .before .before .before .before .before .before .before .before .before .args .rows + 1 + (c .before .before .before .before .before .before .before .before .before .before .args .rows + length (c .before .before .before .before .before .before .before .before .before .before .args .vals .now)))) (c .before .before .before .before .before .before .before .before .before .before .args .ints .now) (c .part-row .last .1 .1 .1 .1 .1 .1 .1 .1 .1 .0))))
 below-ok c = let p = parted-ok c in rw (lent-ok c, floats-length c) (λ k q. omega (arith, p .inside k q, c .before .before .before .before .before .before .before .before .before .before .pre .1 .1 .4))
 
-add-base : tie.Need-add-base
-add-base c = search needs
-
-add-end : tie.Need-add-end
-add-end c = search needs
-
-add-cols : tie.Need-add-cols
-add-cols c = search needs
-
-add-first : tie.Need-add-first
-add-first c = search needs
-
-add-last : tie.Need-add-last
-add-last c = search needs
-
-mul-part-row : tie.Need-mul-part-row
-mul-part-row c = search needs
-
-sub-part-row : tie.Need-sub-part-row
-sub-part-row c = search needs
-
-part-part-row-start : tie.Need-part-part-row-start
-part-part-row-start c = search needs
-
-part-part-row-end : tie.Need-part-part-row-end
-part-part-row-end c = search needs
-
-mul-part-row-2 : tie.Need-mul-part-row-2
-mul-part-row-2 c = search needs
-
-sub-part-row-2 : tie.Need-sub-part-row-2
-sub-part-row-2 c = search needs
-
-part-part-row-start-2 : tie.Need-part-part-row-start-2
-part-part-row-start-2 c = search needs
-
-part-part-row-end-2 : tie.Need-part-part-row-end-2
-part-part-row-end-2 c = search needs
-
 part-row-requires : tie.Need-part-row-requires
 part-row-requires c κs =
     let s = c .before .before .before .before .before .before .before .before .before in
@@ -99,21 +60,6 @@ part-row-requires c κs =
     let lf = length-part (a .rows + length (a .vals .now)) (a .c) (a .floats .now) (s .pre .1 .1 .4) in
     let li = length-part (a .rows + 1 + (a .rows + length (a .vals .now))) (a .c) (a .ints .now) (s .pre .1 .1 .3) in
     (s .pre .0, (rw lf (s .pre .1 .0), (s .pre .1 .1 .0, s .pre .1 .1 .1, li ∙ sym lf)))
-
-add-stop : tie.Need-add-stop
-add-stop c = search needs
-
-mul-put-weights : tie.Need-mul-put-weights
-mul-put-weights c = search needs
-
-sub-put-weights : tie.Need-sub-put-weights
-sub-put-weights c = search needs
-
-part-put-weights-start : tie.Need-part-put-weights-start
-part-put-weights-start c = search needs
-
-part-put-weights-end : tie.Need-part-put-weights-end
-part-put-weights-end c = search needs
 
 put-weights-requires : tie.Need-put-weights-requires
 put-weights-requires c κs = (omega (arith, lent-length (c .before .before .before .before .before .before .before), room-ok (c .before .before .before .before .before .before .before)), omega (arith, floats-length (c .before .before .before .before .before .before .before), c .before .before .before .before .before .before .before .before .before .before .before .before .before .before .before .before .before .pre .1 .1 .4), below-ok (c .before .before .before .before .before .before .before))
@@ -126,12 +72,6 @@ put-columns-requires c κs = (omega (arith, room-ok (c .before .before .before .
 
 add-result : tie.Need-add-result
 add-result c = omega (arith, room-ok (c .before .before .before .before .before .before .before .before .before .before .before .before .before .before))
-
-same-length : tie.Need-same-length
-same-length c = search needs
-
-same-length-2 : tie.Need-same-length-2
-same-length-2 c = search needs
 
 returns : tie.Need-returns
 returns c =
@@ -151,29 +91,29 @@ pub put-row-spec : {M : Type 1} → statement M
 put-row-spec =
     tie.close
     (tie.spec
-    add-base
-    add-end
-    add-cols
-    add-first
-    add-last
-    mul-part-row
-    sub-part-row
-    part-part-row-start
-    part-part-row-end
-    mul-part-row-2
-    sub-part-row-2
-    part-part-row-start-2
-    part-part-row-end-2
+    (λ c. search needs)
+    (λ c. search needs)
+    (λ c. search needs)
+    (λ c. search needs)
+    (λ c. search needs)
+    (λ c. search needs)
+    (λ c. search needs)
+    (λ c. search needs)
+    (λ c. search needs)
+    (λ c. search needs)
+    (λ c. search needs)
+    (λ c. search needs)
+    (λ c. search needs)
     part-row-requires
-    add-stop
-    mul-put-weights
-    sub-put-weights
-    part-put-weights-start
-    part-put-weights-end
+    (λ c. search needs)
+    (λ c. search needs)
+    (λ c. search needs)
+    (λ c. search needs)
+    (λ c. search needs)
     put-weights-requires
     add-put-columns
     put-columns-requires
     add-result
-    same-length
-    same-length-2
+    (λ c. search needs)
+    (λ c. search needs)
     returns)

@@ -38,15 +38,6 @@ front-ok c = let l = c .before .before .before .before .loop in length-take-le (
 loop-holds : tie.Need-loop-holds Inv-loop μ-loop
 loop-holds c = let s = c .before .before .before .before .before in (omega arith, s .pre .0 .0, refl, refl, omega (arith, s .pre .0), s .pre .1 .1 .1, refl, refl)
 
-mul-wide : tie.Need-mul-wide Inv-loop μ-loop
-mul-wide c = search needs
-
-shared-slice-read-wide : tie.Need-shared-slice-read-wide Inv-loop μ-loop
-shared-slice-read-wide c = search needs
-
-wide-requires : tie.Need-wide-requires Inv-loop μ-loop
-wide-requires c κs = search needs
-
 coarse-of-requires : tie.Need-coarse-of-requires Inv-loop μ-loop
 coarse-of-requires c κs =
     let g = c .before .before .before .before .before .before .before .before .before .pre .1 .1 .0 in
@@ -54,9 +45,6 @@ coarse-of-requires c κs =
 
 cast-x : tie.Need-cast-x Inv-loop μ-loop
 cast-x c = omega (arith, place-ok c)
-
-slice-reshare-prefix-find : tie.Need-slice-reshare-prefix-find Inv-loop μ-loop
-slice-reshare-prefix-find c = search needs
 
 slice-aggregate-find : tie.Need-slice-aggregate-find Inv-loop μ-loop
 slice-aggregate-find c = sym (front-ok (c .before))
@@ -78,23 +66,11 @@ clear-new-requires c κs = rw (c .before .before .before .before .before .before
 weight-ok : (c : tie.After-clear-new Inv-loop μ-loop) → c .before .before .before .before .before .before .before .before .coarse-of .result < length (c .clear-new .last .0)
 weight-ok c = rw (c .clear-new .kept .0 ∙ c .before .before .before .before .before .before .before .before .before .before .before .before .loop .inv .3) (place-ok (c .before .before .before .before .before .before .before .before) .0)
 
-mul-take-off : tie.Need-mul-take-off Inv-loop μ-loop
-mul-take-off c = search needs
-
-shared-slice-read-take-off : tie.Need-shared-slice-read-take-off Inv-loop μ-loop
-shared-slice-read-take-off c = search needs
-
 take-off-requires : tie.Need-take-off-requires Inv-loop μ-loop
 take-off-requires c κs = weight-ok (c .before .before .before .before)
 
 add-near : tie.Need-add-near Inv-loop μ-loop
 add-near c = let l = c .before .before .before .before .before .before .before .before .before .before .before .before .before .before .before .before .before .before .before .loop in omega (arith, c .before .before .before .before .before .before .before .before .before .before .before .before .before .find .ensures, place-le (c .before .before .before .before .before .before .before .before .before .before .before .before .before .before .before .coarse-of .result) (take (l .n) (l .t)), front-ok (c .before .before .before .before .before .before .before .before .before .before .before .before .before .before .before), l .inv .4, place-ok (c .before .before .before .before .before .before .before .before .before .before .before .before .before .before .before))
-
-add-k : tie.Need-add-k Inv-loop μ-loop
-add-k c = search needs
-
-loop-less : tie.Need-loop-less Inv-loop μ-loop
-loop-less c = omega arith
 
 loop-again : tie.Need-loop-again Inv-loop μ-loop
 loop-again c =
@@ -120,12 +96,6 @@ loop-again c =
           (f .ensures ∙ ap (λ x. fresh x (i .result) j (l .w)) (sym (front-ok (c .before .before .before .before .before .before .before .before .before .before .before .before .before .before .before))) ∙ ap (λ x. fresh (length (take (l .n) (l .t))) x j (l .w)) (g .many)) ∙ l .inv .7),
     )
 
-same-length : tie.Need-same-length Inv-loop μ-loop
-same-length c = search needs
-
-same-length-2 : tie.Need-same-length-2 Inv-loop μ-loop
-same-length-2 c = search needs
-
 returns : tie.Need-returns Inv-loop μ-loop
 returns c =
     let s = c .before .before .before .before .before .before .before in
@@ -142,23 +112,23 @@ accumulate-spec =
     Inv-loop
     μ-loop
     loop-holds
-    mul-wide
-    shared-slice-read-wide
-    wide-requires
+    (λ c. search needs)
+    (λ c. search needs)
+    (λ c κs. search needs)
     coarse-of-requires
     cast-x
-    slice-reshare-prefix-find
+    (λ c. search needs)
     slice-aggregate-find
     find-requires
     insert-requires
     clear-new-requires
-    mul-take-off
-    shared-slice-read-take-off
+    (λ c. search needs)
+    (λ c. search needs)
     take-off-requires
     add-near
-    add-k
-    loop-less
+    (λ c. search needs)
+    (λ c. omega arith)
     loop-again
-    same-length
-    same-length-2
+    (λ c. search needs)
+    (λ c. search needs)
     returns)

@@ -8,17 +8,8 @@ use Rattle.transfer.proofs.short.clear_new.Tie as tie
 returns : tie.Need-returns
 returns c = let a = c .before .args in sym (fresh-old (a .n) (a .more) (a .j) (a .w .now) (c .if1 .taken))
 
-mul-w : tie.Need-mul-w
-mul-w c = search needs
-
-slice-write-w : tie.Need-slice-write-w
-slice-write-w c = search needs
-
-same-length : tie.Need-same-length
-same-length c = search needs
-
 returns-2 : tie.Need-returns-2
 returns-2 c = let a = c .before .args in sym (fresh-new (a .n) (a .more) (a .j) (a .w .now) (c .if1 .left))
 
 pub clear-new-spec : {M : Type 1} → statement M
-clear-new-spec = tie.close (tie.spec returns mul-w slice-write-w same-length returns-2)
+clear-new-spec = tie.close (tie.spec returns (λ c. search needs) (λ c. search needs) (λ c. search needs) returns-2)

@@ -20,30 +20,6 @@ abbrev μ-loop : tie.MeasureT-loop
 loop-holds : tie.Need-loop-holds Inv-loop μ-loop
 loop-holds c = let a = c .args in (omega arith, refl, refl, front-none (a .to) (a .l .now) ∙ ap (λ q. take (a .to) (a .l .now) ++ q) (sym (part-none (a .from) (a .l .now))))
 
-add-j : tie.Need-add-j Inv-loop μ-loop
-add-j c = search needs
-
-mul-j : tie.Need-mul-j Inv-loop μ-loop
-mul-j c = search needs
-
-slice-read-j : tie.Need-slice-read-j Inv-loop μ-loop
-slice-read-j c = search needs
-
-add-l : tie.Need-add-l Inv-loop μ-loop
-add-l c = search needs
-
-mul-l : tie.Need-mul-l Inv-loop μ-loop
-mul-l c = search needs
-
-slice-write-l : tie.Need-slice-write-l Inv-loop μ-loop
-slice-write-l c = search needs
-
-add-k : tie.Need-add-k Inv-loop μ-loop
-add-k c = search needs
-
-loop-less : tie.Need-loop-less Inv-loop μ-loop
-loop-less c = omega arith
-
 loop-again : tie.Need-loop-again Inv-loop μ-loop
 loop-again c =
     let a = c .before .before .before .args in
@@ -55,9 +31,6 @@ loop-again c =
           ∙ ap (λ q. take (a .to) (a .l .now) ++ q) (sym (part-more 0 (a .from) (l .k) (a .l .now) (omega arith))),
     )
 
-same-length : tie.Need-same-length Inv-loop μ-loop
-same-length c = search needs
-
 returns : tie.Need-returns Inv-loop μ-loop
 returns c = let l = c .before .loop in let e : l .k ≡ c .before .before .args .n = omega arith in rw e at (l .inv .3)
 
@@ -68,14 +41,14 @@ put-columns-spec =
     Inv-loop
     μ-loop
     loop-holds
-    add-j
-    mul-j
-    slice-read-j
-    add-l
-    mul-l
-    slice-write-l
-    add-k
-    loop-less
+    (λ c. search needs)
+    (λ c. search needs)
+    (λ c. search needs)
+    (λ c. search needs)
+    (λ c. search needs)
+    (λ c. search needs)
+    (λ c. search needs)
+    (λ c. omega arith)
     loop-again
-    same-length
+    (λ c. search needs)
     returns)

@@ -23,15 +23,6 @@ place-ok c = rw (c .wide .ensures) (c .before .before .before .before .before .b
 loop-holds : tie.Need-loop-holds Inv-loop μ-loop
 loop-holds c = let a = c .before .before .args in (omega arith, refl, refl, refl, front-none (a .to) (a .l .now))
 
-mul-wide : tie.Need-mul-wide Inv-loop μ-loop
-mul-wide c = search needs
-
-shared-slice-read-wide : tie.Need-shared-slice-read-wide Inv-loop μ-loop
-shared-slice-read-wide c = search needs
-
-wide-requires : tie.Need-wide-requires Inv-loop μ-loop
-wide-requires c κs = search needs
-
 add-v : tie.Need-add-v Inv-loop μ-loop
 add-v c = omega (arith, place-ok c)
 
@@ -40,21 +31,6 @@ mul-v c = omega (arith, place-ok c)
 
 slice-read-v : tie.Need-slice-read-v Inv-loop μ-loop
 slice-read-v c = omega (arith, place-ok (c .before))
-
-add-l : tie.Need-add-l Inv-loop μ-loop
-add-l c = search needs
-
-mul-l : tie.Need-mul-l Inv-loop μ-loop
-mul-l c = search needs
-
-slice-write-l : tie.Need-slice-write-l Inv-loop μ-loop
-slice-write-l c = search needs
-
-add-k : tie.Need-add-k Inv-loop μ-loop
-add-k c = search needs
-
-loop-less : tie.Need-loop-less Inv-loop μ-loop
-loop-less c = omega arith
 
 loop-again : tie.Need-loop-again Inv-loop μ-loop
 loop-again c =
@@ -70,9 +46,6 @@ loop-again c =
           ∙ ap (λ q. take (a .to) (a .l .now) ++ q) (sym (map-more 0 (λ j. getD (drop (a .base) (a .l .now)) j nan) (a .t .now) (l .k) (omega arith))),
     )
 
-same-length : tie.Need-same-length Inv-loop μ-loop
-same-length c = search needs
-
 returns : tie.Need-returns Inv-loop μ-loop
 returns c =
     let a = c .before .before .before .before .args in
@@ -87,17 +60,17 @@ put-weights-spec =
     Inv-loop
     μ-loop
     loop-holds
-    mul-wide
-    shared-slice-read-wide
-    wide-requires
+    (λ c. search needs)
+    (λ c. search needs)
+    (λ c κs. search needs)
     add-v
     mul-v
     slice-read-v
-    add-l
-    mul-l
-    slice-write-l
-    add-k
-    loop-less
+    (λ c. search needs)
+    (λ c. search needs)
+    (λ c. search needs)
+    (λ c. search needs)
+    (λ c. omega arith)
     loop-again
-    same-length
+    (λ c. search needs)
     returns)

@@ -28,29 +28,8 @@ column-ok c =
 loop-holds : tie.Need-loop-holds Inv-loop μ-loop
 loop-holds c = let n = kept-none (counts (c .before .before .args .w .now)) in (omega arith, omega arith, refl, n, ap length n, refl)
 
-mul-j : tie.Need-mul-j Inv-loop μ-loop
-mul-j c = search needs
-
-slice-read-j : tie.Need-slice-read-j Inv-loop μ-loop
-slice-read-j c = search needs
-
-mul-t : tie.Need-mul-t Inv-loop μ-loop
-mul-t c = search needs
-
-slice-write-t : tie.Need-slice-write-t Inv-loop μ-loop
-slice-write-t c = search needs
-
-wide-requires : tie.Need-wide-requires Inv-loop μ-loop
-wide-requires c κs = search needs
-
 advance-requires : tie.Need-advance-requires Inv-loop μ-loop
 advance-requires c κs = (column-ok c, omega arith)
-
-add-k : tie.Need-add-k Inv-loop μ-loop
-add-k c = search needs
-
-loop-less : tie.Need-loop-less Inv-loop μ-loop
-loop-less c = omega arith
 
 loop-again : tie.Need-loop-again Inv-loop μ-loop
 loop-again c =
@@ -60,9 +39,6 @@ loop-again c =
     let s = kept-next (counts (a .w .now)) (a .t .now) (l .t) (l .k) (l .r) j (omega arith) (l .inv .2) (l .inv .1) (l .inv .3) (l .inv .4) (l .inv .5) (drop-read 0 (l .k) (l .t) (a .t .now) (l .inv .5))
     (c .advance .result) (rw (c .before .wide .ensures) at (c .advance .ensures)) in
     (omega arith, s .0, simp length-set (l .inv .2), s .1, s .2, s .3)
-
-same-length : tie.Need-same-length Inv-loop μ-loop
-same-length c = search needs
 
 returns : tie.Need-returns Inv-loop μ-loop
 returns c =
@@ -77,14 +53,14 @@ compress-spec =
     Inv-loop
     μ-loop
     loop-holds
-    mul-j
-    slice-read-j
-    mul-t
-    slice-write-t
-    wide-requires
+    (λ c. search needs)
+    (λ c. search needs)
+    (λ c. search needs)
+    (λ c. search needs)
+    (λ c κs. search needs)
     advance-requires
-    add-k
-    loop-less
+    (λ c. search needs)
+    (λ c. omega arith)
     loop-again
-    same-length
+    (λ c. search needs)
     returns)

@@ -25,34 +25,13 @@ place-ok c = rw (c .coarse-of .ensures, c .before .before .before .before .loop 
 loop-holds : tie.Need-loop-holds Inv-loop μ-loop
 loop-holds c = (omega arith, omega arith, refl, refl)
 
-mul-wide : tie.Need-mul-wide Inv-loop μ-loop
-mul-wide c = search needs
-
-shared-slice-read-wide : tie.Need-shared-slice-read-wide Inv-loop μ-loop
-shared-slice-read-wide c = search needs
-
-wide-requires : tie.Need-wide-requires Inv-loop μ-loop
-wide-requires c κs = search needs
-
 coarse-of-requires : tie.Need-coarse-of-requires Inv-loop μ-loop
 coarse-of-requires c κs =
     let g = c .before .before .before .before .before .before .before .before .pre .1 .1 in
     (g .some, g .known (c .wide .result) (column-ok c), omega (arith, g .within (c .wide .result) (column-ok c), g .small))
 
-mul-take-off : tie.Need-mul-take-off Inv-loop μ-loop
-mul-take-off c = search needs
-
-shared-slice-read-take-off : tie.Need-shared-slice-read-take-off Inv-loop μ-loop
-shared-slice-read-take-off c = search needs
-
 take-off-requires : tie.Need-take-off-requires Inv-loop μ-loop
 take-off-requires c κs = place-ok (c .before .before)
-
-add-k : tie.Need-add-k Inv-loop μ-loop
-add-k c = search needs
-
-loop-less : tie.Need-loop-less Inv-loop μ-loop
-loop-less c = omega arith
 
 loop-again : tie.Need-loop-again Inv-loop μ-loop
 loop-again c =
@@ -68,9 +47,6 @@ loop-again c =
           (c .before .before .before .before .before .coarse-of .ensures ∙ ap (coarseColumn (a .size) (a .ids .now)) (c .before .before .before .before .before .before .wide .ensures)) ∙ l .inv .3),
     )
 
-same-length : tie.Need-same-length Inv-loop μ-loop
-same-length c = search needs
-
 returns : tie.Need-returns Inv-loop μ-loop
 returns c =
     let a = c .before .before .before .before .before .before .args in
@@ -85,15 +61,15 @@ smooth-spec =
     Inv-loop
     μ-loop
     loop-holds
-    mul-wide
-    shared-slice-read-wide
-    wide-requires
+    (λ c. search needs)
+    (λ c. search needs)
+    (λ c κs. search needs)
     coarse-of-requires
-    mul-take-off
-    shared-slice-read-take-off
+    (λ c. search needs)
+    (λ c. search needs)
     take-off-requires
-    add-k
-    loop-less
+    (λ c. search needs)
+    (λ c. omega arith)
     loop-again
-    same-length
+    (λ c. search needs)
     returns)

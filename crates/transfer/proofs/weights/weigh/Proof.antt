@@ -9,15 +9,6 @@ use borrow.Author.Needs.{needs}
 use Rattle.transfer.proofs.weights.weigh.Statement.{statement}
 use Rattle.transfer.proofs.weights.weigh.Tie as tie
 
-zero-at-requires : tie.Need-zero-at-requires
-zero-at-requires c κs = search needs
-
-mul-w : tie.Need-mul-w
-mul-w c = search needs
-
-slice-write-w : tie.Need-slice-write-w
-slice-write-w c = search needs
-
 smooth-requires : tie.Need-smooth-requires
 smooth-requires c κs =
     let s = c .before .before .before .before .before .before .before .before .before .before in
@@ -34,4 +25,4 @@ returns c =
 
 pub weigh-spec : {M : Type 1} → statement M
 weigh-spec =
-    tie.close (tie.spec zero-at-requires mul-w slice-write-w smooth-requires same-length returns)
+    tie.close (tie.spec (λ c κs. search needs) (λ c. search needs) (λ c. search needs) smooth-requires same-length returns)

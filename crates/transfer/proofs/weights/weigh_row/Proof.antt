@@ -16,21 +16,6 @@ use borrow.Author.Needs.{needs}
 use Rattle.transfer.proofs.weights.weigh_row.Statement.{statement}
 use Rattle.transfer.proofs.weights.weigh_row.Tie as tie
 
-sub-if1 : tie.Need-sub-if1
-sub-if1 c = search needs
-
-cast-t : tie.Need-cast-t
-cast-t c = search needs
-
-slice-write-t : tie.Need-slice-write-t
-slice-write-t c = search needs
-
-mul-w : tie.Need-mul-w
-mul-w c = search needs
-
-slice-write-w : tie.Need-slice-write-w
-slice-write-w c = search needs
-
 accumulate-requires : tie.Need-accumulate-requires
 accumulate-requires c κs =
     let s = c .before .before .before .before .before .before .before .before in
@@ -67,9 +52,6 @@ returns c =
 fill-requires : tie.Need-fill-requires
 fill-requires c κs = let s = c .before .before .before .before .before .before .before in omega (arith, s .pre .0 .4, s .pre .1 .1 .small)
 
-slice-reshare-prefix-weigh : tie.Need-slice-reshare-prefix-weigh
-slice-reshare-prefix-weigh c = search needs
-
 slice-aggregate-weigh : tie.Need-slice-aggregate-weigh
 slice-aggregate-weigh c = let t = c .before .before .before .fill .last .0 in sym (length-take-le (length t) t (omega arith))
 
@@ -88,12 +70,6 @@ weigh-requires c κs =
     let t = c .before .before .before .before .fill .last .0 in
     ((s .pre .0 .0, s .pre .0 .1, s .pre .0 .2, s .pre .0 .3), (s .pre .1 .0, (s .pre .1 .1, visited-below (a .own ∷ (named (coarseColumn (a .size) (a .ids .now)) (slice (a .from) (a .to) (a .idx .now)))) (length (a .w .now)) t (length t) (all-ok (c .before .before .before .before)))))
 
-same-length-3 : tie.Need-same-length-3
-same-length-3 c = search needs
-
-same-length-4 : tie.Need-same-length-4
-same-length-4 c = search needs
-
 returns-2 : tie.Need-returns-2
 returns-2 c =
     let s = c .before .before .before .before .before .before .before .before .before .before .before .before .before .before .before in
@@ -106,19 +82,19 @@ pub weigh-row-spec : {M : Type 1} → statement M
 weigh-row-spec =
     tie.close
     (tie.spec
-    sub-if1
-    cast-t
-    slice-write-t
-    mul-w
-    slice-write-w
+    (λ c. search needs)
+    (λ c. search needs)
+    (λ c. search needs)
+    (λ c. search needs)
+    (λ c. search needs)
     accumulate-requires
     same-length
     same-length-2
     returns
     fill-requires
-    slice-reshare-prefix-weigh
+    (λ c. search needs)
     slice-aggregate-weigh
     weigh-requires
-    same-length-3
-    same-length-4
+    (λ c. search needs)
+    (λ c. search needs)
     returns-2)

@@ -21,35 +21,17 @@ column-ok c = rw (c .wide .ensures, c .before .before .before .loop .inv .2) (c 
 loop-holds : tie.Need-loop-holds Inv-loop μ-loop
 loop-holds c = (omega arith, refl, refl, refl)
 
-mul-wide : tie.Need-mul-wide Inv-loop μ-loop
-mul-wide c = search needs
-
-shared-slice-read-wide : tie.Need-shared-slice-read-wide Inv-loop μ-loop
-shared-slice-read-wide c = search needs
-
-wide-requires : tie.Need-wide-requires Inv-loop μ-loop
-wide-requires c κs = search needs
-
 mul-w : tie.Need-mul-w Inv-loop μ-loop
 mul-w c = omega (arith, column-ok c)
 
 slice-write-w : tie.Need-slice-write-w Inv-loop μ-loop
 slice-write-w c = column-ok c
 
-add-k : tie.Need-add-k Inv-loop μ-loop
-add-k c = search needs
-
-loop-less : tie.Need-loop-less Inv-loop μ-loop
-loop-less c = omega arith
-
 loop-again : tie.Need-loop-again Inv-loop μ-loop
 loop-again c =
     let a = c .before .before .before .before .before .before .args in
     let l = c .before .before .before .loop in
     (omega arith, refl, simp length-set (l .inv .2), zero-step (a .t .now) (l .k) (c .wide .result) (l .w) (omega arith) (c .wide .ensures) ∙ l .inv .3)
-
-same-length : tie.Need-same-length Inv-loop μ-loop
-same-length c = search needs
 
 returns : tie.Need-returns Inv-loop μ-loop
 returns c =
@@ -64,13 +46,13 @@ zero-at-spec =
     Inv-loop
     μ-loop
     loop-holds
-    mul-wide
-    shared-slice-read-wide
-    wide-requires
+    (λ c. search needs)
+    (λ c. search needs)
+    (λ c κs. search needs)
     mul-w
     slice-write-w
-    add-k
-    loop-less
+    (λ c. search needs)
+    (λ c. omega arith)
     loop-again
-    same-length
+    (λ c. search needs)
     returns)

@@ -19,26 +19,8 @@ abbrev μ-loop : tie.MeasureT-loop
 loop-holds : tie.Need-loop-holds Inv-loop μ-loop
 loop-holds c = let a = c .before .before .args in (omega arith, refl, none-step (partPuts (a .from .now) (a .a) (a .b)) (a .to .now))
 
-add-add-at : tie.Need-add-add-at Inv-loop μ-loop
-add-add-at c = search needs
-
-add-add-at-2 : tie.Need-add-add-at-2 Inv-loop μ-loop
-add-add-at-2 c = search needs
-
-mul-add-at : tie.Need-mul-add-at Inv-loop μ-loop
-mul-add-at c = search needs
-
-shared-slice-read-add-at : tie.Need-shared-slice-read-add-at Inv-loop μ-loop
-shared-slice-read-add-at c = search needs
-
 add-at-requires : tie.Need-add-at-requires Inv-loop μ-loop
 add-at-requires c κs = omega (arith, c .before .before .before .loop .inv .1)
-
-add-k : tie.Need-add-k Inv-loop μ-loop
-add-k c = search needs
-
-loop-less : tie.Need-loop-less Inv-loop μ-loop
-loop-less c = omega arith
 
 loop-again : tie.Need-loop-again Inv-loop μ-loop
 loop-again c =
@@ -60,13 +42,13 @@ add-part-spec =
     Inv-loop
     μ-loop
     loop-holds
-    add-add-at
-    add-add-at-2
-    mul-add-at
-    shared-slice-read-add-at
+    (λ c. search needs)
+    (λ c. search needs)
+    (λ c. search needs)
+    (λ c. search needs)
     add-at-requires
-    add-k
-    loop-less
+    (λ c. search needs)
+    (λ c. omega arith)
     loop-again
     same-length
     returns)

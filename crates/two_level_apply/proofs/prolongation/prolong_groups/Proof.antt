@@ -18,13 +18,10 @@ prolong-constant-requires c κs =
     let a = s .args in
     rw (s .pre .1, s .pre .2) (grouped (a .s) (a .ints .now) (a .floats .now) (s .pre .0))
 
-same-length : tie.Need-same-length
-same-length c = search needs
-
 returns : tie.Need-returns
 returns c = c .before .before .prolong-constant .ensures
 
 pub prolong-groups-spec : {M : Type 1} → statement M
 prolong-groups-spec =
     tie.close
-    (tie.spec slice-aggregate-prolong-constant prolong-constant-requires same-length returns)
+    (tie.spec slice-aggregate-prolong-constant prolong-constant-requires (λ c. search needs) returns)

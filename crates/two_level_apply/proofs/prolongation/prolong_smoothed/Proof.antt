@@ -26,26 +26,11 @@ in-rows c = omega (arith, c .before .loop .inv .1)
 loop-holds : tie.Need-loop-holds Inv-loop μ-loop
 loop-holds c = let a = c .before .before .before .before .before .args in (omega arith, refl, none-step (gainPuts (rowOf (a .ptr .now) (a .idx .now) (a .vals .now)) (a .sol .now)) (a .z .now))
 
-mul-wide : tie.Need-mul-wide Inv-loop μ-loop
-mul-wide c = search needs
-
 shared-slice-read-wide : tie.Need-shared-slice-read-wide Inv-loop μ-loop
 shared-slice-read-wide c = omega (arith, in-rows (c .before), c .before .before .before .before .before .before .before .before .pre .long)
 
-wide-requires : tie.Need-wide-requires Inv-loop μ-loop
-wide-requires c κs = search needs
-
-add-wide : tie.Need-add-wide Inv-loop μ-loop
-add-wide c = search needs
-
-mul-wide-2 : tie.Need-mul-wide-2 Inv-loop μ-loop
-mul-wide-2 c = search needs
-
 shared-slice-read-wide-2 : tie.Need-shared-slice-read-wide-2 Inv-loop μ-loop
 shared-slice-read-wide-2 c = omega (arith, in-rows (c .before .before .before), c .before .before .before .before .before .before .before .before .before .before .pre .long)
-
-wide-requires-2 : tie.Need-wide-requires-2 Inv-loop μ-loop
-wide-requires-2 c κs = search needs
 
 weight-sum-requires : tie.Need-weight-sum-requires Inv-loop μ-loop
 weight-sum-requires c κs =
@@ -56,9 +41,6 @@ weight-sum-requires c κs =
 
 add-at-requires : tie.Need-add-at-requires Inv-loop μ-loop
 add-at-requires c κs = omega (arith, in-rows (c .before .before .before .before .before .before), c .before .before .before .before .before .before .before .loop .inv .1)
-
-add-i : tie.Need-add-i Inv-loop μ-loop
-add-i c = search needs
 
 loop-less : tie.Need-loop-less Inv-loop μ-loop
 loop-less c = omega (arith, in-rows (c .before .before .before .before .before .before .before .before .before))
@@ -92,16 +74,16 @@ prolong-smoothed-spec =
     Inv-loop
     μ-loop
     loop-holds
-    mul-wide
+    (λ c. search needs)
     shared-slice-read-wide
-    wide-requires
-    add-wide
-    mul-wide-2
+    (λ c κs. search needs)
+    (λ c. search needs)
+    (λ c. search needs)
     shared-slice-read-wide-2
-    wide-requires-2
+    (λ c κs. search needs)
     weight-sum-requires
     add-at-requires
-    add-i
+    (λ c. search needs)
     loop-less
     loop-again
     same-length

@@ -27,35 +27,17 @@ add-q c = omega (arith, facts (c .before .before .before .before .before))
 mul-prolong-smoothed : tie.Need-mul-prolong-smoothed
 mul-prolong-smoothed c = omega (arith, facts (c .before .before .before .before .before))
 
-sub-prolong-smoothed : tie.Need-sub-prolong-smoothed
-sub-prolong-smoothed c = search needs
-
-part-prolong-smoothed-start : tie.Need-part-prolong-smoothed-start
-part-prolong-smoothed-start c = search needs
-
 part-prolong-smoothed-end : tie.Need-part-prolong-smoothed-end
 part-prolong-smoothed-end c = omega (arith, facts (c .before .before .before .before .before))
 
 mul-prolong-smoothed-2 : tie.Need-mul-prolong-smoothed-2
 mul-prolong-smoothed-2 c = omega (arith, facts (c .before .before .before .before .before .before))
 
-sub-prolong-smoothed-2 : tie.Need-sub-prolong-smoothed-2
-sub-prolong-smoothed-2 c = search needs
-
-part-prolong-smoothed-start-2 : tie.Need-part-prolong-smoothed-start-2
-part-prolong-smoothed-start-2 c = search needs
-
 part-prolong-smoothed-end-2 : tie.Need-part-prolong-smoothed-end-2
 part-prolong-smoothed-end-2 c = omega (arith, facts (c .before .before .before .before .before .before))
 
 mul-prolong-smoothed-3 : tie.Need-mul-prolong-smoothed-3
 mul-prolong-smoothed-3 c = omega (arith, facts (c .before .before .before .before .before .before .before))
-
-sub-prolong-smoothed-3 : tie.Need-sub-prolong-smoothed-3
-sub-prolong-smoothed-3 c = search needs
-
-part-prolong-smoothed-start-3 : tie.Need-part-prolong-smoothed-start-3
-part-prolong-smoothed-start-3 c = search needs
 
 part-prolong-smoothed-end-3 : tie.Need-part-prolong-smoothed-end-3
 part-prolong-smoothed-end-3 c = omega (arith, facts (c .before .before .before .before .before .before .before))
@@ -65,9 +47,6 @@ prolong-smoothed-requires c κs =
     let s = c .before .before .before .before .before .before .before .before .before in
     let a = s .args in
     rw (s .pre .1, s .pre .2, weights-long (a .s) (a .ints .now) (a .floats .now) (s .pre .0)) (compressed (a .s) (a .ints .now) (a .floats .now) (s .pre .0) (s .pre .3))
-
-same-length : tie.Need-same-length
-same-length c = search needs
 
 returns : tie.Need-returns
 returns c = c .before .before .prolong-smoothed .ensures
@@ -82,17 +61,17 @@ prolong-weights-spec =
     mul-p
     add-q
     mul-prolong-smoothed
-    sub-prolong-smoothed
-    part-prolong-smoothed-start
+    (λ c. search needs)
+    (λ c. search needs)
     part-prolong-smoothed-end
     mul-prolong-smoothed-2
-    sub-prolong-smoothed-2
-    part-prolong-smoothed-start-2
+    (λ c. search needs)
+    (λ c. search needs)
     part-prolong-smoothed-end-2
     mul-prolong-smoothed-3
-    sub-prolong-smoothed-3
-    part-prolong-smoothed-start-3
+    (λ c. search needs)
+    (λ c. search needs)
     part-prolong-smoothed-end-3
     prolong-smoothed-requires
-    same-length
+    (λ c. search needs)
     returns)

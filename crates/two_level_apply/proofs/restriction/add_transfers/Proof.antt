@@ -23,32 +23,11 @@ in-rows c = omega arith
 loop-holds : tie.Need-loop-holds Inv-loop μ-loop
 loop-holds c = let a = c .before .before .before .before .before .args in (omega arith, refl, none-step (scaledPuts (rowOf (a .ptr .now) (a .idx .now) (a .vals .now)) (a .r .now)) (a .rhs .now))
 
-mul-wide : tie.Need-mul-wide Inv-loop μ-loop
-mul-wide c = search needs
-
 shared-slice-read-wide : tie.Need-shared-slice-read-wide Inv-loop μ-loop
 shared-slice-read-wide c = omega (arith, c .before .before .before .before .before .before .before .before .pre .long)
 
-wide-requires : tie.Need-wide-requires Inv-loop μ-loop
-wide-requires c κs = search needs
-
-add-wide : tie.Need-add-wide Inv-loop μ-loop
-add-wide c = search needs
-
-mul-wide-2 : tie.Need-mul-wide-2 Inv-loop μ-loop
-mul-wide-2 c = search needs
-
 shared-slice-read-wide-2 : tie.Need-shared-slice-read-wide-2 Inv-loop μ-loop
 shared-slice-read-wide-2 c = omega (arith, c .before .before .before .before .before .before .before .before .before .before .pre .long)
-
-wide-requires-2 : tie.Need-wide-requires-2 Inv-loop μ-loop
-wide-requires-2 c κs = search needs
-
-mul-add-weights : tie.Need-mul-add-weights Inv-loop μ-loop
-mul-add-weights c = search needs
-
-shared-slice-read-add-weights : tie.Need-shared-slice-read-add-weights Inv-loop μ-loop
-shared-slice-read-add-weights c = search needs
 
 add-weights-requires : tie.Need-add-weights-requires Inv-loop μ-loop
 add-weights-requires c κs =
@@ -56,9 +35,6 @@ add-weights-requires c κs =
     let l = c .before .before .before .before .before .before .before .loop in
     let h = row-span (l .i) (c .before .before .before .before .wide .result) (c .before .before .wide2 .result) (s .pre) (in-rows (c .before .before .before .before .before .before)) (c .before .before .before .before .wide .ensures) (c .before .before .wide2 .ensures) in
     (h .0, h .1, s .pre .same, rw (l .inv .1) (s .pre .within))
-
-add-i : tie.Need-add-i Inv-loop μ-loop
-add-i c = search needs
 
 loop-less : tie.Need-loop-less Inv-loop μ-loop
 loop-less c = omega (arith, in-rows (c .before .before .before .before .before .before .before .before .before))
@@ -88,17 +64,17 @@ add-transfers-spec =
     Inv-loop
     μ-loop
     loop-holds
-    mul-wide
+    (λ c. search needs)
     shared-slice-read-wide
-    wide-requires
-    add-wide
-    mul-wide-2
+    (λ c κs. search needs)
+    (λ c. search needs)
+    (λ c. search needs)
     shared-slice-read-wide-2
-    wide-requires-2
-    mul-add-weights
-    shared-slice-read-add-weights
+    (λ c κs. search needs)
+    (λ c. search needs)
+    (λ c. search needs)
     add-weights-requires
-    add-i
+    (λ c. search needs)
     loop-less
     loop-again
     same-length

@@ -20,29 +20,8 @@ column-ok c = rw (c .wide .ensures) (c .before .before .before .before .before .
 loop-holds : tie.Need-loop-holds Inv-loop μ-loop
 loop-holds c = (omega arith, omega arith, refl, refl)
 
-mul-wide : tie.Need-mul-wide Inv-loop μ-loop
-mul-wide c = search needs
-
-shared-slice-read-wide : tie.Need-shared-slice-read-wide Inv-loop μ-loop
-shared-slice-read-wide c = search needs
-
-wide-requires : tie.Need-wide-requires Inv-loop μ-loop
-wide-requires c κs = search needs
-
-mul-add-at : tie.Need-mul-add-at Inv-loop μ-loop
-mul-add-at c = search needs
-
-shared-slice-read-add-at : tie.Need-shared-slice-read-add-at Inv-loop μ-loop
-shared-slice-read-add-at c = search needs
-
 add-at-requires : tie.Need-add-at-requires Inv-loop μ-loop
 add-at-requires c κs = omega (arith, column-ok (c .before .before), c .before .before .before .before .before .loop .inv .2)
-
-add-k : tie.Need-add-k Inv-loop μ-loop
-add-k c = search needs
-
-loop-less : tie.Need-loop-less Inv-loop μ-loop
-loop-less c = omega arith
 
 loop-again : tie.Need-loop-again Inv-loop μ-loop
 loop-again c =
@@ -73,14 +52,14 @@ add-weights-spec =
     Inv-loop
     μ-loop
     loop-holds
-    mul-wide
-    shared-slice-read-wide
-    wide-requires
-    mul-add-at
-    shared-slice-read-add-at
+    (λ c. search needs)
+    (λ c. search needs)
+    (λ c κs. search needs)
+    (λ c. search needs)
+    (λ c. search needs)
     add-at-requires
-    add-k
-    loop-less
+    (λ c. search needs)
+    (λ c. omega arith)
     loop-again
     same-length
     returns)

@@ -7,26 +7,14 @@ use borrow.Author.Needs.{needs}
 use Rattle.two_level_apply.proofs.restriction.restrict.Statement.{statement}
 use Rattle.two_level_apply.proofs.restriction.restrict.Tie as tie
 
-enum-told : tie.Need-enum-told
-enum-told c = search needs
-
 restrict-groups-requires : tie.Need-restrict-groups-requires
 restrict-groups-requires c κs = c .before .before .before .before .before .before .before .pre
-
-enum-told-2 : tie.Need-enum-told-2
-enum-told-2 c = search needs
 
 restrict-weights-requires : tie.Need-restrict-weights-requires
 restrict-weights-requires c κs = let p = c .before .before .before .before .before .before .before .pre in (p .0, p .1, p .2, c .before .enum-told2 .given .1)
 
-same-length : tie.Need-same-length
-same-length c = search needs
-
 returns : tie.Need-returns
 returns c = let a = c .before .before .before .before .before .before .before .before .before .before .args in c .before .before .restrict-groups .ensures ∙ ap (λ l. l ++ drop (a .s .coarse) (a .work .now)) (restricted-groups (a .s) (a .ints .now) (a .floats .now) (a .r .now) (c .before .before .before .before .enum-told .given .1))
-
-same-length-2 : tie.Need-same-length-2
-same-length-2 c = search needs
 
 returns-2 : tie.Need-returns-2
 returns-2 c = let a = c .before .before .before .before .before .before .before .before .before .before .args in c .before .before .restrict-weights .ensures ∙ ap (λ l. l ++ drop (a .s .coarse) (a .work .now)) (restricted-weights (a .s) (a .ints .now) (a .floats .now) (a .r .now) (c .before .before .before .before .enum-told2 .given .1))
@@ -35,11 +23,11 @@ pub restrict-spec : {M : Type 1} → statement M
 restrict-spec =
     tie.close
     (tie.spec
-    enum-told
+    (λ c. search needs)
     restrict-groups-requires
-    enum-told-2
+    (λ c. search needs)
     restrict-weights-requires
-    same-length
+    (λ c. search needs)
     returns
-    same-length-2
+    (λ c. search needs)
     returns-2)

@@ -8,18 +8,12 @@ use borrow.Author.Needs.{needs}
 use Rattle.two_level_apply.proofs.restriction.restrict_constant.Statement.{statement}
 use Rattle.two_level_apply.proofs.restriction.restrict_constant.Tie as tie
 
-zero-floats-requires : tie.Need-zero-floats-requires
-zero-floats-requires c κs = search needs
-
 add-nodes-requires : tie.Need-add-nodes-requires
 add-nodes-requires c κs =
     let s = c .before .before .before .before .before .before .before .before in
     let z = c .before .before .before .zero-floats in
     let e : length (z .last .0) ≡ length (s .args .rhs .now) = ap length (z .ensures) ∙ length-replicate (length (s .args .rhs .now)) zeroᶠ in
     rw e (s .pre)
-
-same-length : tie.Need-same-length
-same-length c = search needs
 
 returns : tie.Need-returns
 returns c =
@@ -30,4 +24,4 @@ returns c =
 
 pub restrict-constant-spec : {M : Type 1} → statement M
 restrict-constant-spec =
-    tie.close (tie.spec zero-floats-requires add-nodes-requires same-length returns)
+    tie.close (tie.spec (λ c κs. search needs) add-nodes-requires (λ c. search needs) returns)

@@ -16,9 +16,6 @@ slice-aggregate-restrict-constant c =
     let a = s .args in
     sym (length-take-le (a .s .nodes) (a .ints .now) (nodes-room (a .s) (a .ints .now) (a .floats .now) (s .pre .0)))
 
-slice-relend-prefix-restrict-constant : tie.Need-slice-relend-prefix-restrict-constant
-slice-relend-prefix-restrict-constant c = search needs
-
 slice-aggregate-restrict-constant-2 : tie.Need-slice-aggregate-restrict-constant-2
 slice-aggregate-restrict-constant-2 c = let a = c .before .before .before .before .before .before .args in sym (length-take-le (a .s .coarse) (a .work .now) (c .before .before .before .before .before .before .pre .2))
 
@@ -27,9 +24,6 @@ restrict-constant-requires c κs =
     let s = c .before .before .before .before .before .before in
     let a = s .args in
     rw (s .pre .1, length-take-le (a .s .coarse) (a .work .now) (s .pre .2)) (grouped (a .s) (a .ints .now) (a .floats .now) (s .pre .0))
-
-same-length : tie.Need-same-length
-same-length c = search needs
 
 returns : tie.Need-returns
 returns c =
@@ -42,8 +36,8 @@ restrict-groups-spec =
     tie.close
     (tie.spec
     slice-aggregate-restrict-constant
-    slice-relend-prefix-restrict-constant
+    (λ c. search needs)
     slice-aggregate-restrict-constant-2
     restrict-constant-requires
-    same-length
+    (λ c. search needs)
     returns)

@@ -8,18 +8,12 @@ use borrow.Author.Needs.{needs}
 use Rattle.two_level_apply.proofs.restriction.restrict_smoothed.Statement.{statement}
 use Rattle.two_level_apply.proofs.restriction.restrict_smoothed.Tie as tie
 
-zero-floats-requires : tie.Need-zero-floats-requires
-zero-floats-requires c κs = search needs
-
 add-transfers-requires : tie.Need-add-transfers-requires
 add-transfers-requires c κs =
     let s = c .before .before .before .before .before .before .before .before .before .before in
     let z = c .before .before .before .zero-floats in
     let e : length (z .last .0) ≡ length (s .args .rhs .now) = ap length (z .ensures) ∙ length-replicate (length (s .args .rhs .now)) zeroᶠ in
     rw e (s .pre)
-
-same-length : tie.Need-same-length
-same-length c = search needs
 
 returns : tie.Need-returns
 returns c =
@@ -30,4 +24,4 @@ returns c =
 
 pub restrict-smoothed-spec : {M : Type 1} → statement M
 restrict-smoothed-spec =
-    tie.close (tie.spec zero-floats-requires add-transfers-requires same-length returns)
+    tie.close (tie.spec (λ c κs. search needs) add-transfers-requires (λ c. search needs) returns)

@@ -33,23 +33,11 @@ add-q c = omega (arith, facts (c .before .before .before .before .before))
 mul-restrict-smoothed : tie.Need-mul-restrict-smoothed
 mul-restrict-smoothed c = omega (arith, facts (c .before .before .before .before .before))
 
-sub-restrict-smoothed : tie.Need-sub-restrict-smoothed
-sub-restrict-smoothed c = search needs
-
-part-restrict-smoothed-start : tie.Need-part-restrict-smoothed-start
-part-restrict-smoothed-start c = search needs
-
 part-restrict-smoothed-end : tie.Need-part-restrict-smoothed-end
 part-restrict-smoothed-end c = omega (arith, facts (c .before .before .before .before .before))
 
 mul-restrict-smoothed-2 : tie.Need-mul-restrict-smoothed-2
 mul-restrict-smoothed-2 c = omega (arith, facts (c .before .before .before .before .before .before))
-
-sub-restrict-smoothed-2 : tie.Need-sub-restrict-smoothed-2
-sub-restrict-smoothed-2 c = search needs
-
-part-restrict-smoothed-start-2 : tie.Need-part-restrict-smoothed-start-2
-part-restrict-smoothed-start-2 c = search needs
 
 part-restrict-smoothed-end-2 : tie.Need-part-restrict-smoothed-end-2
 part-restrict-smoothed-end-2 c = omega (arith, facts (c .before .before .before .before .before .before))
@@ -57,17 +45,8 @@ part-restrict-smoothed-end-2 c = omega (arith, facts (c .before .before .before 
 mul-restrict-smoothed-3 : tie.Need-mul-restrict-smoothed-3
 mul-restrict-smoothed-3 c = omega (arith, facts (c .before .before .before .before .before .before .before))
 
-sub-restrict-smoothed-3 : tie.Need-sub-restrict-smoothed-3
-sub-restrict-smoothed-3 c = search needs
-
-part-restrict-smoothed-start-3 : tie.Need-part-restrict-smoothed-start-3
-part-restrict-smoothed-start-3 c = search needs
-
 part-restrict-smoothed-end-3 : tie.Need-part-restrict-smoothed-end-3
 part-restrict-smoothed-end-3 c = omega (arith, facts (c .before .before .before .before .before .before .before))
-
-slice-relend-prefix-restrict-smoothed : tie.Need-slice-relend-prefix-restrict-smoothed
-slice-relend-prefix-restrict-smoothed c = search needs
 
 slice-aggregate-restrict-smoothed : tie.Need-slice-aggregate-restrict-smoothed
 slice-aggregate-restrict-smoothed c = let a = c .before .before .before .before .before .before .before .before .before .args in sym (length-take-le (a .s .coarse) (a .work .now) (c .before .before .before .before .before .before .before .before .before .pre .2))
@@ -77,9 +56,6 @@ restrict-smoothed-requires c κs =
     let s = c .before .before .before .before .before .before .before .before .before in
     let a = s .args in
     rw (s .pre .1, length-take-le (a .s .coarse) (a .work .now) (s .pre .2), weights-long (a .s) (a .ints .now) (a .floats .now) (s .pre .0)) (compressed (a .s) (a .ints .now) (a .floats .now) (s .pre .0) (s .pre .3))
-
-same-length : tie.Need-same-length
-same-length c = search needs
 
 returns : tie.Need-returns
 returns c =
@@ -97,19 +73,19 @@ restrict-weights-spec =
     mul-p
     add-q
     mul-restrict-smoothed
-    sub-restrict-smoothed
-    part-restrict-smoothed-start
+    (λ c. search needs)
+    (λ c. search needs)
     part-restrict-smoothed-end
     mul-restrict-smoothed-2
-    sub-restrict-smoothed-2
-    part-restrict-smoothed-start-2
+    (λ c. search needs)
+    (λ c. search needs)
     part-restrict-smoothed-end-2
     mul-restrict-smoothed-3
-    sub-restrict-smoothed-3
-    part-restrict-smoothed-start-3
+    (λ c. search needs)
+    (λ c. search needs)
     part-restrict-smoothed-end-3
-    slice-relend-prefix-restrict-smoothed
+    (λ c. search needs)
     slice-aggregate-restrict-smoothed
     restrict-smoothed-requires
-    same-length
+    (λ c. search needs)
     returns)

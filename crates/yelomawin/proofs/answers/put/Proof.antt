@@ -5,20 +5,8 @@ use borrow.Author.Needs.{needs}
 use Rattle.yelomawin.proofs.answers.put.Statement.{statement}
 use Rattle.yelomawin.proofs.answers.put.Tie as tie
 
-mul-list : tie.Need-mul-list
-mul-list c = search needs
-
-slice-write-list : tie.Need-slice-write-list
-slice-write-list c = search needs
-
-same-length : tie.Need-same-length
-same-length c = search needs
-
-returns : tie.Need-returns
-returns c = search needs
-
 returns-2 : tie.Need-returns-2
 returns-2 c = set-beyond (c .before .args .list .now) (c .before .args .at) (c .before .args .x) (omega arith)
 
 pub put-spec : {M : Type 1} → statement M
-put-spec = tie.close (tie.spec mul-list slice-write-list same-length returns returns-2)
+put-spec = tie.close (tie.spec (λ c. search needs) (λ c. search needs) (λ c. search needs) (λ c. search needs) returns-2)

@@ -7,15 +7,6 @@ use borrow.Author.Needs.{needs}
 use Rattle.yelomawin.proofs.answers.refuse.Statement.{statement}
 use Rattle.yelomawin.proofs.answers.refuse.Tie as tie
 
-told-requires : tie.Need-told-requires
-told-requires c κs = search needs
-
-receive-requires : tie.Need-receive-requires
-receive-requires c κs = search needs
-
-same-length : tie.Need-same-length
-same-length c = search needs
-
 returns : tie.Need-returns
 unfolding toldOf
 returns c =
@@ -24,4 +15,4 @@ returns c =
     (ap (λ (x : Row). x .number) (row .ensures), c .before .before .receive .ensures ∙ rw (row .ensures) (told (a .cause) (a .list .now)))
 
 pub refuse-spec : {M : Type 1} → statement M
-refuse-spec = tie.close (tie.spec told-requires receive-requires same-length returns)
+refuse-spec = tie.close (tie.spec (λ c κs. search needs) (λ c κs. search needs) (λ c. search needs) returns)

@@ -4,12 +4,6 @@ use borrow.Author.Needs.{needs}
 use Rattle.yelomawin.proofs.record.basis_number.Statement.{statement}
 use Rattle.yelomawin.proofs.record.basis_number.Tie as tie
 
-enum-told : tie.Need-enum-told
-enum-told c = search needs
-
-enum-told-2 : tie.Need-enum-told-2
-enum-told-2 c = search needs
-
 returns : tie.Need-returns
 unfolding basisNumber
 returns c = rw (c .enum-told .given .1)
@@ -19,4 +13,4 @@ unfolding basisNumber
 returns-2 c = rw (c .enum-told2 .given .1)
 
 pub basis-number-spec : {M : Type 1} → statement M
-basis-number-spec = tie.close (tie.spec enum-told enum-told-2 returns returns-2)
+basis-number-spec = tie.close (tie.spec (λ c. search needs) (λ c. search needs) returns returns-2)

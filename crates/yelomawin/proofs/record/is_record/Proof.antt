@@ -5,18 +5,6 @@ use borrow.Author.Needs.{needs}
 use Rattle.yelomawin.proofs.record.is_record.Statement.{statement}
 use Rattle.yelomawin.proofs.record.is_record.Tie as tie
 
-shared-slice-read-are-policies : tie.Need-shared-slice-read-are-policies
-shared-slice-read-are-policies c = search needs
-
-shared-slice-read-are-policies-2 : tie.Need-shared-slice-read-are-policies-2
-shared-slice-read-are-policies-2 c = search needs
-
-shared-slice-read-are-policies-3 : tie.Need-shared-slice-read-are-policies-3
-shared-slice-read-are-policies-3 c = search needs
-
-are-policies-requires : tie.Need-are-policies-requires
-are-policies-requires c κs = search needs
-
 returns : tie.Need-returns
 returns c = c .are-policies .ensures ∙ policies-decide _ (c .before .before .before .before .if1 .taken)
 
@@ -27,9 +15,9 @@ pub is-record-spec : {M : Type 1} → statement M
 is-record-spec =
     tie.close
     (tie.spec
-    shared-slice-read-are-policies
-    shared-slice-read-are-policies-2
-    shared-slice-read-are-policies-3
-    are-policies-requires
+    (λ c. search needs)
+    (λ c. search needs)
+    (λ c. search needs)
+    (λ c κs. search needs)
     returns
     returns-2)
