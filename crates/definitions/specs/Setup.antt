@@ -1,6 +1,6 @@
 -- Setup: the checks and stages in their order, the record, and what the four lists hold afterwards.
-use Prim.Native.Nat.{ℕ, _+_, _*_, _/_, _%_}
-use mathlib.Core.Bool.{Bool, _&&_}
+use Prim.Native.Nat.{ℕ, _+_, _*_, _%_}
+use mathlib.Core.Bool.{_&&_}
 use mathlib.Core.List.{List, [], _++_, map, flatMap}
 use lib.Dec.{leb, ltb, eqb}
 use lib.ListN.{length, getD}
@@ -16,6 +16,7 @@ use Rattle.definitions.specs.Groups.{Grouping, graphGrouping, contiguous
 use Rattle.definitions.specs.Estimate.{estimateOf}
 use Rattle.definitions.specs.Transfer.{coarseColumn, transferOf}
 use Rattle.definitions.specs.Coarse.{constantEntry, galerkinEntry, averagedSquare, coarseFactor, resolved, coarsePart}
+use Rattle.definitions.specs.Places.{Lengths, nodeCount, entryNeeds, coarseNeeds, covers}
 use Rattle.definitions.specs.declared.Setup.{Setup}
 use Rattle.definitions.specs.declared.Options.{Options}
 use Rattle.definitions.specs.declared.TwoLevelAggregation.{TwoLevelAggregation}
@@ -23,32 +24,6 @@ use Rattle.definitions.specs.declared.TwoLevelAggregation.the-variants.{
 use Rattle.definitions.specs.declared.TwoLevelBasis.{TwoLevelBasis}
 use Rattle.definitions.specs.declared.TwoLevelBasis.the-variants.{PiecewiseConstant, JacobiSmoothed}
 use Rattle.definitions.specs.declared.Refusal.the-variants.{NotSquare, BlockSize, GroupSize, NotMultiple, ListTooShort, NoNode, CoarseTooLarge, CoarseListTooShort}
-
-abbrev pub nodeCount : Matrix → Options → ℕ
-nodeCount a o = a .rows / o .block
-
--- ---- lengths
-
--- how long the four lists are: setup integers, setup floats, work integers, work floats
-pub record Lengths : Type 0 where
-  pub ints : ℕ
-  pub floats : ℕ
-  pub workInts : ℕ
-  pub workFloats : ℕ
-
--- what 13 asks of them
-unfoldable pub entryNeeds : Matrix → Options → Lengths
-entryNeeds a o =
-    let n = a .rows in
-    let e = length (a .values) in
-    record { ints = nodeCount a o + 2 * n + e + 1; floats = n * o .block + n + e; workInts = 8 * n + 4 * e + 16; workFloats = 8 * n + 2 * e }
-
--- what 18 adds for the coarse dimension c
-unfoldable pub coarseNeeds : ℕ → Lengths → Lengths
-coarseNeeds c need = record { ints = need .ints; floats = need .floats + c * c; workInts = need .workInts + 4 * c; workFloats = need .workFloats + (c * c + 4 * c) }
-
-unfoldable pub covers : Lengths → Lengths → Bool
-covers room need = leb (need .ints) (room .ints) && leb (need .floats) (room .floats) && leb (need .workInts) (room .workInts) && leb (need .workFloats) (room .workFloats)
 
 -- ---- stages
 

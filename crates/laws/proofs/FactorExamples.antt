@@ -13,7 +13,8 @@ use Rattle.definitions.specs.Refusal.{refused, done}
 use Rattle.definitions.specs.Matrix.{Matrix, rowOf, entriesOf}
 use Rattle.definitions.specs.Block.{inBlock, blockCount, widthOf, blocksCall, blockPart}
 use Rattle.definitions.specs.Coarse.{packed, coarseFactor, entryIn}
-use Rattle.definitions.specs.Setup.{Lengths, setupOf}
+use Rattle.definitions.specs.Places.{Lengths}
+use Rattle.definitions.specs.Setup.{setupOf}
 use Rattle.definitions.proofs.Opened.{all-open}
 use Rattle.definitions.specs.declared.Options.{Options}
 use Rattle.definitions.specs.declared.Refusal.the-variants.{BlockPivot}

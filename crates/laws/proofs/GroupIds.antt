@@ -12,7 +12,8 @@ use Rattle.definitions.specs.Refusal.{done}
 use Rattle.definitions.specs.Matrix.{Matrix}
 use Rattle.definitions.specs.Neighbours.{neighbourLists}
 use Rattle.definitions.specs.Groups.{Joining, Groups, Grouping, waiting, free, growGroup, growGroups, nodesIn, relabelled, joined, replay, place, firsts, renumbered, groupsOf, grown, joinings, graphGrouping, contiguousGrouping, noAnchor}
-use Rattle.definitions.specs.Setup.{nodeCount, graphOf, groupingOf}
+use Rattle.definitions.specs.Places.{nodeCount}
+use Rattle.definitions.specs.Setup.{graphOf, groupingOf}
 use Rattle.definitions.specs.Separation.{followsGraph}
 use Rattle.definitions.specs.declared.Options.{Options}
 use Rattle.definitions.specs.declared.Refusal.the-variants.{NoNode}

@@ -19,7 +19,8 @@ use Rattle.definitions.specs.Groups.{Grouping}
 use Rattle.definitions.specs.Estimate.{usableFrom, normalised, startOf, rounds, inverseRoots, rhoOf, dampingOf, estimateOf}
 use Rattle.definitions.specs.Transfer.{coarseColumn}
 use Rattle.definitions.specs.Coarse.{constantEntry, constantTerms, galerkinEntry, galerkinTerms, averaged, averagedSquare, entryIn, coarseFactor}
-use Rattle.definitions.specs.Setup.{Lengths, entryNeeds, coarseNeeds, covers, frontOf, groupingOf, maxCoarse, Transfer, transferFor, coarseEntry, coarseMatrix, Built, builtFrom, setupOf}
+use Rattle.definitions.specs.Places.{Lengths, entryNeeds, coarseNeeds, covers}
+use Rattle.definitions.specs.Setup.{frontOf, groupingOf, maxCoarse, Transfer, transferFor, coarseEntry, coarseMatrix, Built, builtFrom, setupOf}
 use Rattle.definitions.specs.Record.{aggregationNumber, basisNumber, policyNumber, arePolicies, aggregationOf, basisOf, policyOf, recordNumbers, recordOf, isRecord}
 use Rattle.definitions.specs.declared.Setup.{Setup}
 use Rattle.definitions.specs.declared.Options.{Options}

@@ -19,7 +19,8 @@ use Rattle.definitions.specs.Block.{maxBlock, blockCount, widthOf, blockOf, inB
 use Rattle.definitions.specs.Diagonal.{diagonalFrom, diagonalOf}
 use Rattle.definitions.specs.Estimate.{usableFrom, normalised, rounds, image, startOf, inverseRoots, rhoOf, estimateOf}
 use Rattle.definitions.specs.Coarse.{packed, packedLength, entryIn, averagedSquare, coarseFactor}
-use Rattle.definitions.specs.Setup.{nodeCount, Lengths, frontOf, graphOf, groupingOf, transferFor, coarseMatrix, Built, setupOf}
+use Rattle.definitions.specs.Places.{nodeCount, Lengths}
+use Rattle.definitions.specs.Setup.{frontOf, graphOf, groupingOf, transferFor, coarseMatrix, Built, setupOf}
 use Rattle.definitions.specs.declared.Options.{Options}
 use Rattle.definitions.specs.declared.Refusal.{Refusal}
 use Rattle.definitions.specs.declared.Refusal.the-variants.{TooLarge, RowListLength, ColumnListLength, FirstPointer, LastPointer, PointerFalls, ColumnOutside, ValueNotFinite, NotSquare, BlockSize, GroupSize, NotMultiple, ListTooShort, BlockNotSymmetric, BlockPivot, NoNode, CoarseTooLarge, CoarseListTooShort, MissingDiagonal, ZeroDiagonal, NegativeDiagonal, EstimateFailed, CoarseScale, CoarsePivot}

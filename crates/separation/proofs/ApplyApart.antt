@@ -21,7 +21,8 @@ use Rattle.definitions.specs.Estimate.{estimateOf}
 use Rattle.definitions.specs.Block.{widthOf, blockPart, blockSolve, blockApplied}
 use Rattle.definitions.specs.Transfer.{coarseColumn, transferRow, transferOf}
 use Rattle.definitions.specs.Coarse.{weightsAt, coarsePart, coarseSolve, resolved, packedEntry}
-use Rattle.definitions.specs.Setup.{nodeCount, Transfer, transferFor, coarseEntry, coarseMatrix}
+use Rattle.definitions.specs.Places.{nodeCount}
+use Rattle.definitions.specs.Setup.{Transfer, transferFor, coarseEntry, coarseMatrix}
 use Rattle.definitions.specs.Apply.{constantRestrictionTerms, smoothedRestrictionTerms, prolongationTerms}
 use Rattle.definitions.specs.Separation.{followsGraph}
 use Rattle.definitions.specs.declared.Options.{Options}

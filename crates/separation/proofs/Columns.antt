@@ -15,7 +15,8 @@ use Rattle.definitions.specs.Links.{unconnected}
 use Rattle.definitions.specs.Neighbours.{neighbourLists}
 use Rattle.definitions.specs.Groups.{Grouping, noAnchor}
 use Rattle.definitions.specs.Transfer.{coarseColumn}
-use Rattle.definitions.specs.Setup.{nodeCount, groupingOf}
+use Rattle.definitions.specs.Places.{nodeCount}
+use Rattle.definitions.specs.Setup.{groupingOf}
 use Rattle.definitions.specs.Separation.{followsGraph}
 use Rattle.definitions.specs.declared.Options.{Options}
 use Rattle.laws.proofs.Lists.{Each, each-at, any-tab, tab-any}

@@ -11,8 +11,8 @@ use Rattle.definitions.specs.Refusal.{done}
 use Rattle.definitions.specs.Matrix.{Matrix}
 use Rattle.definitions.specs.Block.{inBlock, blockPart}
 use Rattle.definitions.specs.Coarse.{packed, averaged, averagedSquare, entryIn, coarsePart}
-use Rattle.definitions.specs.Setup.{nodeCount, Lengths, coarseEntry, coarseMatrix, Built, builtFrom, setupOf}
-use Rattle.definitions.specs.Fits.{factorsIn, coarseIn}
+use Rattle.definitions.specs.Places.{nodeCount, Lengths, factorsIn, coarseIn}
+use Rattle.definitions.specs.Setup.{coarseEntry, coarseMatrix, Built, builtFrom, setupOf}
 use Rattle.definitions.specs.declared.Options.{Options}
 use Rattle.definitions.specs.declared.Setup.{Setup}
 use Rattle.definitions.specs.declared.TwoLevelCoarseApplyPolicy.the-variants.{FactorSolve}

@@ -18,8 +18,9 @@ use Rattle.definitions.specs.Block.{maxBlock}
 use Rattle.definitions.specs.Groups.{maxGroup}
 use Rattle.definitions.specs.Transfer.{weightAt, transferRow, transferOf}
 use Rattle.definitions.specs.Coarse.{resolved, coarsePart, coarseLength}
-use Rattle.definitions.specs.Setup.{nodeCount, maxCoarse, entryNeeds, coarseNeeds, covers, Transfer, transferFor, transferInts, transferFloats, builtFrom, setupOf}
-use Rattle.definitions.specs.Fits.{idsIn, columnsIn, usedInts, usedFloats, withinLimits, isResolved, transfersFit, transferFits, setupFits}
+use Rattle.definitions.specs.Places.{nodeCount, entryNeeds, coarseNeeds, covers, idsIn, columnsIn, usedInts, usedFloats}
+use Rattle.definitions.specs.Setup.{maxCoarse, Transfer, transferFor, transferInts, transferFloats, builtFrom, setupOf}
+use Rattle.definitions.specs.Fits.{withinLimits, isResolved, transfersFit, transferFits, setupFits}
 use Rattle.definitions.specs.Apply.{ample}
 use Rattle.definitions.specs.declared.Options.{Options}
 use Rattle.definitions.specs.declared.TwoLevelBasis.{TwoLevelBasis}

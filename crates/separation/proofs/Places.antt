@@ -13,8 +13,8 @@ use Rattle.definitions.specs.Matrix.{Matrix, Entry, rowOf, valuesWhere}
 use Rattle.definitions.specs.Block.{blockApplied}
 use Rattle.definitions.specs.Transfer.{coarseColumn, transferRow, transferOf}
 use Rattle.definitions.specs.Coarse.{packedLength, averagedSquare, averaged, entryIn, coarseLength, coarsePart, coarseSolve, inverseOf, packedSolve, unit}
-use Rattle.definitions.specs.Setup.{nodeCount, Transfer, transferFor, transferInts, transferFloats, builtFrom}
-use Rattle.definitions.specs.Fits.{idsIn, pointersIn, columnsIn, factorsIn, weightsIn, coarseIn}
+use Rattle.definitions.specs.Places.{nodeCount, idsIn, pointersIn, columnsIn, factorsIn, weightsIn, coarseIn}
+use Rattle.definitions.specs.Setup.{Transfer, transferFor, transferInts, transferFloats, builtFrom}
 use Rattle.definitions.specs.Apply.{constantRestrictionTerms, smoothedRestrictionTerms, prolongationTerms, transferIn, restrictionTerms, restricted, coarseSolution, gained, applied}
 use Rattle.definitions.specs.declared.Options.{Options}
 use Rattle.definitions.specs.declared.TwoLevelBasis.{TwoLevelBasis}

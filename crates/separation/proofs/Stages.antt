@@ -14,7 +14,8 @@ use Rattle.definitions.specs.Matrix.{Matrix, maxRows, maxEntries, validOf}
 use Rattle.definitions.specs.Block.{maxBlock, factorsOf}
 use Rattle.definitions.specs.Groups.{Grouping, maxGroup}
 use Rattle.definitions.specs.Coarse.{averagedSquare, coarseFactor}
-use Rattle.definitions.specs.Setup.{nodeCount, Lengths, entryNeeds, coarseNeeds, covers, frontOf, groupingOf, maxCoarse, Transfer, transferFor, coarseMatrix, Built, builtFrom, setupOf}
+use Rattle.definitions.specs.Places.{nodeCount, Lengths, entryNeeds, coarseNeeds, covers}
+use Rattle.definitions.specs.Setup.{frontOf, groupingOf, maxCoarse, Transfer, transferFor, coarseMatrix, Built, builtFrom, setupOf}
 use Rattle.definitions.specs.Formed.{setupFormed, applyFormed, formed}
 use Rattle.definitions.specs.declared.Options.{Options}
 use Rattle.definitions.specs.declared.Refusal.the-variants.{TooLarge, RowListLength, ColumnListLength, FirstPointer, LastPointer, PointerFalls, ColumnOutside, NotSquare, BlockSize, GroupSize, NotMultiple, ListTooShort, CoarseTooLarge, CoarseListTooShort}

@@ -15,7 +15,7 @@ use Rattle.definitions.specs.Matrix.{Matrix}
 use Rattle.definitions.specs.Links.{unconnected}
 use Rattle.definitions.specs.Setup.{setupOf}
 use Rattle.definitions.specs.Block.{blockCount, widthOf, blockPart}
-use Rattle.definitions.specs.Fits.{factorsIn, coarseIn}
+use Rattle.definitions.specs.Places.{factorsIn, coarseIn}
 use Rattle.definitions.specs.Apply.{restricted, coarseSolution, applied, corrected, ample}
 use Rattle.definitions.specs.Formed.{each, blockSolveFormed, restrictionFormed, coarseSolveFormed, gainFormed, setupFormed, applyFormed, formed, allFinite}
 use Rattle.definitions.specs.Separation.{agree, followsGraph, isDone, f64s, Apart, agreeing, Separation}

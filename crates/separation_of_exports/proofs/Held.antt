@@ -13,7 +13,8 @@ use Rattle.definitions.specs.Refusal.{done}
 use Rattle.definitions.specs.Matrix.{Matrix, Entry, maxRows, maxEntries}
 use Rattle.definitions.specs.Block.{maxBlock}
 use Rattle.definitions.specs.Groups.{maxGroup}
-use Rattle.definitions.specs.Setup.{nodeCount, maxCoarse, transferFor, transferInts, transferFloats, builtFrom}
+use Rattle.definitions.specs.Places.{nodeCount}
+use Rattle.definitions.specs.Setup.{maxCoarse, transferFor, transferInts, transferFloats, builtFrom}
 use Rattle.definitions.specs.Record.{recordNumbers}
 use Rattle.definitions.specs.declared.Options.{Options}
 use Rattle.definitions.specs.declared.TwoLevelBasis.{TwoLevelBasis}

@@ -8,7 +8,8 @@ use lib.ListN.{length}
 use lib.Ieee.{Float}
 use borrow.Author.Tests.{le-leb, lt-leb}
 use Rattle.definitions.specs.Lists.{all}
-use Rattle.definitions.specs.Fits.{usedInts, usedFloats, idsIn, transferFits, setupFits}
+use Rattle.definitions.specs.Places.{usedInts, usedFloats, idsIn}
+use Rattle.definitions.specs.Fits.{transferFits, setupFits}
 use Rattle.definitions.specs.declared.Setup.{Setup}
 use Rattle.setup_record.specs.Sizes.{sizesFit}
 

@@ -6,7 +6,8 @@ use mathlib.Core.Path.{_≡_, refl}
 use mathlib.Core.Bool.{Bool, true, false, _&&_}
 use lib.Dec.{leb, eqb}
 use borrow.Author.Tests.{leb-true, eqb-true}
-use Rattle.definitions.specs.Fits.{withinLimits, isResolved, transfersFit, usedInts}
+use Rattle.definitions.specs.Places.{usedInts}
+use Rattle.definitions.specs.Fits.{withinLimits, isResolved, transfersFit}
 use Rattle.definitions.specs.declared.Setup.{Setup}
 use Rattle.definitions.specs.declared.TwoLevelBasis.{TwoLevelBasis}
 use Rattle.definitions.specs.declared.TwoLevelBasis.the-variants.{PiecewiseConstant, JacobiSmoothed}

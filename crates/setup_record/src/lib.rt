@@ -14,7 +14,8 @@ ghost use lib.Dec.{eqb, ltb};
 ghost use lib.ListN.{length};
 ghost use Rattle.definitions.specs.Lists.{all};
 ghost use Rattle.definitions.specs.Coarse.{coarseLength};
-ghost use Rattle.definitions.specs.Fits.{withinLimits, isResolved, transfersFit, transferFits, usedInts, usedFloats, setupFits};
+ghost use Rattle.definitions.specs.Places.{usedInts, usedFloats};
+ghost use Rattle.definitions.specs.Fits.{withinLimits, isResolved, transfersFit, transferFits, setupFits};
 ghost use Rattle.setup_record.specs.Sizes.{sizesFit, rowsFit};
 
 fn both(a: bool, b: bool) -> bool

@@ -8,7 +8,7 @@ use Rattle.definitions.specs.Lists.{tab}
 use Rattle.definitions.specs.Numbers.{_+ᶠ_, total, summed}
 use Rattle.definitions.specs.Matrix.{rowOf}
 use Rattle.definitions.specs.Transfer.{coarseColumn}
-use Rattle.definitions.specs.Fits.{idsIn, pointersIn, columnsIn, weightsIn}
+use Rattle.definitions.specs.Places.{idsIn, pointersIn, columnsIn, weightsIn}
 use Rattle.definitions.specs.Apply.{constantRestrictionTerms, smoothedRestrictionTerms, prolongationTerms, restrictionTerms, restricted, gained}
 use Rattle.definitions.specs.declared.Setup.{Setup}
 use Rattle.definitions.specs.declared.TwoLevelBasis.the-variants.{PiecewiseConstant, JacobiSmoothed}

@@ -11,7 +11,8 @@ use borrow.Author.Tests.{eq-eqb, le-leb}
 use Rattle.definitions.specs.Numbers.{zeroᶠ}
 use Rattle.definitions.specs.Refusal.{done, require, _>>=_, resultLeft}
 use Rattle.definitions.specs.Block.{blockApplied, blockApplyCall, blockApplyLeft}
-use Rattle.definitions.specs.Fits.{factorsIn, setupFits}
+use Rattle.definitions.specs.Places.{factorsIn}
+use Rattle.definitions.specs.Fits.{setupFits}
 use Rattle.definitions.specs.declared.Setup.{Setup}
 use Rattle.two_level_apply.proofs.Parts.{bounds, sized, weights-room}
 use Rattle.two_level_apply.proofs.Calls.{padded-whole}

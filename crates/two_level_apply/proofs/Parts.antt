@@ -12,7 +12,8 @@ use lib.Ieee.{Float}
 use borrow.Author.Tests.{leb-true, ltb-true, ltb-false, eqb-true, not-true}
 use Rattle.definitions.specs.Lists.{all, falls, tab}
 use Rattle.definitions.specs.Coarse.{coarseLength}
-use Rattle.definitions.specs.Fits.{idsIn, pointersIn, columnsIn, weightsIn, usedInts, usedFloats, transferFits, setupFits}
+use Rattle.definitions.specs.Places.{idsIn, pointersIn, columnsIn, weightsIn, usedInts, usedFloats}
+use Rattle.definitions.specs.Fits.{transferFits, setupFits}
 use Rattle.definitions.specs.declared.Setup.{Setup}
 use Rattle.definitions.specs.declared.TwoLevelBasis.the-variants.{JacobiSmoothed}
 use Rattle.setup_record.specs.Sizes.{sizesFit}

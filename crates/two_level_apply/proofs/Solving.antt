@@ -12,7 +12,8 @@ use Rattle.definitions.specs.Numbers.{_+ᶠ_, zeroᶠ}
 use Rattle.definitions.specs.Refusal.{resultLeft}
 use Rattle.definitions.specs.Block.{blockApplied}
 use Rattle.definitions.specs.Coarse.{coarseLength, coarseSolve}
-use Rattle.definitions.specs.Fits.{coarseIn, factorsIn, setupFits}
+use Rattle.definitions.specs.Places.{coarseIn, factorsIn}
+use Rattle.definitions.specs.Fits.{setupFits}
 use Rattle.definitions.specs.Apply.{restricted, coarseSolution, gained, applied}
 use Rattle.definitions.specs.declared.Setup.{Setup}
 use Rattle.coarse_factor.specs.Calls.{coarseSolveCall}

@@ -10,7 +10,7 @@ use Rattle.definitions.specs.Lists.{between}
 use Rattle.definitions.specs.Numbers.{_+ᶠ_, total}
 use Rattle.definitions.specs.Block.{blockApplied}
 use Rattle.definitions.specs.Coarse.{coarseLength}
-use Rattle.definitions.specs.Fits.{idsIn, pointersIn, columnsIn, factorsIn, weightsIn, coarseIn, usedInts, usedFloats}
+use Rattle.definitions.specs.Places.{idsIn, pointersIn, columnsIn, factorsIn, weightsIn, coarseIn, usedInts, usedFloats}
 use Rattle.definitions.specs.Transfer.{coarseColumn}
 use Rattle.definitions.specs.Apply.{constantRestrictionTerms, smoothedRestrictionTerms, restrictionTerms, restricted, coarseSolution, gained, applied}
 use Rattle.definitions.specs.declared.Setup.{Setup}

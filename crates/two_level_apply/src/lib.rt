@@ -11,7 +11,8 @@ ghost use Rattle.definitions.specs.Numbers.{zeroᶠ};
 ghost use Rattle.definitions.specs.Answers.{answerOf};
 ghost use Rattle.definitions.specs.Block.{blockApplied};
 ghost use Rattle.definitions.specs.Coarse.{coarseSolve};
-ghost use Rattle.definitions.specs.Fits.{factorsIn, coarseIn, setupFits};
+ghost use Rattle.definitions.specs.Places.{factorsIn, coarseIn};
+ghost use Rattle.definitions.specs.Fits.{setupFits};
 ghost use Rattle.definitions.specs.Apply.{applied, applyCall, applyLeft, applyWorkLeft};
 
 mod adding;

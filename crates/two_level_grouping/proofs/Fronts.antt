@@ -4,7 +4,8 @@ use Prim.Native.Nat.{_≤_}
 use native.Mathlib.Omega.{arith}
 use native.Mathlib.Nat.{div-le-self}
 use Rattle.definitions.specs.Matrix.{Matrix, validOf, maxRows}
-use Rattle.definitions.specs.Setup.{frontOf, nodeCount}
+use Rattle.definitions.specs.Places.{nodeCount}
+use Rattle.definitions.specs.Setup.{frontOf}
 use Rattle.definitions.specs.Answers.{answerOf}
 use Rattle.definitions.specs.declared.Options.{Options}
 use Rattle.definitions.specs.declared.Refusal.{Refusal}

@@ -17,7 +17,8 @@ use Rattle.definitions.specs.Matrix.{Matrix, validOf}
 use Rattle.definitions.specs.Block.{maxBlock}
 use Rattle.definitions.specs.Neighbours.{listFor, neighbourLists, flatNeighbours}
 use Rattle.definitions.specs.Groups.{graphGrouping, noAnchor}
-use Rattle.definitions.specs.Setup.{nodeCount, graphOf}
+use Rattle.definitions.specs.Places.{nodeCount}
+use Rattle.definitions.specs.Setup.{graphOf}
 use Rattle.definitions.specs.Answers.{answerOf, groupingAnswer}
 use Rattle.definitions.specs.declared.Options.{Options}
 use Rattle.definitions.specs.declared.Answer.{Answer}

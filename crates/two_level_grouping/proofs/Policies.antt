@@ -11,7 +11,8 @@ use Rattle.definitions.specs.Numbers.{zeroᶠ}
 use Rattle.definitions.specs.Refusal.{Outcome, refused, done, Checked, _>>=_, resultLeft, workLeft, keepsAll, causeOf}
 use Rattle.definitions.specs.Matrix.{Matrix, validOf, maxRows, maxEntries}
 use Rattle.definitions.specs.Groups.{Grouping, contiguousGrouping}
-use Rattle.definitions.specs.Setup.{frontOf, nodeCount, groupingOf}
+use Rattle.definitions.specs.Places.{nodeCount}
+use Rattle.definitions.specs.Setup.{frontOf, groupingOf}
 use Rattle.definitions.specs.Answers.{answerOf, groupingAnswer}
 use Rattle.definitions.specs.declared.Options.{Options}
 use Rattle.definitions.specs.declared.Answer.{Answer}

@@ -13,7 +13,8 @@ use Rattle.definitions.specs.Lists.{padded}
 use Rattle.definitions.specs.Groups.{Grouping, contiguousGrouping}
 use Rattle.definitions.specs.Answers.{groupingAnswer}
 use Rattle.definitions.specs.Neighbours.{neighbourLists}
-use Rattle.definitions.specs.Setup.{frontOf, nodeCount, groupingOf, graphOf}
+use Rattle.definitions.specs.Places.{nodeCount}
+use Rattle.definitions.specs.Setup.{frontOf, groupingOf, graphOf}
 use Rattle.definitions.specs.declared.Options.{Options}
 use Rattle.definitions.specs.declared.TwoLevelAggregation.{TwoLevelAggregation}
 use Rattle.definitions.specs.declared.GroupingAnswer.{GroupingAnswer}

@@ -10,7 +10,8 @@ use Rattle.definitions.specs.Refusal.{Outcome, refused, done, Checked, require,
 use Rattle.definitions.specs.Matrix.{Matrix, validOf}
 use Rattle.definitions.specs.Block.{maxBlock}
 use Rattle.definitions.specs.Groups.{maxGroup}
-use Rattle.definitions.specs.Setup.{frontOf, nodeCount}
+use Rattle.definitions.specs.Places.{nodeCount}
+use Rattle.definitions.specs.Setup.{frontOf}
 use Rattle.definitions.specs.declared.Options.{Options}
 use Rattle.definitions.specs.declared.Refusal.{Refusal}
 use Rattle.definitions.specs.declared.Refusal.the-variants.{NotSquare, BlockSize, GroupSize, NotMultiple}

@@ -12,7 +12,8 @@ use Rattle.definitions.specs.Matrix.{Matrix}
 use Rattle.definitions.specs.Diagonal.{diagonalOf}
 use Rattle.definitions.specs.Estimate.{Estimate, estimateOf}
 use Rattle.definitions.specs.Transfer.{transferOf}
-use Rattle.definitions.specs.Setup.{Lengths, Lent, Transfer, transferFor, transferFloats, lentOf}
+use Rattle.definitions.specs.Places.{Lengths}
+use Rattle.definitions.specs.Setup.{Lent, Transfer, transferFor, transferFloats, lentOf}
 use Rattle.definitions.specs.Answers.{estimateAnswer}
 use Rattle.definitions.specs.declared.Setup.{Setup}
 use Rattle.definitions.specs.declared.EstimateAnswer.{EstimateAnswer}

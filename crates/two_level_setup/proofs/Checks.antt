@@ -5,7 +5,8 @@ use lib.ListN.{length}
 use Rattle.definitions.specs.Numbers.{zeroᶠ}
 use Rattle.definitions.specs.Refusal.{Outcome, refused, done, _>>=_, resultLeft, workLeft, keepsAll, causeOf}
 use Rattle.definitions.specs.Matrix.{Matrix}
-use Rattle.definitions.specs.Setup.{Lent, lengthsOf, entryNeeds, covers, frontOf, Built, setupOf, setupLeft}
+use Rattle.definitions.specs.Places.{entryNeeds, covers}
+use Rattle.definitions.specs.Setup.{Lent, lengthsOf, frontOf, Built, setupOf, setupLeft}
 use Rattle.definitions.specs.Answers.{answerOf, setupAnswer}
 use Rattle.definitions.specs.declared.Options.{Options}
 use Rattle.definitions.specs.declared.Setup.{Setup}

@@ -13,7 +13,8 @@ use Rattle.definitions.specs.Factor.{factorRows, belowDiagonal, rest}
 use Rattle.definitions.specs.Block.{blockOf, topOf, skewed, inBlock, blockFactor, factorsFrom, factorsOf, blockCount, widthOf}
 use Rattle.definitions.specs.Estimate.{usableFrom, normalised, image, rounds, estimateOf}
 use Rattle.definitions.specs.Coarse.{coarseFactor}
-use Rattle.definitions.specs.Setup.{Lengths, groupingOf, graphOf, transferFor}
+use Rattle.definitions.specs.Places.{Lengths}
+use Rattle.definitions.specs.Setup.{groupingOf, graphOf, transferFor}
 use Rattle.definitions.specs.declared.Options.{Options}
 use Rattle.definitions.specs.declared.Refusal.{Refusal}
 use Rattle.definitions.specs.declared.Refusal.the-variants.{BlockNotSymmetric, BlockPivot, MissingDiagonal, CoarsePivot}

@@ -9,7 +9,8 @@ use Rattle.definitions.specs.Matrix.{Matrix}
 use Rattle.definitions.specs.Block.{factorsOf}
 use Rattle.definitions.specs.Groups.{Grouping}
 use Rattle.definitions.specs.Coarse.{averagedSquare, coarseFactor}
-use Rattle.definitions.specs.Setup.{Lengths, Lent, entryNeeds, coarseNeeds, covers, frontOf, groupingOf, maxCoarse, Transfer, transferFor, coarseMatrix, Built, builtFrom, setupOf}
+use Rattle.definitions.specs.Places.{Lengths, entryNeeds, coarseNeeds, covers}
+use Rattle.definitions.specs.Setup.{Lent, frontOf, groupingOf, maxCoarse, Transfer, transferFor, coarseMatrix, Built, builtFrom, setupOf}
 use Rattle.definitions.specs.declared.Options.{Options}
 use Rattle.definitions.specs.declared.Setup.{Setup}
 use Rattle.definitions.specs.declared.SetupAnswer.{SetupAnswer}

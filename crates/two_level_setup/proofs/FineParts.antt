@@ -13,7 +13,8 @@ use Rattle.definitions.specs.Refusal.{Outcome, refused, done, _>>=_, resultLeft
 use Rattle.definitions.specs.Matrix.{Matrix, validOf}
 use Rattle.definitions.specs.Block.{maxBlock, factorsOf, blocksCall, blocksLeft}
 use Rattle.definitions.specs.Groups.{Grouping, maxGroup}
-use Rattle.definitions.specs.Setup.{nodeCount, Lengths, Lent, frontOf, groupingOf, transferInts, transferFloats, lentOf}
+use Rattle.definitions.specs.Places.{nodeCount, Lengths}
+use Rattle.definitions.specs.Setup.{Lent, frontOf, groupingOf, transferInts, transferFloats, lentOf}
 use Rattle.definitions.specs.Answers.{answerOf, groupingAnswer}
 use Rattle.definitions.specs.declared.Options.{Options}
 use Rattle.definitions.specs.declared.Setup.{Setup}

@@ -3,7 +3,8 @@ use mathlib.Core.Path.{_≡_, ap, sym, _∙_, subst}
 use lib.ListN.{length}
 use Rattle.definitions.specs.Refusal.{_>>=_}
 use Rattle.definitions.specs.Matrix.{Matrix}
-use Rattle.definitions.specs.Setup.{Lengths, Lent}
+use Rattle.definitions.specs.Places.{Lengths}
+use Rattle.definitions.specs.Setup.{Lent}
 use Rattle.definitions.specs.Answers.{answerOf}
 use Rattle.definitions.specs.declared.Options.{Options}
 use Rattle.definitions.specs.declared.Setup.{Setup}

@@ -6,7 +6,8 @@ use lib.Dec.{leb}
 use borrow.Author.Tests.{le-leb, lt-leb, leb-true}
 use Rattle.definitions.specs.Refusal.{Outcome, require}
 use Rattle.definitions.specs.Matrix.{Matrix}
-use Rattle.definitions.specs.Setup.{Lengths, entryNeeds, coarseNeeds, covers, maxCoarse}
+use Rattle.definitions.specs.Places.{Lengths, entryNeeds, coarseNeeds, covers}
+use Rattle.definitions.specs.Setup.{maxCoarse}
 use Rattle.definitions.specs.Answers.{answerOf}
 use Rattle.definitions.specs.declared.Options.{Options}
 use Rattle.definitions.specs.declared.Setup.{Setup}

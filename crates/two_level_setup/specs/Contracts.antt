@@ -15,7 +15,8 @@ use Rattle.definitions.specs.Estimate.{Estimate, estimateOf}
 use Rattle.definitions.specs.Transfer.{transferOf}
 use Rattle.definitions.specs.Coarse.{packedLength, coarseFactor, coarsePart, inverseOf}
 pub use Rattle.definitions.specs.Setup.{lentOf}
-use Rattle.definitions.specs.Setup.{Lengths, Lent, entryNeeds, covers, transferFloats}
+use Rattle.definitions.specs.Places.{Lengths, entryNeeds, covers}
+use Rattle.definitions.specs.Setup.{Lent, transferFloats}
 use Rattle.definitions.specs.Answers.{answerOf, estimateAnswer}
 use Rattle.definitions.specs.declared.Answer.{Answer}
 use Rattle.definitions.specs.declared.EstimateAnswer.{EstimateAnswer}

@@ -3,7 +3,8 @@ use Prim.Native.Nat.{ℕ, _+_, _*_, _/_, _≤_}
 use mathlib.Core.Path.{_≡_}
 use lib.ListN.{length}
 use Rattle.definitions.specs.Matrix.{Matrix}
-use Rattle.definitions.specs.Setup.{nodeCount, Lengths, maxCoarse}
+use Rattle.definitions.specs.Places.{nodeCount, Lengths}
+use Rattle.definitions.specs.Setup.{maxCoarse}
 use Rattle.definitions.specs.declared.Options.{Options}
 use Rattle.definitions.specs.declared.Setup.{Setup}
 use Rattle.two_level_grouping.specs.Front.{Front}

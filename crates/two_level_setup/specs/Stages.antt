@@ -10,7 +10,8 @@ use Rattle.definitions.specs.Matrix.{Matrix, Entry}
 use Rattle.definitions.specs.Block.{factorsOf}
 use Rattle.definitions.specs.Groups.{Grouping}
 use Rattle.definitions.specs.Coarse.{averagedSquare, coarseFactor, resolved, coarsePart}
-use Rattle.definitions.specs.Setup.{Lengths, entryNeeds, coarseNeeds, covers, groupingOf, maxCoarse, Transfer, transferFor, coarseEntry, transferInts, transferFloats, Built}
+use Rattle.definitions.specs.Places.{Lengths, entryNeeds, coarseNeeds, covers}
+use Rattle.definitions.specs.Setup.{groupingOf, maxCoarse, Transfer, transferFor, coarseEntry, transferInts, transferFloats, Built}
 use Rattle.definitions.specs.declared.Setup.{Setup}
 use Rattle.definitions.specs.declared.SetupAnswer.{SetupAnswer}
 use Rattle.definitions.specs.declared.SetupAnswer.the-variants.{Built as BuiltSetup, Refused as NoSetup}

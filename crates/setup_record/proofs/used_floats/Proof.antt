@@ -1,7 +1,7 @@
 -- The numbers of a record whose sizes fit are small, so that their sums fit.
 use native.Mathlib.Omega.{arith}
 use Rattle.setup_record.proofs.Limits.{bounds-of}
-use Rattle.definitions.specs.Fits.{usedFloats}
+use Rattle.definitions.specs.Places.{usedFloats}
 use Rattle.setup_record.proofs.used_floats.Statement.{statement}
 use Rattle.setup_record.proofs.used_floats.Tie as tie
 

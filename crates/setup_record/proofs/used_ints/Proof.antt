@@ -1,7 +1,7 @@
 -- By the cases of the basis; the numbers of a record whose sizes fit are small.
 use native.Mathlib.Omega.{arith}
 use Rattle.setup_record.proofs.Limits.{bounds-of}
-use Rattle.definitions.specs.Fits.{usedInts}
+use Rattle.definitions.specs.Places.{usedInts}
 use borrow.Author.Needs.{needs}
 use Rattle.setup_record.proofs.used_ints.Statement.{statement}
 use Rattle.setup_record.proofs.used_ints.Tie as tie

@@ -3,7 +3,7 @@ use mathlib.Core.Path.{refl}
 use Prim.Native.Nat.{_<_}
 use native.Mathlib.Omega.{arith}
 use Rattle.definitions.specs.Matrix.{csr}
-use Rattle.definitions.specs.Setup.{nodeCount}
+use Rattle.definitions.specs.Places.{nodeCount}
 use Rattle.two_level_grouping.proofs.Graphs.{none-ends, unchanged, grouped-settled}
 use borrow.Author.Needs.{needs}
 use Rattle.two_level_grouping.proofs.by_graph.Statement.{statement}

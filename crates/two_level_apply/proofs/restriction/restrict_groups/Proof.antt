@@ -1,7 +1,7 @@
 -- The ids are the front of the setup integers; a setup that fits has its columns within.
 use mathlib.Core.Path.{sym}
 use lib.Seq.{length-take-le}
-use Rattle.definitions.specs.Fits.{idsIn}
+use Rattle.definitions.specs.Places.{idsIn}
 use Rattle.two_level_apply.proofs.Parts.{nodes-room, grouped, front}
 use Rattle.definitions.specs.Numbers.{total}
 use Rattle.definitions.specs.Transfer.{coarseColumn}

@@ -3,7 +3,7 @@ use mathlib.Core.Path.{sym}
 use native.Mathlib.Omega.{arith}
 use lib.ListN.{length}
 use lib.Seq.{length-take-le}
-use Rattle.definitions.specs.Fits.{pointersIn, columnsIn, weightsIn}
+use Rattle.definitions.specs.Places.{pointersIn, columnsIn, weightsIn}
 use Rattle.two_level_apply.proofs.Parts.{weights-long, compressed, Room, room, front}
 use Rattle.definitions.specs.Numbers.{total}
 use Rattle.definitions.specs.Matrix.{rowOf}

@@ -1,5 +1,5 @@
 -- The four lengths of cause 13.
-use Rattle.definitions.specs.Setup.{entryNeeds}
+use Rattle.definitions.specs.Places.{entryNeeds}
 use borrow.Author.Needs.{needs}
 use Rattle.two_level_setup.proofs.build.entry_fits.Statement.{statement}
 use Rattle.two_level_setup.proofs.build.entry_fits.Tie as tie

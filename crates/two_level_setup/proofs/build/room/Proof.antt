@@ -1,7 +1,7 @@
 -- 17, then 18.
 use Rattle.two_level_setup.proofs.Rooms.{too-large, no-room, has-room}
 use Rattle.two_level_setup.specs.Fit.{roomOf}
-use Rattle.definitions.specs.Setup.{entryNeeds, coarseNeeds}
+use Rattle.definitions.specs.Places.{entryNeeds, coarseNeeds}
 use borrow.Author.Needs.{needs}
 use Rattle.two_level_setup.proofs.build.room.Statement.{statement}
 use Rattle.two_level_setup.proofs.build.room.Tie as tie
