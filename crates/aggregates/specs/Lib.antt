@@ -8,3 +8,4 @@ pub mod JoinState
 pub mod Checked
 pub mod Settled
 pub mod Within
+pub mod Log

@@ -12,7 +12,7 @@ use Rattle.definitions.specs.Lists.{padded}
 use Rattle.definitions.specs.Refusal.{Outcome, refused, done, Checked, _>>=_, resultLeft, workLeft, keepsAll, numberOf, causeOf}
 use Rattle.definitions.specs.Answers.{answerOf}
 use Rattle.definitions.specs.declared.Refusal.{Refusal}
-use Rattle.definitions.specs.declared.Refusal.the-variants.{TooLarge, RowListLength, ColumnListLength, FirstPointer, LastPointer, PointerFalls, ColumnOutside, ValueNotFinite, NotSquare, BlockSize, GroupSize, NotMultiple, ListTooShort, BlockNotSymmetric, BlockPivot, NoNode, CoarseTooLarge, CoarseListTooShort, MissingDiagonal, ZeroDiagonal, NegativeDiagonal, EstimateFailed, CoarseScale, CoarsePivot, WrongLength, SetupMisfit, NeighbourOffsets, NeighbourOutside}
+use Rattle.definitions.specs.declared.Refusal.the-variants.{TooLarge, RowListLength, ColumnListLength, FirstPointer, LastPointer, PointerFalls, ColumnOutside, ValueNotFinite, NotSquare, BlockSize, GroupSize, NotMultiple, ListTooShort, BlockNotSymmetric, BlockPivot, NoNode, CoarseTooLarge, CoarseListTooShort, MissingDiagonal, ZeroDiagonal, NegativeDiagonal, EstimateFailed, CoarseScale, CoarsePivot, WrongLength, SetupMisfit, NeighbourOffsets, NeighbourOutside, LogTooShort}
 use Rattle.definitions.specs.declared.Answer.{Answer}
 use Rattle.definitions.specs.declared.Answer.the-variants.{Accepted, Refused}
 
@@ -46,6 +46,7 @@ keeps-by-number (WrongLength expected actual) = refl
 keeps-by-number SetupMisfit = refl
 keeps-by-number NeighbourOffsets = refl
 keeps-by-number NeighbourOutside = refl
+keeps-by-number LogTooShort = refl
 
 module _ (r : Refusal) (n : ℕ) (e : n ≡ numberOf r) where
   pub low-keeps : n < 14 → true ≡ keepsAll r

@@ -158,6 +158,11 @@ pub fn told(cause: Refusal) -> Row
             first: 0,
             second: 0,
         },
+        Refusal::LogTooShort => Row {
+            number: 29,
+            first: 0,
+            second: 0,
+        },
     }
 }
 

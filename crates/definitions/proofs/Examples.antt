@@ -1,5 +1,5 @@
 -- The worked examples, computed by antt beside what is expected. `proved` has document 01's cases marked ◆, in one table with the one theorem `proved-hold`;
--- `tried` its other examples; `orders` orders and lengths that no example shows.
+-- `tried` its other examples; `logs` those of the joining log; `orders` orders and lengths that no example shows.
 use Prim.Native.Nat.{ℕ, zero, suc, _+_, _*_}
 use Prim.Native.Char.{code}
 use Prim.Native.String.{String}
@@ -15,6 +15,7 @@ use Rattle.definitions.specs.Refusal.{Outcome, refused, done, _>>=_, num
 use Rattle.definitions.specs.Matrix.{Matrix, Entry}
 use Rattle.definitions.specs.Block.{blocksCall, blockApplyCall}
 use Rattle.definitions.specs.Groups.{Grouping, groupingCall}
+use Rattle.definitions.specs.JoiningLog.{Logged, groupingLogCall, logLeft}
 use Rattle.definitions.specs.Setup.{Built, setupOf}
 use Rattle.definitions.specs.Apply.{corrected, applyCall, ample}
 use Rattle.definitions.specs.Text.{program}
@@ -171,6 +172,47 @@ tried =
 pub tried-hold : map (λ c. c .computed) tried ≡ map (λ c. c .expected) tried
 unfolding all-open tried bytes
 tried-hold = refl
+
+-- ---- the joining log
+
+-- a grouping with a log of `room` numbers, each 7 before: the number of groups and of joinings, and the log afterwards; a refusal's number and the log
+abbrev logShown : Outcome Logged → List ℕ → List ℕ
+logShown (refused r) log = numberOf r ∷ log
+logShown (done g) log = g .grouping .count ∷ g .joinings ∷ log
+
+abbrev loggedIn : ℕ → ℕ → List (List ℕ) → List ℕ
+loggedIn room size lists =
+    let n = length lists in
+    let neighbours = flatMap (λ l. l) lists in
+    let call = groupingLogCall n size (tab (λ v. length (flatMap (λ l. l) (lib.ListN.take v lists))) (suc n)) neighbours n room (8 * n + 4 * length neighbours + 16) in
+    logShown call (logLeft call (replicate room 7))
+
+abbrev logged : ℕ → List (List ℕ) → List ℕ
+logged size lists = loggedIn (3 * length lists) size lists
+
+pub logs : List Case
+logs =
+    -- each with its one joining: path of 9, size 8: only one group named
+    is (logged 8 (path 0 9)) (1 ∷ 1 ∷ (1 ∷ 0 ∷ 1 ∷ []) ++ replicate 24 0)
+    -- paths 0-7 and 8-14, 15 lists 3 and 11: fewer members; 3, 3, 11: most edges; paths 0-7 and 8-15, 16 lists 3 and 11: lower id
+    ∷ is (logged 8 (path 0 8 ++ path 8 7 ++ ((3 ∷ 11 ∷ []) ∷ []))) (2 ∷ 1 ∷ (2 ∷ 1 ∷ 3 ∷ []) ++ replicate 45 0)
+    ∷ is (logged 8 (path 0 8 ++ path 8 7 ++ ((3 ∷ 3 ∷ 11 ∷ []) ∷ []))) (2 ∷ 1 ∷ (2 ∷ 0 ∷ 2 ∷ []) ++ replicate 45 0)
+    ∷ is (logged 8 (path 0 8 ++ path 8 8 ++ ((3 ∷ 11 ∷ []) ∷ []))) (2 ∷ 1 ∷ (2 ∷ 0 ∷ 4 ∷ []) ++ replicate 48 0)
+    -- document 01's two rounds
+    ∷ is (logged 16 (path 0 16 ++ ([] ∷ (16 ∷ 16 ∷ 3 ∷ []) ∷ []))) (1 ∷ 2 ∷ (2 ∷ 1 ∷ 2 ∷ 1 ∷ 0 ∷ 1 ∷ []) ++ replicate 48 0)
+    -- three rounds
+    ∷ is (logged 20 ((0 ∷ []) ∷ (2 ∷ []) ∷ [] ∷ (0 ∷ []) ∷ [] ∷ (4 ∷ 3 ∷ 1 ∷ []) ∷ [])) (1 ∷ 4 ∷ (2 ∷ 0 ∷ 1 ∷ 4 ∷ 3 ∷ 3 ∷ 3 ∷ 0 ∷ 4 ∷ 0 ∷ 1 ∷ 1 ∷ []) ++ replicate 6 0)
+    -- a log one number short keeps all; one or two behind whole places are zero too; no joining; 13 before 29
+    ∷ is (loggedIn 5 8 ([] ∷ (0 ∷ []) ∷ [])) (29 ∷ replicate 5 7)
+    ∷ is (loggedIn 8 8 ([] ∷ (0 ∷ []) ∷ [])) (1 ∷ 1 ∷ (1 ∷ 0 ∷ 1 ∷ []) ++ replicate 5 0)
+    ∷ is (logged 8 ([] ∷ [])) (1 ∷ 0 ∷ replicate 3 0)
+    ∷ is (logShown (groupingLogCall 1 1 (0 ∷ 0 ∷ []) [] 0 2 24) []) (13 ∷ [])
+    ∷ is (logShown (groupingLogCall 1 1 (0 ∷ 0 ∷ []) [] 1 2 24) []) (29 ∷ [])
+    ∷ []
+
+pub logs-hold : map (λ c. c .computed) logs ≡ map (λ c. c .expected) logs
+unfolding all-open logs
+logs-hold = refl
 
 -- ---- orders and lengths
 

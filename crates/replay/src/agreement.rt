@@ -67,6 +67,7 @@ fn told(cause: Refusal) -> Cause {
         Refusal::SetupMisfit => plain(26),
         Refusal::NeighbourOffsets => plain(27),
         Refusal::NeighbourOutside => plain(28),
+        Refusal::LogTooShort => plain(29),
     }
 }
 

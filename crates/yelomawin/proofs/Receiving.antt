@@ -9,7 +9,7 @@ use lib.Seq.{drop-length}
 use Rattle.definitions.specs.Lists.{padded}
 use Rattle.definitions.specs.Refusal.{valuesOf, causeOf}
 use Rattle.definitions.specs.declared.Refusal.{Refusal}
-use Rattle.definitions.specs.declared.Refusal.the-variants.{TooLarge, RowListLength, ColumnListLength, FirstPointer, LastPointer, PointerFalls, ColumnOutside, ValueNotFinite, NotSquare, BlockSize, GroupSize, NotMultiple, ListTooShort, BlockNotSymmetric, BlockPivot, NoNode, CoarseTooLarge, CoarseListTooShort, MissingDiagonal, ZeroDiagonal, NegativeDiagonal, EstimateFailed, CoarseScale, CoarsePivot, WrongLength, SetupMisfit, NeighbourOffsets, NeighbourOutside}
+use Rattle.definitions.specs.declared.Refusal.the-variants.{TooLarge, RowListLength, ColumnListLength, FirstPointer, LastPointer, PointerFalls, ColumnOutside, ValueNotFinite, NotSquare, BlockSize, GroupSize, NotMultiple, ListTooShort, BlockNotSymmetric, BlockPivot, NoNode, CoarseTooLarge, CoarseListTooShort, MissingDiagonal, ZeroDiagonal, NegativeDiagonal, EstimateFailed, CoarseScale, CoarsePivot, WrongLength, SetupMisfit, NeighbourOffsets, NeighbourOutside, LogTooShort}
 use Rattle.causes.specs.Told.{toldOf}
 use Rattle.yelomawin.specs.Boundary.{received}
 
@@ -103,6 +103,7 @@ told (WrongLength x y) l = refl
 told SetupMisfit l = none-told l
 told NeighbourOffsets l = none-told l
 told NeighbourOutside l = none-told l
+told LogTooShort l = none-told l
 
 -- ---- a list of numbers cleared
 fill-suc : (n : ℕ) (d : List ℕ) → n < length d → set (replicate n 0 ++ drop n d) n 0 ≡ replicate (suc n) 0 ++ drop (suc n) d

@@ -16,7 +16,7 @@ use Rattle.definitions.specs.Groups.{Grouping, groupingLeft, groupingWorkLeft}
 use Rattle.definitions.specs.Setup.{Built, Lent, setupLeft}
 use Rattle.definitions.specs.Answers.{answerOf, answerNumber, groupingAnswer, groupingNumber, setupAnswer, setupNumber}
 use Rattle.definitions.specs.declared.Refusal.{Refusal}
-use Rattle.definitions.specs.declared.Refusal.the-variants.{TooLarge, RowListLength, ColumnListLength, FirstPointer, LastPointer, PointerFalls, ColumnOutside, ValueNotFinite, NotSquare, BlockSize, GroupSize, NotMultiple, ListTooShort, BlockNotSymmetric, BlockPivot, NoNode, CoarseTooLarge, CoarseListTooShort, MissingDiagonal, ZeroDiagonal, NegativeDiagonal, EstimateFailed, CoarseScale, CoarsePivot, WrongLength, SetupMisfit, NeighbourOffsets, NeighbourOutside}
+use Rattle.definitions.specs.declared.Refusal.the-variants.{TooLarge, RowListLength, ColumnListLength, FirstPointer, LastPointer, PointerFalls, ColumnOutside, ValueNotFinite, NotSquare, BlockSize, GroupSize, NotMultiple, ListTooShort, BlockNotSymmetric, BlockPivot, NoNode, CoarseTooLarge, CoarseListTooShort, MissingDiagonal, ZeroDiagonal, NegativeDiagonal, EstimateFailed, CoarseScale, CoarsePivot, WrongLength, SetupMisfit, NeighbourOffsets, NeighbourOutside, LogTooShort}
 use Rattle.yelomawin.specs.Boundary.{received, whether}
 use Rattle.yelomawin_bytes.specs.Calls.{after, emptied, bytesLeft, idsLeft, answerLeft}
 use Rattle.yelomawin_bytes.specs.Handed.{leavesAll, Handed}
@@ -56,6 +56,7 @@ left B z lent (WrongLength expected actual) = (refl, refl, refl)
 left B z lent SetupMisfit = (refl, refl, refl)
 left B z lent NeighbourOffsets = (refl, refl, refl)
 left B z lent NeighbourOutside = (refl, refl, refl)
+left B z lent LogTooShort = (refl, refl, refl)
 
 -- 0, or the number of the cause
 unfoldable numberIn : {A : Type 0} → Outcome A → ℕ

@@ -119,10 +119,15 @@ returns-28 : tie.Need-returns-28
 unfolding toldOf numberOf valuesOf causeOf
 returns-28 c = rw (c .enum-told18 .given .1)
 
+returns-29 : tie.Need-returns-29
+unfolding toldOf numberOf valuesOf causeOf
+returns-29 c = rw (c .enum-told19 .given .1)
+
 pub told-spec : {M : Type 1} → statement M
 told-spec =
     tie.close
     (tie.spec
+    (λ c. search needs)
     (λ c. search needs)
     (λ c. search needs)
     (λ c. search needs)
@@ -178,4 +183,5 @@ told-spec =
     returns-25
     returns-26
     returns-27
-    returns-28)
+    returns-28
+    returns-29)
