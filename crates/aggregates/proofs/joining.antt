@@ -15,3 +15,4 @@ mod Whole
 mod Rounds
 mod Begun
 pub mod Fewer
+mod Noted
