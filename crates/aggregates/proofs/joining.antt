@@ -16,3 +16,4 @@ mod Rounds
 mod Begun
 pub mod Fewer
 mod Noted
+mod Grouped
