@@ -17,3 +17,4 @@ mod Begun
 pub mod Fewer
 mod Noted
 mod Grouped
+mod Ordered
