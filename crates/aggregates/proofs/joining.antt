@@ -18,3 +18,4 @@ pub mod Fewer
 mod Noted
 mod Grouped
 mod Ordered
+mod Members
