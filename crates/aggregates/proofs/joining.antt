@@ -19,3 +19,5 @@ mod Noted
 mod Grouped
 mod Ordered
 mod Members
+mod Candidates
+mod Rule

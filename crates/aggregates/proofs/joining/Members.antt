@@ -1,9 +1,9 @@
 -- Members of a list: the numbers by first appearance are its members, each once; what a test keeps; a list of different numbers has one element where all are the same one.
 use mathlib.Core.Path.{_≡_, refl, ap}
 use mathlib.Core.Logic.{_⊎_, inl, inr}
-use mathlib.Core.Bool.{Bool, true, false, not, _||_}
+use mathlib.Core.Bool.{Bool, true, false, not}
 use mathlib.Core.List.{List, [], _∷_, _++_}
-use Prim.Native.Nat.{ℕ, suc, _<_}
+use Prim.Native.Nat.{ℕ, _<_}
 use native.Mathlib.Omega.{arith}
 use borrow.Author.Tests.{eqb-true, eqb-false}
 use lib.Dec.{eqb}

@@ -1,7 +1,7 @@
 -- THE GROUP CHOSEN IS FIRST: it is one of the list, and none of the list comes before it. The order compares edges, then members, then ids, so it is transitive.
 use mathlib.Core.Path.{_≡_, refl}
 use mathlib.Core.Logic.{_⊎_, inl, inr, ⊎-elim}
-use mathlib.Core.Bool.{true, false, _||_, _&&_}
+use mathlib.Core.Bool.{true, false}
 use mathlib.Core.List.{List, [], _∷_}
 use Prim.Native.Nat.{ℕ, _≤_, _<_}
 use native.Mathlib.Omega.{arith}
