@@ -21,3 +21,4 @@ mod Ordered
 mod Members
 mod Candidates
 mod Rule
+mod Along
