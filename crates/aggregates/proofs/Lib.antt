@@ -5,3 +5,4 @@ mod Placed
 mod Answered
 pub mod Appearance
 pub mod Stops
+pub mod Log

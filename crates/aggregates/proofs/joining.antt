@@ -15,10 +15,10 @@ mod Whole
 mod Rounds
 mod Begun
 pub mod Fewer
-mod Noted
-mod Grouped
+pub mod Noted
+pub mod Grouped
 mod Ordered
 mod Members
 mod Candidates
-mod Rule
-mod Along
+pub mod Rule
+pub mod Along
