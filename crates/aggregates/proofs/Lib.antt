@@ -6,3 +6,4 @@ mod Answered
 pub mod Appearance
 pub mod Stops
 pub mod Log
+pub mod LogExamples
