@@ -11,18 +11,20 @@ use lib.ListN.{length, getD, take, replicate}
 use lib.Seq.{take-at, getD-append-add}
 use Rattle.definitions.specs.Lists.{padded}
 use Rattle.definitions.specs.Refusal.{Outcome, refused, done, require, _>>=_, resultLeft}
-use Rattle.definitions.specs.Groups.{Joining, Groups, Grouping, nodesIn, sizeIn, joined, replay, edgesTo, grown, joinings, graphGrouping, groupingCall, listed, noAnchor, renumbered}
+use Rattle.definitions.specs.Groups.{Joining, Groups, Grouping, nodesIn, sizeIn, joined, replay, edgesTo, before, chosen, namedGroups, grown, joinings, graphGrouping, groupingCall, listed, noAnchor, renumbered}
 use Rattle.definitions.specs.JoiningLog.{ruleOf, logOf, Logged, withLog, groupingLogCall, groupingIn, logLeft}
 use Rattle.definitions.specs.declared.Refusal.{Refusal}
 use Rattle.definitions.specs.declared.Refusal.the-variants.{LogTooShort}
 use Rattle.laws.proofs.Tests.{both-true}
 use Rattle.laws.proofs.Outcomes.{bind-done, test-true, done-inj}
+use Rattle.aggregates.specs.JoinState.{All}
 use Rattle.aggregates.specs.LogRead.{candidatesAt, Decided, pairsIn}
-use Rattle.aggregates.proofs.Stops.{by-test, start}
+use Rattle.aggregates.proofs.Stops.{all-imp, by-test, start}
 use Rattle.aggregates.proofs.growth.Between.{grown-all}
 use Rattle.aggregates.proofs.joining.Fewer.{fewer-joinings}
 use Rattle.aggregates.proofs.joining.Grouped.{named-positive}
 use Rattle.aggregates.proofs.joining.Noted.{log-append, length-log}
+use Rattle.aggregates.proofs.joining.Ordered.{Behind, chosen-first, not-before}
 use Rattle.aggregates.proofs.joining.Rule.{rule-decides}
 use Rattle.aggregates.proofs.joining.Along.{Along, namesAt, Made, along-at, all-made}
 
@@ -33,24 +35,35 @@ unfolding ruleOf
 made-decided lists s j m =
     rw (← m .first) (rule-decides (edgesTo (namesAt lists s (j .moved))) (sizeIn s) (namesAt lists s (j .moved)) (named-positive lists (j .moved) s (nodesIn s (j .moved)) (m .none)) (λ z. omega (arith, m .first, m .to)))
 
+made-first : (lists : ℕ → List ℕ) (s : Groups) (j : Joining) → Made lists s j → All (λ a. before (edgesTo (namesAt lists s (j .moved))) (sizeIn s) a (j .taker) ≡ false) (namesAt lists s (j .moved))
+made-first lists s j m =
+    let names = namesAt lists s (j .moved) in
+    rw (← m .first) (all-imp (λ a. Behind (edgesTo names) (sizeIn s) a (chosen (edgesTo names) (sizeIn s) 0 names)) (λ a. before (edgesTo names) (sizeIn s) a (chosen (edgesTo names) (sizeIn s) 0 names) ≡ false)
+    (λ a b. not-before (edgesTo names) (sizeIn s) a (chosen (edgesTo names) (sizeIn s) 0 names) b) names (chosen-first (edgesTo names) (sizeIn s) 0 names (named-positive lists (j .moved) s (nodesIn s (j .moved)) (m .none)) .1))
+
 module _ (lists : ℕ → List ℕ) (nodes size : ℕ) where
   -- at every joining of a grouping, in the state in which it happens: the test that the rule names leaves the taker alone, and every test before it left more than one candidate
   pub rule-told : 0 < size → (js : List Joining) (j : Joining) (ks : List Joining) → joinings lists noAnchor nodes size ≡ js ++ (j ∷ ks)
       → let s = replay js (start lists noAnchor nodes size) in Decided (candidatesAt lists noAnchor s j) (j .taker) (ruleOf lists noAnchor s j)
   rule-told pos js j ks e = made-decided lists (replay js (start lists noAnchor nodes size)) j (along-at (Made lists) js j ks (start lists noAnchor nodes size) (rw e at (all-made lists nodes size pos)))
 
-  -- and this rule is what the log has at that joining, behind three numbers for each joining before it
+  -- of the groups that its lists name, none comes before the taker
+  pub taker-first : 0 < size → (js : List Joining) (j : Joining) (ks : List Joining) → joinings lists noAnchor nodes size ≡ js ++ (j ∷ ks)
+      → let s = replay js (start lists noAnchor nodes size) in let names = namedGroups lists noAnchor (j .moved) s (nodesIn s (j .moved)) in All (λ a. before (edgesTo names) (sizeIn s) a (j .taker) ≡ false) names
+  taker-first pos js j ks e = made-first lists (replay js (start lists noAnchor nodes size)) j (along-at (Made lists) js j ks (start lists noAnchor nodes size) (rw e at (all-made lists nodes size pos)))
+
+  -- and the rule is what the log has at that joining, behind three numbers for each joining before it
   pub rule-logged : (js : List Joining) (j : Joining) (ks : List Joining) → joinings lists noAnchor nodes size ≡ js ++ (j ∷ ks)
       → let s = replay js (start lists noAnchor nodes size) in let log = logOf lists noAnchor (start lists noAnchor nodes size) (joinings lists noAnchor nodes size) in
       (getD log (3 * length js) 0 ≡ j .moved - 1) × (getD log (3 * length js + 1) 0 ≡ j .taker - 1) × (getD log (3 * length js + 2) 0 ≡ ruleOf lists noAnchor s j)
   unfolding logOf
   rule-logged js j ks e =
       let s₀ = start lists noAnchor nodes size in
-      let before = logOf lists noAnchor s₀ js in
+      let front = logOf lists noAnchor s₀ js in
       let here = logOf lists noAnchor (replay js s₀) (j ∷ ks) in
       let log = logOf lists noAnchor s₀ (joinings lists noAnchor nodes size) in
-      let is : log ≡ before ++ here = ap (logOf lists noAnchor s₀) e ∙ log-append lists noAnchor s₀ js (j ∷ ks) in
-      let at : (k : ℕ) → getD log (3 * length js + k) 0 ≡ getD here k 0 = λ k. rw (is, ← length-log lists noAnchor s₀ js) (getD-append-add before here k 0) in
+      let is : log ≡ front ++ here = ap (logOf lists noAnchor s₀) e ∙ log-append lists noAnchor s₀ js (j ∷ ks) in
+      let at : (k : ℕ) → getD log (3 * length js + k) 0 ≡ getD here k 0 = λ k. rw (is, ← length-log lists noAnchor s₀ js) (getD-append-add front here k 0) in
       let z : 3 * length js ≡ 3 * length js + 0 = omega arith in
       (ap (λ k. getD log k 0) z ∙ at 0, at 1, at 2)
 

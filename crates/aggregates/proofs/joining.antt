@@ -17,7 +17,7 @@ mod Begun
 pub mod Fewer
 pub mod Noted
 pub mod Grouped
-mod Ordered
+pub mod Ordered
 mod Members
 mod Candidates
 pub mod Rule
