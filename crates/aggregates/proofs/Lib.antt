@@ -5,3 +5,5 @@ mod Placed
 mod Answered
 pub mod Appearance
 pub mod Stops
+pub mod Log
+pub mod LogExamples

@@ -15,3 +15,10 @@ mod Whole
 mod Rounds
 mod Begun
 pub mod Fewer
+pub mod Noted
+pub mod Grouped
+pub mod Ordered
+mod Members
+mod Candidates
+pub mod Rule
+pub mod Along
