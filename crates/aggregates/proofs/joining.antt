@@ -1,7 +1,7 @@
 -- The laws that several proofs of joining cite.
 mod Laws
 mod Counting
-mod Together
+pub mod Together
 mod Names
 mod Chains
 mod Moving
@@ -15,3 +15,5 @@ mod Whole
 mod Rounds
 mod Begun
 pub mod Fewer
+pub mod Noted
+mod Grouped

@@ -1,9 +1,12 @@
 -- What the log's contracts cite besides the definitions: the rule as one scan finds it, and numbers written one after another.
 use mathlib.Core.Bool.{true, false}
 use mathlib.Core.List.{List, [], _∷_}
-use Prim.Native.Nat.{ℕ, suc, max}
+use Prim.Native.Nat.{ℕ, suc, _+_, _-_, _^_, _≤_, _<_, max}
 use lib.Dec.{eqb}
-use lib.ListN.{set}
+use lib.ListN.{length, set}
+use lib.Seq.{slice}
+use Rattle.definitions.specs.Groups.{edgesTo}
+use Rattle.aggregates.specs.JoinChoice.{at, Named, Zeros}
 
 -- by which test the group b stays and the group a does not: 1 none, it is b itself; 2 edges; 3 members; 4 the id
 unfoldable pub ruleAgainst : (ℕ → ℕ) → (ℕ → ℕ) → ℕ → ℕ → ℕ
@@ -17,7 +20,21 @@ unfoldable pub ruleBy : (ℕ → ℕ) → (ℕ → ℕ) → ℕ → ℕ → List
 ruleBy edges sizes b r [] = r
 ruleBy edges sizes b r (a ∷ rest) = ruleBy edges sizes b (max r (ruleAgainst edges sizes b a)) rest
 
+-- the rule of the group b among those that w[from..end] names, with their sizes from w[counts] on
+abbrev pub ruleIn : ℕ → ℕ → ℕ → ℕ → List ℕ → ℕ
+ruleIn counts from end b w = ruleBy (edgesTo (slice from end w)) (at counts w) b 1 (slice from end w)
+
 -- a list with some numbers written over it from a place on; those behind its end are left out
 unfoldable pub noted : ℕ → List ℕ → List ℕ → List ℕ
 noted at [] l = l
 noted at (x ∷ xs) l = noted (suc at) xs (set l at x)
+
+-- what `rule_of` asks: the groups named, and b, have counts from `hits` on, below `from`, all zero, and sizes from `counts` on
+pub record Rules (counts hits from end b : ℕ) (w : List ℕ) : Type 0 where
+  pub upward : from ≤ end
+  pub fits : end ≤ length w
+  pub small : end < from + 2 ^ 32
+  pub room : counts + (from - hits) ≤ hits
+  pub taker : hits + b < from
+  pub named : Named hits from end w
+  pub zeros : Zeros hits from w

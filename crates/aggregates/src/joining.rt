@@ -28,7 +28,7 @@ fn wide(x: u32) -> usize
 }
 
 // Counts the groups that w[from..end] names: a count for each group, from w[hits] on.
-fn tally(w: &mut [u32], hits: usize, from: usize, end: usize)
+pub(crate) fn tally(w: &mut [u32], hits: usize, from: usize, end: usize)
     requires { ⌜ (from ≤ end) × ((end ≤ length (now w)) × (end < from + 2 ^ 32)) ⌝ }
     requires { ⌜ Named hits from end (now w) ⌝ }
     requires { ⌜ Zeros hits from (now w) ⌝ }
@@ -43,7 +43,7 @@ fn tally(w: &mut [u32], hits: usize, from: usize, end: usize)
 }
 
 // Clears the counts that `tally` made: as many steps as there are names, not groups.
-fn untally(w: &mut [u32], hits: usize, from: usize, end: usize)
+pub(crate) fn untally(w: &mut [u32], hits: usize, from: usize, end: usize)
     requires { ⌜ (from ≤ end) × (end ≤ length (now w)) ⌝ }
     requires { ⌜ Named hits from end (now w) ⌝ }
     ensures { λ _. ⌜ now (w .exit) ≡ wipe hits (slice from end (now (w .entry))) (now (w .entry)) ⌝ }

@@ -16,6 +16,7 @@ use definitions::GroupingAnswer;
 mod checks;
 mod growth;
 mod joining;
+mod joining_log;
 mod renumber;
 mod stored;
 
