@@ -11,9 +11,14 @@ mod Linking
 mod Edges
 mod Moved
 mod Turns
+mod Ruled
 mod Whole
 mod Rounds
 mod Begun
 pub mod Fewer
 pub mod Noted
-mod Grouped
+pub mod Grouped
+mod Ordered
+mod Members
+mod Candidates
+pub mod Rule

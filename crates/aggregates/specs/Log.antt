@@ -1,12 +1,15 @@
 -- What the log's contracts cite besides the definitions: the rule as one scan finds it, and numbers written one after another.
+use mathlib.Core.Path.{_≡_}
 use mathlib.Core.Bool.{true, false}
 use mathlib.Core.List.{List, [], _∷_}
-use Prim.Native.Nat.{ℕ, suc, _+_, _-_, _^_, _≤_, _<_, max}
+use Prim.Native.Nat.{ℕ, suc, _+_, _-_, _*_, _^_, _≤_, _<_, max}
 use lib.Dec.{eqb}
-use lib.ListN.{length, set}
+use lib.ListN.{length, set, take}
 use lib.Seq.{slice}
-use Rattle.definitions.specs.Groups.{edgesTo}
+use Rattle.definitions.specs.Groups.{Groups, edgesTo, groupsOf, listed, noAnchor}
+use Rattle.definitions.specs.JoiningLog.{logOf}
 use Rattle.aggregates.specs.JoinChoice.{at, Named, Zeros}
+use Rattle.aggregates.specs.JoinState.{joinedIds, joiningsOf, turnOf}
 
 -- by which test the group b stays and the group a does not: 1 none, it is b itself; 2 edges; 3 members; 4 the id
 unfoldable pub ruleAgainst : (ℕ → ℕ) → (ℕ → ℕ) → ℕ → ℕ → ℕ
@@ -28,6 +31,16 @@ ruleIn counts from end b w = ruleBy (edgesTo (slice from end w)) (at counts w) b
 unfoldable pub noted : ℕ → List ℕ → List ℕ → List ℕ
 noted at [] l = l
 noted at (x ∷ xs) l = noted (suc at) xs (set l at x)
+
+-- the log, of which `made` joinings are written, after the turn of g
+abbrev pub turnLog : (ℕ → List ℕ) → ℕ → Groups → ℕ → ℕ → List ℕ → List ℕ
+turnLog lists floor s g made log = noted (3 * made) (logOf lists noAnchor s (turnOf lists floor s g)) log
+
+-- the list w, the number made and the log are what all joinings make of the list w₀ and the log log₀
+pub record Joined (offsets neighbours : List ℕ) (n groups floor : ℕ) (w₀ w log₀ log : List ℕ) (made : ℕ) : Type 0 where
+  pub ids : take n w ≡ joinedIds offsets neighbours floor groups (take n w₀)
+  pub number : made ≡ length (joiningsOf offsets neighbours floor groups (take n w₀))
+  pub written : log ≡ noted 0 (logOf (listed offsets neighbours) noAnchor (groupsOf (take n w₀) groups) (joiningsOf offsets neighbours floor groups (take n w₀))) log₀
 
 -- what `rule_of` asks: the groups named, and b, have counts from `hits` on, below `from`, all zero, and sizes from `counts` on
 pub record Rules (counts hits from end b : ℕ) (w : List ℕ) : Type 0 where
