@@ -11,7 +11,8 @@ use lib.ListN.{length, getD, set, take, drop}
 use Rattle.definitions.specs.Lists.{tab}
 use Rattle.definitions.specs.Groups.{Groups, Joining, sizeIn, takerOf, joiningsFrom, replay, groupsOf, listed, noAnchor}
 use Rattle.aggregates.specs.Lists.{Lists}
-use Rattle.aggregates.specs.JoinChoice.{at, Zeros}
+use Rattle.aggregates.specs.JoinChoice.{at, namedBy, Zeros}
+use Rattle.aggregates.specs.Stored.{listsAt}
 
 -- what holds of every element of a list
 abbrev pub All : (ℕ → Type 0) → List ℕ → Type 0
@@ -63,6 +64,10 @@ total d (v ∷ vs) = d v + total d vs
 -- the members of g, by the whole list
 abbrev pub chainOf : ℕ → List ℕ → ℕ → List ℕ
 chainOf n w g = walk (at (3 * n + 1) w g) (drop n w) (at (2 * n) w g)
+
+-- the groups that the lists of the group g name, by the whole list, in which the lists stand from `base` on
+abbrev pub namesIn : ℕ → ℕ → ℕ → List ℕ → List ℕ
+namesIn base n g w = namedBy (listsAt base n w) g w (at (3 * n + 1) w) (chainOf n w g)
 
 -- what `names_of` asks: the nodes listed and the counts of their groups lie below `tail`
 abbrev pub Reads : ℕ → ℕ → List ℕ → List ℕ → Type 0

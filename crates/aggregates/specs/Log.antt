@@ -9,6 +9,7 @@ use lib.Seq.{slice}
 use Rattle.definitions.specs.Groups.{Groups, edgesTo, groupsOf, listed, noAnchor}
 use Rattle.definitions.specs.JoiningLog.{logOf}
 use Rattle.aggregates.specs.JoinChoice.{at, Named, Zeros}
+use Rattle.aggregates.specs.Stored.{offsetsAt, neighboursAt}
 use Rattle.aggregates.specs.JoinState.{joinedIds, joiningsOf, turnOf}
 
 -- by which test the group b stays and the group a does not: 1 none, it is b itself; 2 edges; 3 members; 4 the id
@@ -41,6 +42,10 @@ pub record Joined (offsets neighbours : List ℕ) (n groups floor : ℕ) (w₀ w
   pub ids : take n w ≡ joinedIds offsets neighbours floor groups (take n w₀)
   pub number : made ≡ length (joiningsOf offsets neighbours floor groups (take n w₀))
   pub written : log ≡ noted 0 (logOf (listed offsets neighbours) noAnchor (groupsOf (take n w₀) groups) (joiningsOf offsets neighbours floor groups (take n w₀))) log₀
+
+-- the same by the lists that stand in w₀ from `base` on
+abbrev pub JoinedAt : ℕ → ℕ → ℕ → ℕ → List ℕ → List ℕ → List ℕ → List ℕ → ℕ → Type 0
+JoinedAt base n groups floor w₀ w log₀ log made = Joined (offsetsAt base n w₀) (neighboursAt base n w₀) n groups floor w₀ w log₀ log made
 
 -- what `rule_of` asks: the groups named, and b, have counts from `hits` on, below `from`, all zero, and sizes from `counts` on
 pub record Rules (counts hits from end b : ℕ) (w : List ℕ) : Type 0 where

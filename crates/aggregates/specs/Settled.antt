@@ -6,6 +6,7 @@ use lib.ListN.{length, getD, take}
 use Rattle.definitions.specs.Lists.{padded}
 use Rattle.definitions.specs.Groups.{renumbered, graphGrouping, groupsOf, listed, noAnchor}
 use Rattle.definitions.specs.JoiningLog.{Logged, logOf, withLog}
+use Rattle.aggregates.specs.Stored.{offsetsAt, neighboursAt}
 use Rattle.aggregates.specs.JoinState.{Joins, joinedIds, joiningsOf}
 use Rattle.aggregates.specs.Log.{noted}
 
@@ -22,10 +23,15 @@ pub record Settled (offsets neighbours : List ℕ) (n groups floor : ℕ) (w₀ 
   pub joined : joinings ≡ length (joiningsOf offsets neighbours floor groups (take n w₀))
   pub written : log ≡ noted 0 (logOf (listed offsets neighbours) noAnchor (groupsOf (take n w₀) groups) (joiningsOf offsets neighbours floor groups (take n w₀))) log₀
 
+-- the same by the lists that stand in w₀ from `base` on
+abbrev pub SettledAt : ℕ → ℕ → ℕ → ℕ → List ℕ → List ℕ → List ℕ → List ℕ → ℕ → ℕ → Type 0
+SettledAt base n groups floor w₀ w log₀ log count joinings = Settled (offsetsAt base n w₀) (neighboursAt base n w₀) n groups floor w₀ w log₀ log count joinings
+
 -- the grouping of n nodes with its log
 abbrev pub loggedOf : (ℕ → List ℕ) → ℕ → ℕ → Logged
 loggedOf lists n size = withLog lists noAnchor n size (graphGrouping lists noAnchor n size)
 
+-- by the neighbour lists
 abbrev pub withLogOf : ℕ → ℕ → List ℕ → List ℕ → Logged
 withLogOf n size offsets neighbours = loggedOf (listed offsets neighbours) n size
 

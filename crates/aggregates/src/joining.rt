@@ -19,9 +19,9 @@ ghost use lib.Seq.{slice};
 ghost use Rattle.definitions.specs.Groups.{chosen, edgesTo, nodesOf, relabelled, groupsOf, sizeIn};
 ghost use Rattle.aggregates.specs.Lists.{Lists};
 ghost use Rattle.aggregates.specs.Stored.{offsetsAt, neighboursAt, listsAt};
-ghost use Rattle.aggregates.specs.JoinChoice.{at, beforeBy, better, bump, namedBy, othersBy, wipe, Named, Zeros};
-ghost use Rattle.aggregates.specs.Log.{Joined, turnLog};
-ghost use Rattle.aggregates.specs.JoinState.{All, Gathers, HasTurn, Joins, Moves, Reads, Rep, Turned, chainOf, hop, membersOf, moved, stateIn, walk};
+ghost use Rattle.aggregates.specs.JoinChoice.{at, beforeBy, better, bump, othersBy, wipe, Named, Zeros};
+ghost use Rattle.aggregates.specs.Log.{JoinedAt, turnLog};
+ghost use Rattle.aggregates.specs.JoinState.{All, Gathers, HasTurn, Joins, Moves, Reads, Rep, Turned, chainOf, hop, membersOf, moved, namesIn, stateIn, walk};
 
 fn wide(x: u32) -> usize
     ensures { λ r. ⌜ r ≡ x ⌝ }
@@ -172,8 +172,8 @@ fn names_of(
 fn gather(w: &mut [u32], base: usize, nodes: usize, g: u32) -> usize
     requires { ⌜ Lists nodes (offsetsAt base nodes (now w)) (neighboursAt base nodes (now w)) ⌝ }
     requires { ⌜ Gathers nodes base (offsetsAt base nodes (now w)) (now w) g ⌝ }
-    ensures { λ r. ⌜ r ≡ 5 * nodes + 3 + length (namedBy (listsAt base nodes (now (w .entry))) g (now (w .entry)) (at (3 * nodes + 1) (now (w .entry))) (chainOf nodes (now (w .entry)) g)) ⌝ }
-    ensures { λ r. ⌜ take r (now (w .exit)) ≡ take (5 * nodes + 3) (now (w .entry)) ++ namedBy (listsAt base nodes (now (w .entry))) g (now (w .entry)) (at (3 * nodes + 1) (now (w .entry))) (chainOf nodes (now (w .entry)) g) ⌝ }
+    ensures { λ r. ⌜ r ≡ 5 * nodes + 3 + length (namesIn base nodes g (now (w .entry))) ⌝ }
+    ensures { λ r. ⌜ take r (now (w .exit)) ≡ take (5 * nodes + 3) (now (w .entry)) ++ namesIn base nodes g (now (w .entry)) ⌝ }
     ensures { λ r. ⌜ r ≤ length (now (w .entry)) ⌝ }
     ensures { λ _. ⌜ drop base (now (w .exit)) ≡ drop base (now (w .entry)) ⌝ }
 {
@@ -283,7 +283,7 @@ fn join_rounds(
     requires { ⌜ 5 * nodes + length (neighboursAt base nodes (now w)) + 3 ≤ base ⌝ }
     requires { ⌜ stateIn nodes groups (now w) ≡ groupsOf (take nodes (now w)) groups ⌝ }
     requires { ⌜ sizeIn (stateIn nodes groups (now w)) 0 ≡ 0 ⌝ }
-    ensures { λ r. ⌜ Joined (offsetsAt base nodes (now (w .entry))) (neighboursAt base nodes (now (w .entry))) nodes groups floor (now (w .entry)) (now (w .exit)) (now (log .entry)) (now (log .exit)) r ⌝ }
+    ensures { λ r. ⌜ JoinedAt base nodes groups floor (now (w .entry)) (now (w .exit)) (now (log .entry)) (now (log .exit)) r ⌝ }
 {
     let mut made: u32 = 0;
     'rounds: loop {
@@ -334,7 +334,7 @@ pub(crate) fn join_groups(
     log: &mut [u32],
 ) -> u32
     requires { ⌜ Joins nodes groups base (offsetsAt base nodes (now w)) (neighboursAt base nodes (now w)) (now w) ⌝ }
-    ensures { λ r. ⌜ Joined (offsetsAt base nodes (now (w .entry))) (neighboursAt base nodes (now (w .entry))) nodes groups floor (now (w .entry)) (now (w .exit)) (now (log .entry)) (now (log .exit)) r ⌝ }
+    ensures { λ r. ⌜ JoinedAt base nodes groups floor (now (w .entry)) (now (w .exit)) (now (log .entry)) (now (log .exit)) r ⌝ }
 {
     let from = 3 * nodes + 1;
     let to = 5 * nodes + 3;

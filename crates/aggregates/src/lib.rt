@@ -11,7 +11,7 @@ ghost use Rattle.aggregates.specs.Lists.{Lists};
 ghost use Rattle.aggregates.specs.Stored.{offsetsAt, neighboursAt, listsAt};
 ghost use Rattle.aggregates.specs.Within.{withinCall};
 ghost use Rattle.aggregates.specs.Checked.{Accepts};
-ghost use Rattle.aggregates.specs.Settled.{Built, Grows, LoggedInto, Settled, withLogOf};
+ghost use Rattle.aggregates.specs.Settled.{Built, Grows, LoggedInto, SettledAt, withLogOf};
 use definitions::Answer;
 use definitions::GroupingAnswer;
 use definitions::GroupingLogAnswer;
@@ -49,7 +49,7 @@ fn settle(
     log: &mut [u32],
 ) -> Counts
     requires { ⌜ Grows nodes groups base (offsetsAt base nodes (now w)) (neighboursAt base nodes (now w)) (now w) ⌝ }
-    ensures { λ r. ⌜ Settled (offsetsAt base nodes (now (w .entry))) (neighboursAt base nodes (now (w .entry))) nodes groups floor (now (w .entry)) (now (w .exit)) (now (log .entry)) (now (log .exit)) (r .count) (r .joinings) ⌝ }
+    ensures { λ r. ⌜ SettledAt base nodes groups floor (now (w .entry)) (now (w .exit)) (now (log .entry)) (now (log .exit)) (r .count) (r .joinings) ⌝ }
 {
     let joinings = joining::join_groups(w, base, nodes, groups, floor, log);
     let count = renumber::renumber(w, nodes, groups);
@@ -128,9 +128,10 @@ pub fn group(
     ids: &mut [u32],
     work: &mut [u32],
 ) -> GroupingAnswer
-    ensures { λ r. ⌜ r ≡ groupingAnswer (groupingCall nodes size (now (offsets .entry)) (now (neighbours .entry)) (length (now (ids .entry))) (length (now (work .entry)))) ⌝ }
-    ensures { λ r. ⌜ now (ids .exit) ≡ groupingLeft (groupingCall nodes size (now (offsets .entry)) (now (neighbours .entry)) (length (now (ids .entry))) (length (now (work .entry)))) (now (ids .entry)) ⌝ }
-    ensures { λ r. ⌜ now (work .exit) ≡ groupingWorkLeft (groupingCall nodes size (now (offsets .entry)) (now (neighbours .entry)) (length (now (ids .entry))) (length (now (work .entry)))) (now (work .entry)) ⌝ }
+    ensures { λ r. ⌜ (let call = groupingCall nodes size (now (offsets .entry)) (now (neighbours .entry)) (length (now (ids .entry))) (length (now (work .entry))) in
+        (r ≡ groupingAnswer call)
+        × ((now (ids .exit) ≡ groupingLeft call (now (ids .entry)))
+        × (now (work .exit) ≡ groupingWorkLeft call (now (work .entry))))) ⌝ }
 {
     let answer = checks::check(nodes, size, offsets, neighbours, ids.len(), work.len());
     match answer {
@@ -157,7 +158,8 @@ fn group_logged(
 ) -> Counts
     requires { ⌜ Accepted ≡ answerOf (groupingCall nodes size (now offsets) (now neighbours) (length (now ids)) (length (now work))) ⌝ }
     requires { ⌜ 3 * nodes ≤ length (now log) ⌝ }
-    ensures { λ r. ⌜ LoggedInto (withLogOf nodes size (now (offsets .entry)) (now (neighbours .entry))) (now (ids .entry)) (now (ids .exit)) (now (log .entry)) (now (log .exit)) (r .count) (r .joinings) ⌝ }
+    ensures { λ r. ⌜ (let made = withLogOf nodes size (now (offsets .entry)) (now (neighbours .entry)) in
+        LoggedInto made (now (ids .entry)) (now (ids .exit)) (now (log .entry)) (now (log .exit)) (r .count) (r .joinings)) ⌝ }
     ensures { λ _. ⌜ now (work .exit) ≡ replicate (length (now (work .entry))) 0 ⌝ }
 {
     let base = checks::room_for(nodes, neighbours.len());
@@ -178,7 +180,8 @@ pub fn group_log(
     log: &mut [u32],
     work: &mut [u32],
 ) -> GroupingLogAnswer
-    ensures { λ r. ⌜ (let call = groupingLogCall nodes size (now (offsets .entry)) (now (neighbours .entry)) (length (now (ids .entry))) (length (now (log .entry))) (length (now (work .entry))) in
+    ensures { λ r. ⌜ (let call = groupingLogCall nodes size (now (offsets .entry)) (now (neighbours .entry)) (length (now (ids .entry))) (length (now (log .entry)))
+        (length (now (work .entry))) in
         (r ≡ groupingLogAnswer call)
         × ((now (ids .exit) ≡ groupingLeft (groupingIn call) (now (ids .entry)))
         × ((now (log .exit) ≡ logLeft call (now (log .entry)))
