@@ -3,6 +3,7 @@ mod Upto
 mod Stages
 mod Placed
 mod Answered
+mod LogAnswered
 pub mod Appearance
 pub mod Stops
 pub mod Log

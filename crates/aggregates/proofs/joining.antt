@@ -1,7 +1,7 @@
 -- The laws that several proofs of joining cite.
 mod Laws
 mod Counting
-mod Together
+pub mod Together
 mod Names
 mod Chains
 mod Moving
@@ -11,6 +11,7 @@ mod Linking
 mod Edges
 mod Moved
 mod Turns
+mod Ruled
 mod Whole
 mod Rounds
 mod Begun
