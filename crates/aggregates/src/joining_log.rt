@@ -6,7 +6,7 @@ ghost use mathlib.Core.List.{[], _∷_};
 ghost use Prim.Native.Nat.{_+_, _-_, _*_, _^_, _<_, _≤_, max};
 ghost use lib.ListN.{length, set};
 ghost use lib.Seq.{slice};
-ghost use Rattle.aggregates.specs.JoinChoice.{at, Named, Zeros};
+ghost use Rattle.aggregates.specs.JoinChoice.{at, Named};
 ghost use Rattle.aggregates.specs.Log.{Rules, ruleAgainst, ruleBy, ruleIn, noted};
 
 fn wide(x: u32) -> usize

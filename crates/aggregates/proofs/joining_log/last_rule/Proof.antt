@@ -1,5 +1,5 @@
 -- `last_rule`: what is still to come gives the same rule.
-use mathlib.Core.Path.{_≡_, refl, ap, _∙_}
+use mathlib.Core.Path.{refl, ap, _∙_}
 use Prim.Native.Nat.{_-_, max}
 use native.Mathlib.Omega.{arith}
 use Rattle.aggregates.proofs.joining_log.Ruling.{Ruling, rule-step, rule-last}

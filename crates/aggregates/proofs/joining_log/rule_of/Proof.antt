@@ -1,6 +1,5 @@
 -- `rule_of`: `tally`, the scan and `untally` together.
 use mathlib.Core.Path.{_≡_, _∙_}
-use Prim.Native.Nat.{_<_, _+_}
 use native.Mathlib.Omega.{arith}
 use lib.Seq.{slice}
 use Rattle.aggregates.specs.JoinChoice.{bump, Named}
