@@ -3,5 +3,6 @@ mod Upto
 mod Stages
 mod Placed
 mod Answered
+mod LogAnswered
 pub mod Appearance
 pub mod Stops

@@ -1,18 +1,23 @@
 -- The stages of grouping, one after another.
-use mathlib.Core.Path.{_≡_, ap, sym, _∙_}
+use mathlib.Core.Path.{_≡_, refl, ap, sym, _∙_}
 use mathlib.Core.List.{List, [], _++_, append-nil}
-use Prim.Native.Nat.{ℕ, _-_, _≤_}
+use Prim.Native.Nat.{ℕ, _-_, _*_, _≤_, _<_}
 use native.Mathlib.Omega.{arith}
 use lib.ListN.{length, getD, take, drop, replicate, length-append, length-drop, length-replicate, drop-of-length-le}
 use lib.Seq.{getD-take, take-at, take-all, drop-at, length-take-le}
 use Rattle.definitions.specs.Lists.{padded}
-use Rattle.definitions.specs.Groups.{renumbered, grown, joinings, graphGrouping, listed, noAnchor, floorOf}
+use Rattle.definitions.specs.Groups.{renumbered, grown, groupsOf, joinings, graphGrouping, listed, noAnchor, floorOf}
+use Rattle.definitions.specs.JoiningLog.{withLog}
 use Rattle.numbers.specs.Copied.{copied}
 use Rattle.aggregates.specs.JoinState.{joinedIds}
 use Rattle.aggregates.specs.Checked.{Accepts}
 use Rattle.aggregates.specs.Numbered.{Numbered}
-use Rattle.aggregates.specs.Settled.{Grows, Settled}
+use Rattle.aggregates.specs.Settled.{Grows, Settled, loggedOf}
+use Rattle.aggregates.specs.Log.{Joined, noted}
 use Rattle.aggregates.proofs.growth.Between.{grown-all}
+use Rattle.aggregates.proofs.joining.Fewer.{fewer-joinings}
+use Rattle.aggregates.proofs.joining.Noted.{length-log}
+use Rattle.aggregates.proofs.joining.Grouped.{none-grown}
 use Rattle.aggregates.proofs.Upto.{joined-ids-upto}
 use Rattle.aggregates.proofs.stored.Elements.{still-from}
 
@@ -24,8 +29,8 @@ numbered-after n groups floor base offsets nb w w' o e l = record {
   small = o .joins .small .0;
 }
 
-pub settled-after : (n groups floor count : ℕ) (offsets nb w w₁ w₂ : List ℕ) → take n w₁ ≡ joinedIds offsets nb floor groups (take n w) → take n w₂ ≡ renumbered (take n w₁) .ids → count ≡ renumbered (take n w₁) .count → Settled offsets nb n groups floor w w₂ count
-settled-after n groups floor count offsets nb w w₁ w₂ e f g = record { ids = f ∙ ap (λ l. renumbered l .ids) e; number = g ∙ ap (λ l. renumbered l .count) e }
+pub settled-after : (n groups floor count joinings : ℕ) (offsets nb w w₁ w₂ log₀ log : List ℕ) → Joined offsets nb n groups floor w w₁ log₀ log joinings → take n w₂ ≡ renumbered (take n w₁) .ids → count ≡ renumbered (take n w₁) .count → Settled offsets nb n groups floor w w₂ log₀ log count joinings
+settled-after n groups floor count joinings offsets nb w w₁ w₂ log₀ log j f g = record { ids = f ∙ ap (λ l. renumbered l .ids) (j .ids); number = g ∙ ap (λ l. renumbered l .count) (j .ids); joined = j .number; written = j .written }
 
 -- the front of a list, cleared
 module _ (n : ℕ) (w t : List ℕ) (fits : n ≤ length w) (z : t ≡ replicate (length (take (n - 0) (drop 0 w))) 0) where
@@ -79,12 +84,13 @@ module _ (n size base : ℕ) (offsets nb : List ℕ) (ok : Accepts n size base o
       few = f;
       small = (omega (arith, ok .few), omega (arith, ok .entries));
       grouped = λ v h. rw (← getD-take n w v 0 h) (ids-upto v);
+      none = rw (ids-are, count-is) (none-grown (listed offsets nb) n size (ok .least));
     };
     upto = ids-upto;
     room = omega (arith, ok .room, ok .few);
   }
 
-  module _ (floor count : ℕ) (w' : List ℕ) (fis : floor ≡ floorOf size) (s : Settled offsets nb n groups floor w w' count) where
+  module _ (floor count made : ℕ) (w' log₀ log : List ℕ) (fis : floor ≡ floorOf size) (s : Settled offsets nb n groups floor w w' log₀ log count made) where
     joined-is : renumbered (joinedIds offsets nb floor groups (take n w)) ≡ graphGrouping (listed offsets nb) noAnchor n size
     unfolding graphGrouping joinings
     joined-is = rw (fis, ids-are, count-is)
@@ -94,6 +100,14 @@ module _ (n size base : ℕ) (offsets nb : List ℕ) (ok : Accepts n size base o
 
     pub build-count : count ≡ graphGrouping (listed offsets nb) noAnchor n size .count
     build-count = s .number ∙ ap (λ g. g .count) joined-is
+
+    pub build-joinings : made ≡ loggedOf (listed offsets nb) n size .joinings
+    unfolding withLog joinings
+    build-joinings = s .joined ∙ rw (fis, ids-are, count-is) refl
+
+    pub build-written : log ≡ noted 0 (loggedOf (listed offsets nb) n size .log) log₀
+    unfolding withLog joinings
+    build-written = s .written ∙ rw (fis, ids-are, count-is) refl
 
 -- the front of one list copied over another
 pub copy-front : (n : ℕ) (work ids l : List ℕ) → n ≤ length work → n ≤ length ids → l ≡ copied (take (n - 0) (drop 0 work)) ids → take n l ≡ take n work
@@ -108,3 +122,10 @@ copy-front n work ids l a b e =
 pub padded-front : (n m : ℕ) (ids l : List ℕ) → length ids ≡ n → l ≡ padded 0 m ids → take n l ≡ ids
 unfolding padded
 padded-front n m ids l e p = ap (take n) p ∙ take-at ids (replicate (m - length ids) 0) n e
+
+-- three numbers for each joining, of which there are fewer than nodes
+pub log-fits : (lists : ℕ → List ℕ) (n size : ℕ) → 0 < size → length (loggedOf lists n size .log) ≤ 3 * n
+unfolding withLog
+log-fits lists n size pos =
+    let start = groupsOf (grown lists noAnchor n size .0) (grown lists noAnchor n size .1) in
+    omega (arith, length-log lists noAnchor start (joinings lists noAnchor n size), fewer-joinings lists n size pos, grown-all lists n size pos .few)

@@ -1,7 +1,7 @@
 -- The laws that several proofs of joining cite.
 mod Laws
 mod Counting
-mod Together
+pub mod Together
 mod Names
 mod Chains
 mod Moving
@@ -11,7 +11,14 @@ mod Linking
 mod Edges
 mod Moved
 mod Turns
+mod Ruled
 mod Whole
 mod Rounds
 mod Begun
 pub mod Fewer
+pub mod Noted
+pub mod Grouped
+mod Ordered
+mod Members
+mod Candidates
+pub mod Rule

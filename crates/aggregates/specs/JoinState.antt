@@ -7,11 +7,12 @@
 use mathlib.Core.Path.{_≡_}
 use mathlib.Core.List.{List, [], _∷_}
 use Prim.Native.Nat.{ℕ, zero, suc, _+_, _-_, _*_, _^_, _≤_, _<_}
-use lib.ListN.{length, getD, set, drop}
+use lib.ListN.{length, getD, set, take, drop}
 use Rattle.definitions.specs.Lists.{tab}
-use Rattle.definitions.specs.Groups.{Groups, Joining, takerOf, joiningsFrom, replay, groupsOf, listed, noAnchor}
+use Rattle.definitions.specs.Groups.{Groups, Joining, sizeIn, takerOf, joiningsFrom, replay, groupsOf, listed, noAnchor}
 use Rattle.aggregates.specs.Lists.{Lists}
-use Rattle.aggregates.specs.JoinChoice.{at, Zeros}
+use Rattle.aggregates.specs.JoinChoice.{at, namedBy, Zeros}
+use Rattle.aggregates.specs.Stored.{listsAt}
 
 -- what holds of every element of a list
 abbrev pub All : (ℕ → Type 0) → List ℕ → Type 0
@@ -40,6 +41,10 @@ membersOf n w g = walk (at (2 * n + 1) w g) w (at n w g)
 unfoldable pub stateOf : ℕ → ℕ → List ℕ → List ℕ → Groups
 stateOf n groups ids w = record { of = ids; members = tab (membersOf n w) (suc groups) }
 
+-- those that one list stands for
+abbrev pub stateIn : ℕ → ℕ → List ℕ → Groups
+stateIn n groups w = stateOf n groups (take n w) (drop n w)
+
 pub record Rep (n groups : ℕ) (offsets neighbours ids w : List ℕ) : Type 0 where
   pub nodes : length ids ≡ n
   pub lists : Lists n offsets neighbours
@@ -59,6 +64,10 @@ total d (v ∷ vs) = d v + total d vs
 -- the members of g, by the whole list
 abbrev pub chainOf : ℕ → List ℕ → ℕ → List ℕ
 chainOf n w g = walk (at (3 * n + 1) w g) (drop n w) (at (2 * n) w g)
+
+-- the groups that the lists of the group g name, by the whole list, in which the lists stand from `base` on
+abbrev pub namesIn : ℕ → ℕ → ℕ → List ℕ → List ℕ
+namesIn base n g w = namedBy (listsAt base n w) g w (at (3 * n + 1) w) (chainOf n w g)
 
 -- what `names_of` asks: the nodes listed and the counts of their groups lie below `tail`
 abbrev pub Reads : ℕ → ℕ → List ℕ → List ℕ → Type 0
@@ -90,11 +99,27 @@ pub record Moves (n : ℕ) (w : List ℕ) (g b : ℕ) : Type 0 where
 unfoldable pub turnOf : (ℕ → List ℕ) → ℕ → Groups → ℕ → List Joining
 turnOf lists floor s g = elim (takerOf lists noAnchor floor s g) [ zero ↦ [] | suc b ↦ (let j : Joining = record { moved = g; taker = suc b } in j ∷ []) ]
 
--- the nodes' groups after all joinings
-abbrev pub joinedIds : List ℕ → List ℕ → ℕ → ℕ → List ℕ → List ℕ
-joinedIds offsets neighbours floor groups ids = replay (joiningsFrom (listed offsets neighbours) noAnchor floor groups (suc groups) (groupsOf ids groups)) (groupsOf ids groups) .of
+-- what a turn of the group g asks: it is one of the groups, and group 0, which stands for none, has no member
+pub record HasTurn (n groups base g : ℕ) (offsets neighbours w : List ℕ) : Type 0 where
+  pub rep : Rep n groups offsets neighbours (take n w) (drop n w)
+  pub some : 0 < g
+  pub own : g ≤ groups
+  pub none : sizeIn (stateIn n groups w) 0 ≡ 0
+  pub room : 5 * n + length neighbours + 3 ≤ base
 
--- what `join_groups` asks: proper lists, at most n groups, each node in one of them, and room behind the nodes' groups, below `base`
+-- the list w' and the answer r are what the turn of g makes of the list w
+abbrev pub Turned : ℕ → ℕ → List ℕ → List ℕ → ℕ → ℕ → List ℕ → List ℕ → ℕ → Type 0
+Turned n groups offsets nb floor g w w' r =
+    (r ≡ length (turnOf (listed offsets nb) floor (stateIn n groups w) g)) × ((stateIn n groups w' ≡ replay (turnOf (listed offsets nb) floor (stateIn n groups w) g) (stateIn n groups w)) × Rep n groups offsets nb (take n w') (drop n w'))
+
+-- all joinings of the nodes' groups `ids`, and the nodes' groups after them
+abbrev pub joiningsOf : List ℕ → List ℕ → ℕ → ℕ → List ℕ → List Joining
+joiningsOf offsets neighbours floor groups ids = joiningsFrom (listed offsets neighbours) noAnchor floor groups (suc groups) (groupsOf ids groups)
+
+abbrev pub joinedIds : List ℕ → List ℕ → ℕ → ℕ → List ℕ → List ℕ
+joinedIds offsets neighbours floor groups ids = replay (joiningsOf offsets neighbours floor groups ids) (groupsOf ids groups) .of
+
+-- what `join_groups` asks: proper lists, at most n groups, each node in one of them, none in group 0, and room behind the nodes' groups, below `base`
 pub record Joins (n groups base : ℕ) (offsets neighbours w : List ℕ) : Type 0 where
   pub lists : Lists n offsets neighbours
   pub room : 5 * n + length neighbours + 3 ≤ base
@@ -102,3 +127,4 @@ pub record Joins (n groups base : ℕ) (offsets neighbours w : List ℕ) : Type 
   pub few : groups ≤ n
   pub small : (n < 2 ^ 31) × (length neighbours < 2 ^ 32)
   pub grouped : (v : ℕ) → v < n → getD w v 0 ≤ groups
+  pub none : sizeIn (groupsOf (take n w) groups) 0 ≡ 0

@@ -9,3 +9,4 @@ pub mod Checked
 pub mod Settled
 pub mod Within
 pub mod Log
+pub mod LogRead

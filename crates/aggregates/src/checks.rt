@@ -49,7 +49,7 @@ fn neighbour_outside(neighbours: &[u32], nodes: usize) -> bool
 
 // Are there nodes + 1 offsets, from 0 up to the neighbour count, that do not fall?
 fn offsets_fit(nodes: usize, offsets: &[u32], count: usize) -> bool
-    ensures { λ r. ⌜ r ≡ (eqb (length (now (offsets .entry))) (nodes + 1) && eqb (getD (now (offsets .entry)) 0 1) 0 && not (falls (now (offsets .entry))) && eqb (getD (now (offsets .entry)) nodes 0) count) ⌝ }
+    ensures { λ r. ⌜ (let o = now (offsets .entry) in r ≡ (eqb (length o) (nodes + 1) && eqb (getD o 0 1) 0 && not (falls o) && eqb (getD o nodes 0) count)) ⌝ }
 {
     if offsets.len() == 0 {
         return false;

@@ -19,8 +19,8 @@ fn wide(x: u32) -> usize
 // Puts the nodes that v lists and that are in no group at the queue's end, and returns the new end.
 fn push_free(w: &mut [u32], base: usize, nodes: usize, v: usize, tail: usize) -> usize
     requires { ⌜ Pushes (offsetsAt base nodes (now w)) (neighboursAt base nodes (now w)) (now w) base nodes v tail ⌝ }
-    ensures { λ r. ⌜ r ≡ tail + length (free (listsAt base nodes (now (w .entry))) noAnchor (take nodes (now (w .entry))) (listsAt base nodes (now (w .entry)) v)) ⌝ }
-    ensures { λ r. ⌜ take r (now (w .exit)) ≡ take tail (now (w .entry)) ++ free (listsAt base nodes (now (w .entry))) noAnchor (take nodes (now (w .entry))) (listsAt base nodes (now (w .entry)) v) ⌝ }
+    ensures { λ r. ⌜ (let lists = listsAt base nodes (now (w .entry)) in r ≡ tail + length (free lists noAnchor (take nodes (now (w .entry))) (lists v))) ⌝ }
+    ensures { λ r. ⌜ (let lists = listsAt base nodes (now (w .entry)) in take r (now (w .exit)) ≡ take tail (now (w .entry)) ++ free lists noAnchor (take nodes (now (w .entry))) (lists v)) ⌝ }
     ensures { λ _. ⌜ drop base (now (w .exit)) ≡ drop base (now (w .entry)) ⌝ }
 {
     let mut end = tail;

@@ -6,6 +6,7 @@
 //     w[4n+2..5n+3]      the edges to a group, zero but while a group looks for another
 //     w[5n+3..]          the groups that are named, one for each edge
 // and the neighbour lists from w[base] on, behind all of these.
+use super::joining_log::log_joining;
 use super::stored::neighbour;
 use super::stored::offset;
 ghost use mathlib.Core.Path.{_≡_};
@@ -15,11 +16,12 @@ ghost use Prim.Native.Nat.{ℕ, _+_, _-_, _*_, _^_, _<_, _≤_};
 ghost use lib.Dec.{eqb};
 ghost use lib.ListN.{length, getD, take, drop};
 ghost use lib.Seq.{slice};
-ghost use Rattle.definitions.specs.Groups.{chosen, edgesTo, nodesOf, relabelled, replay, groupsOf};
+ghost use Rattle.definitions.specs.Groups.{chosen, edgesTo, nodesOf, relabelled, groupsOf, sizeIn};
 ghost use Rattle.aggregates.specs.Lists.{Lists};
 ghost use Rattle.aggregates.specs.Stored.{offsetsAt, neighboursAt, listsAt};
-ghost use Rattle.aggregates.specs.JoinChoice.{at, beforeBy, better, bump, namedBy, othersBy, wipe, Named, Zeros};
-ghost use Rattle.aggregates.specs.JoinState.{All, Gathers, Joins, Moves, Reads, Rep, chainOf, hop, joinedIds, membersOf, moved, stateOf, turnOf, walk};
+ghost use Rattle.aggregates.specs.JoinChoice.{at, beforeBy, better, bump, othersBy, wipe, Named, Zeros};
+ghost use Rattle.aggregates.specs.Log.{JoinedAt, turnLog};
+ghost use Rattle.aggregates.specs.JoinState.{All, Gathers, HasTurn, Joins, Moves, Reads, Rep, Turned, chainOf, hop, membersOf, moved, namesIn, stateIn, walk};
 
 fn wide(x: u32) -> usize
     ensures { λ r. ⌜ r ≡ x ⌝ }
@@ -28,7 +30,7 @@ fn wide(x: u32) -> usize
 }
 
 // Counts the groups that w[from..end] names: a count for each group, from w[hits] on.
-fn tally(w: &mut [u32], hits: usize, from: usize, end: usize)
+pub(crate) fn tally(w: &mut [u32], hits: usize, from: usize, end: usize)
     requires { ⌜ (from ≤ end) × ((end ≤ length (now w)) × (end < from + 2 ^ 32)) ⌝ }
     requires { ⌜ Named hits from end (now w) ⌝ }
     requires { ⌜ Zeros hits from (now w) ⌝ }
@@ -43,7 +45,7 @@ fn tally(w: &mut [u32], hits: usize, from: usize, end: usize)
 }
 
 // Clears the counts that `tally` made: as many steps as there are names, not groups.
-fn untally(w: &mut [u32], hits: usize, from: usize, end: usize)
+pub(crate) fn untally(w: &mut [u32], hits: usize, from: usize, end: usize)
     requires { ⌜ (from ≤ end) × (end ≤ length (now w)) ⌝ }
     requires { ⌜ Named hits from end (now w) ⌝ }
     ensures { λ _. ⌜ now (w .exit) ≡ wipe hits (slice from end (now (w .entry))) (now (w .entry)) ⌝ }
@@ -170,8 +172,8 @@ fn names_of(
 fn gather(w: &mut [u32], base: usize, nodes: usize, g: u32) -> usize
     requires { ⌜ Lists nodes (offsetsAt base nodes (now w)) (neighboursAt base nodes (now w)) ⌝ }
     requires { ⌜ Gathers nodes base (offsetsAt base nodes (now w)) (now w) g ⌝ }
-    ensures { λ r. ⌜ r ≡ 5 * nodes + 3 + length (namedBy (listsAt base nodes (now (w .entry))) g (now (w .entry)) (at (3 * nodes + 1) (now (w .entry))) (chainOf nodes (now (w .entry)) g)) ⌝ }
-    ensures { λ r. ⌜ take r (now (w .exit)) ≡ take (5 * nodes + 3) (now (w .entry)) ++ namedBy (listsAt base nodes (now (w .entry))) g (now (w .entry)) (at (3 * nodes + 1) (now (w .entry))) (chainOf nodes (now (w .entry)) g) ⌝ }
+    ensures { λ r. ⌜ r ≡ 5 * nodes + 3 + length (namesIn base nodes g (now (w .entry))) ⌝ }
+    ensures { λ r. ⌜ take r (now (w .exit)) ≡ take (5 * nodes + 3) (now (w .entry)) ++ namesIn base nodes g (now (w .entry)) ⌝ }
     ensures { λ r. ⌜ r ≤ length (now (w .entry)) ⌝ }
     ensures { λ _. ⌜ drop base (now (w .exit)) ≡ drop base (now (w .entry)) ⌝ }
 {
@@ -232,14 +234,21 @@ fn move_group(w: &mut [u32], nodes: usize, g: u32, b: u32)
     w[counts + from] = 0;
 }
 
-// The turn of the group g: it joins another, if it is below the floor and names one. Returns 1 if it did.
-fn join_one(w: &mut [u32], base: usize, nodes: usize, groups: u32, floor: u32, g: u32) -> u32
-    requires { ⌜ Rep nodes groups (offsetsAt base nodes (now w)) (neighboursAt base nodes (now w)) (take nodes (now w)) (drop nodes (now w)) ⌝ }
-    requires { ⌜ (g ≤ groups) × (5 * nodes + length (neighboursAt base nodes (now w)) + 3 ≤ base) ⌝ }
-    ensures { λ r. ⌜ r ≡ length (turnOf (listsAt base nodes (now (w .entry))) floor (stateOf nodes groups (take nodes (now (w .entry))) (drop nodes (now (w .entry)))) g) ⌝ }
-    ensures { λ _. ⌜ stateOf nodes groups (take nodes (now (w .exit))) (drop nodes (now (w .exit))) ≡ replay (turnOf (listsAt base nodes (now (w .entry))) floor (stateOf nodes groups (take nodes (now (w .entry))) (drop nodes (now (w .entry)))) g) (stateOf nodes groups (take nodes (now (w .entry))) (drop nodes (now (w .entry)))) ⌝ }
-    ensures { λ _. ⌜ Rep nodes groups (offsetsAt base nodes (now (w .entry))) (neighboursAt base nodes (now (w .entry))) (take nodes (now (w .exit))) (drop nodes (now (w .exit))) ⌝ }
+// The turn of the group g: it joins another, if it is below the floor and names one. Returns 1 if it did. The log has `made` joinings so far.
+fn join_one(
+    w: &mut [u32],
+    base: usize,
+    nodes: usize,
+    groups: u32,
+    floor: u32,
+    g: u32,
+    log: &mut [u32],
+    made: u32,
+) -> u32
+    requires { ⌜ HasTurn nodes groups base g (offsetsAt base nodes (now w)) (neighboursAt base nodes (now w)) (now w) ⌝ }
+    ensures { λ r. ⌜ Turned nodes groups (offsetsAt base nodes (now (w .entry))) (neighboursAt base nodes (now (w .entry))) floor g (now (w .entry)) (now (w .exit)) r ⌝ }
     ensures { λ _. ⌜ drop base (now (w .exit)) ≡ drop base (now (w .entry)) ⌝ }
+    ensures { λ _. ⌜ now (log .exit) ≡ turnLog (listsAt base nodes (now (w .entry))) floor (stateIn nodes groups (now (w .entry))) g made (now (log .entry)) ⌝ }
 {
     let counts = 3 * nodes + 1;
     let size = w[counts + wide(g)];
@@ -249,33 +258,47 @@ fn join_one(w: &mut [u32], base: usize, nodes: usize, groups: u32, floor: u32, g
     if floor <= size {
         return 0;
     }
+    let hits = 4 * nodes + 2;
+    let from = 5 * nodes + 3;
     let end = gather(w, base, nodes, g);
-    let b = choose_group(w, counts, 4 * nodes + 2, 5 * nodes + 3, end);
+    let b = choose_group(w, counts, hits, from, end);
     if b == 0 {
         return 0;
     }
+    log_joining(w, counts, hits, from, end, g, b, log, made);
     move_group(w, nodes, g, b);
     1
 }
 
-// Rounds over the groups, until one joins nothing.
-fn join_rounds(w: &mut [u32], base: usize, nodes: usize, groups: u32, floor: u32)
+// Rounds over the groups, until one joins nothing. Returns how many joinings there were.
+fn join_rounds(
+    w: &mut [u32],
+    base: usize,
+    nodes: usize,
+    groups: u32,
+    floor: u32,
+    log: &mut [u32],
+) -> u32
     requires { ⌜ Rep nodes groups (offsetsAt base nodes (now w)) (neighboursAt base nodes (now w)) (take nodes (now w)) (drop nodes (now w)) ⌝ }
     requires { ⌜ 5 * nodes + length (neighboursAt base nodes (now w)) + 3 ≤ base ⌝ }
-    requires { ⌜ stateOf nodes groups (take nodes (now w)) (drop nodes (now w)) ≡ groupsOf (take nodes (now w)) groups ⌝ }
-    ensures { λ _. ⌜ take nodes (now (w .exit)) ≡ joinedIds (offsetsAt base nodes (now (w .entry))) (neighboursAt base nodes (now (w .entry))) floor groups (take nodes (now (w .entry))) ⌝ }
+    requires { ⌜ stateIn nodes groups (now w) ≡ groupsOf (take nodes (now w)) groups ⌝ }
+    requires { ⌜ sizeIn (stateIn nodes groups (now w)) 0 ≡ 0 ⌝ }
+    ensures { λ r. ⌜ JoinedAt base nodes groups floor (now (w .entry)) (now (w .exit)) (now (log .entry)) (now (log .exit)) r ⌝ }
 {
+    let mut made: u32 = 0;
     'rounds: loop {
         let mut joins: u32 = 0;
         let mut g: u32 = 1;
         while g <= groups {
-            joins += join_one(w, base, nodes, groups, floor, g);
+            joins += join_one(w, base, nodes, groups, floor, g, log, made + joins);
             g += 1;
         }
         if joins == 0 {
             break 'rounds;
         }
+        made += joins;
     }
+    made
 }
 
 // Puts each node into the chain of its group, the highest first, so that each chain goes upward.
@@ -301,14 +324,21 @@ fn link(w: &mut [u32], nodes: usize)
     }
 }
 
-// Joins undersized groups until a round joins nothing: w[0..nodes] has the group of each node, from 1; the rest of w below `base` is room, and may hold anything.
-pub(crate) fn join_groups(w: &mut [u32], base: usize, nodes: usize, groups: u32, floor: u32)
+// Joins undersized groups until a round joins nothing: w[0..nodes] has the group of each node, from 1; the rest of w below `base` is room, and may hold anything. Returns how many joinings there were.
+pub(crate) fn join_groups(
+    w: &mut [u32],
+    base: usize,
+    nodes: usize,
+    groups: u32,
+    floor: u32,
+    log: &mut [u32],
+) -> u32
     requires { ⌜ Joins nodes groups base (offsetsAt base nodes (now w)) (neighboursAt base nodes (now w)) (now w) ⌝ }
-    ensures { λ _. ⌜ take nodes (now (w .exit)) ≡ joinedIds (offsetsAt base nodes (now (w .entry))) (neighboursAt base nodes (now (w .entry))) floor groups (take nodes (now (w .entry))) ⌝ }
+    ensures { λ r. ⌜ JoinedAt base nodes groups floor (now (w .entry)) (now (w .exit)) (now (log .entry)) (now (log .exit)) r ⌝ }
 {
     let from = 3 * nodes + 1;
     let to = 5 * nodes + 3;
     numbers::zero_ints(&mut w[from..to]);
     link(w, nodes);
-    join_rounds(w, base, nodes, groups, floor);
+    join_rounds(w, base, nodes, groups, floor, log)
 }

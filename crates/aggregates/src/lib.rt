@@ -1,21 +1,26 @@
 // Groups of nodes, from what each node lists: growth, joining, numbers by first appearance.
 ghost use mathlib.Core.Path.{_≡_};
-ghost use Prim.Native.Nat.{_+_, _^_, _≤_, _<_};
+ghost use Prim.Native.Nat.{_+_, _*_, _^_, _≤_, _<_};
 ghost use lib.ListN.{length, take, replicate};
 ghost use Rattle.definitions.specs.Lists.{padded};
 ghost use Rattle.definitions.specs.Groups.{groupingCall, graphGrouping, noAnchor, floorOf, groupingLeft, groupingWorkLeft};
-ghost use Rattle.definitions.specs.Answers.{groupingAnswer};
+ghost use Rattle.definitions.specs.JoiningLog.{groupingLogCall, groupingIn, logLeft};
+ghost use Rattle.definitions.specs.Answers.{answerOf, groupingAnswer, groupingLogAnswer};
+ghost use Rattle.definitions.specs.declared.Answer.the-variants.{Accepted};
 ghost use Rattle.aggregates.specs.Lists.{Lists};
 ghost use Rattle.aggregates.specs.Stored.{offsetsAt, neighboursAt, listsAt};
 ghost use Rattle.aggregates.specs.Within.{withinCall};
 ghost use Rattle.aggregates.specs.Checked.{Accepts};
-ghost use Rattle.aggregates.specs.Settled.{Grows, Settled};
+ghost use Rattle.aggregates.specs.Settled.{Built, Grows, LoggedInto, SettledAt, withLogOf};
 use definitions::Answer;
 use definitions::GroupingAnswer;
+use definitions::GroupingLogAnswer;
+use definitions::Refusal;
 
 mod checks;
 mod growth;
 mod joining;
+mod joining_log;
 mod renumber;
 mod stored;
 
@@ -28,28 +33,55 @@ fn floor_of(size: usize) -> u32
     if quarter == 0 { 1 } else { quarter as u32 }
 }
 
-// Joins and renumbers `groups` grown groups: w[0..nodes] has the group of each node, the rest of w below `base` is room.
-fn settle(w: &mut [u32], base: usize, nodes: usize, groups: u32, floor: u32) -> u32
-    requires { ⌜ Grows nodes groups base (offsetsAt base nodes (now w)) (neighboursAt base nodes (now w)) (now w) ⌝ }
-    ensures { λ r. ⌜ Settled (offsetsAt base nodes (now (w .entry))) (neighboursAt base nodes (now (w .entry))) nodes groups floor (now (w .entry)) (now (w .exit)) r ⌝ }
-{
-    joining::join_groups(w, base, nodes, groups, floor);
-    renumber::renumber(w, nodes, groups)
+// How many groups there are, and how many joinings led to them.
+struct Counts {
+    count: u32,
+    joinings: u32,
 }
 
-// Groups the nodes of an accepted call into w[0..nodes], and returns how many groups there are. The neighbour lists stand in w from w[base] on, and are cleared.
+// Joins and renumbers `groups` grown groups: w[0..nodes] has the group of each node, the rest of w below `base` is room. Logs the joinings.
+fn settle(
+    w: &mut [u32],
+    base: usize,
+    nodes: usize,
+    groups: u32,
+    floor: u32,
+    log: &mut [u32],
+) -> Counts
+    requires { ⌜ Grows nodes groups base (offsetsAt base nodes (now w)) (neighboursAt base nodes (now w)) (now w) ⌝ }
+    ensures { λ r. ⌜ SettledAt base nodes groups floor (now (w .entry)) (now (w .exit)) (now (log .entry)) (now (log .exit)) (r .count) (r .joinings) ⌝ }
+{
+    let joinings = joining::join_groups(w, base, nodes, groups, floor, log);
+    let count = renumber::renumber(w, nodes, groups);
+    Counts {
+        count: count,
+        joinings: joinings,
+    }
+}
+
+// Groups the nodes of an accepted call into w[0..nodes], and logs the joinings. The neighbour lists stand in w from w[base] on, and are cleared.
+fn build_log(nodes: usize, size: usize, base: usize, w: &mut [u32], log: &mut [u32]) -> Counts
+    requires { ⌜ Accepts nodes size base (offsetsAt base nodes (now w)) (neighboursAt base nodes (now w)) ⌝ }
+    ensures { λ r. ⌜ Built (listsAt base nodes (now (w .entry))) nodes size (now (w .entry)) (now (w .exit)) (now (log .entry)) (now (log .exit)) (r .count) (r .joinings) ⌝ }
+{
+    numbers::zero_ints(&mut w[0..nodes]);
+    let groups = growth::grow_all(w, base, nodes, size);
+    let floor = floor_of(size);
+    let counts = settle(w, base, nodes, groups, floor, log);
+    numbers::zero_ints(&mut w[nodes..]);
+    counts
+}
+
+// The same without a log, and returns how many groups there are.
 fn build(nodes: usize, size: usize, base: usize, w: &mut [u32]) -> u64
     requires { ⌜ Accepts nodes size base (offsetsAt base nodes (now w)) (neighboursAt base nodes (now w)) ⌝ }
     ensures { λ r. ⌜ r ≡ (graphGrouping (listsAt base nodes (now (w .entry))) noAnchor nodes size) .count ⌝ }
     ensures { λ r. ⌜ now (w .exit) ≡ padded 0 (length (now (w .entry))) ((graphGrouping (listsAt base nodes (now (w .entry))) noAnchor nodes size) .ids) ⌝ }
     ensures { λ r. ⌜ length ((graphGrouping (listsAt base nodes (now (w .entry))) noAnchor nodes size) .ids) ≡ nodes ⌝ }
 {
-    numbers::zero_ints(&mut w[0..nodes]);
-    let groups = growth::grow_all(w, base, nodes, size);
-    let floor = floor_of(size);
-    let count = settle(w, base, nodes, groups, floor);
-    numbers::zero_ints(&mut w[nodes..]);
-    count as u64
+    let mut none: [u32; 0] = [];
+    let counts = build_log(nodes, size, base, w, &mut none[..]);
+    counts.count as u64
 }
 
 // Hands the front of `work` over to `ids`, zeros behind, and clears `work`.
@@ -96,9 +128,10 @@ pub fn group(
     ids: &mut [u32],
     work: &mut [u32],
 ) -> GroupingAnswer
-    ensures { λ r. ⌜ r ≡ groupingAnswer (groupingCall nodes size (now (offsets .entry)) (now (neighbours .entry)) (length (now (ids .entry))) (length (now (work .entry)))) ⌝ }
-    ensures { λ r. ⌜ now (ids .exit) ≡ groupingLeft (groupingCall nodes size (now (offsets .entry)) (now (neighbours .entry)) (length (now (ids .entry))) (length (now (work .entry)))) (now (ids .entry)) ⌝ }
-    ensures { λ r. ⌜ now (work .exit) ≡ groupingWorkLeft (groupingCall nodes size (now (offsets .entry)) (now (neighbours .entry)) (length (now (ids .entry))) (length (now (work .entry)))) (now (work .entry)) ⌝ }
+    ensures { λ r. ⌜ (let call = groupingCall nodes size (now (offsets .entry)) (now (neighbours .entry)) (length (now (ids .entry))) (length (now (work .entry))) in
+        (r ≡ groupingAnswer call)
+        × ((now (ids .exit) ≡ groupingLeft call (now (ids .entry)))
+        × (now (work .exit) ≡ groupingWorkLeft call (now (work .entry))))) ⌝ }
 {
     let answer = checks::check(nodes, size, offsets, neighbours, ids.len(), work.len());
     match answer {
@@ -109,6 +142,63 @@ pub fn group(
             let count = build(nodes, size, base, work);
             hand_over(work, ids, nodes);
             GroupingAnswer::Groups(count)
+        }
+    }
+}
+
+// An accepted call with a log: the log is cleared and filled, the group of each node goes to `ids`, zeros behind, and `work` is left zero.
+fn group_logged(
+    nodes: usize,
+    size: usize,
+    offsets: &[u32],
+    neighbours: &[u32],
+    ids: &mut [u32],
+    log: &mut [u32],
+    work: &mut [u32],
+) -> Counts
+    requires { ⌜ Accepted ≡ answerOf (groupingCall nodes size (now offsets) (now neighbours) (length (now ids)) (length (now work))) ⌝ }
+    requires { ⌜ 3 * nodes ≤ length (now log) ⌝ }
+    ensures { λ r. ⌜ (let made = withLogOf nodes size (now (offsets .entry)) (now (neighbours .entry)) in
+        LoggedInto made (now (ids .entry)) (now (ids .exit)) (now (log .entry)) (now (log .exit)) (r .count) (r .joinings)) ⌝ }
+    ensures { λ _. ⌜ now (work .exit) ≡ replicate (length (now (work .entry))) 0 ⌝ }
+{
+    let base = checks::room_for(nodes, neighbours.len());
+    place(nodes, offsets, neighbours, base, work);
+    numbers::zero_ints(log);
+    let counts = build_log(nodes, size, base, work, log);
+    hand_over(work, ids, nodes);
+    counts
+}
+
+// Grouping alone with a log: for each joining, in order, the group that moved, its taker and the rule, zeros behind.
+pub fn group_log(
+    nodes: usize,
+    size: usize,
+    offsets: &[u32],
+    neighbours: &[u32],
+    ids: &mut [u32],
+    log: &mut [u32],
+    work: &mut [u32],
+) -> GroupingLogAnswer
+    ensures { λ r. ⌜ (let call = groupingLogCall nodes size (now (offsets .entry)) (now (neighbours .entry)) (length (now (ids .entry))) (length (now (log .entry)))
+        (length (now (work .entry))) in
+        (r ≡ groupingLogAnswer call)
+        × ((now (ids .exit) ≡ groupingLeft (groupingIn call) (now (ids .entry)))
+        × ((now (log .exit) ≡ logLeft call (now (log .entry)))
+        × (now (work .exit) ≡ groupingWorkLeft (groupingIn call) (now (work .entry)))))) ⌝ }
+{
+    let answer = checks::check(nodes, size, offsets, neighbours, ids.len(), work.len());
+    match answer {
+        Answer::Refused(cause) => GroupingLogAnswer::Refused(cause),
+        Answer::Accepted => {
+            if log.len() < 3 * nodes {
+                return GroupingLogAnswer::Refused(Refusal::LogTooShort);
+            }
+            let counts = group_logged(nodes, size, offsets, neighbours, ids, log, work);
+            GroupingLogAnswer::Logged {
+                groups: counts.count as u64,
+                joinings: counts.joinings as u64,
+            }
         }
     }
 }

@@ -81,7 +81,7 @@ module _ (P : ℕ → Type 0) (e m e' m' : ℕ → ℕ) (same-e : (x : ℕ) → 
       chosen-goes e m best x l ∙ ap (λ b. chosen e m b l) (better-cong best x p (a .0)) ∙ chosen-cong keep (better e' m' best x) l (keep best x p (a .0)) (a .1) ∙ sym (chosen-goes e' m' best x l)
 
 module _ (w : List ℕ) (counts hits from end : ℕ) (h : from ≤ end) (long : end ≤ length w) (room : counts + (from - hits) ≤ hits) (first : hits < from) (named : Named hits from end w) (zeros : Zeros hits from w) where
-  low : All (λ x. hits + x < from) (slice from end w)
+  pub low : All (λ x. hits + x < from) (slice from end w)
   low = all-getD (λ x. hits + x < from) (slice from end w) (λ k l.
       let m : from + k < end = omega (arith, length-slice from end w long) in
       rw (getD-drop from (take end w) k 0, getD-take end w (from + k) 0 m) (named (from + k) (omega arith) m))
@@ -98,11 +98,16 @@ module _ (w : List ℕ) (counts hits from end : ℕ) (h : from ≤ end) (long : 
   pub restored : wipe hits (slice from end (bump hits (slice from end w) w)) (bump hits (slice from end w) w) ≡ w
   restored = rw same-names (wipe-bump hits (slice from end w) w within (all-imp (λ x. hits + x < from) (λ x. getD w (hits + x) 0 ≡ 0) (λ x p. zeros (hits + x) (omega arith) p) (slice from end w) low))
 
+  -- what the counts and the sizes are while the names are counted
+  pub edges-counted : (x : ℕ) → hits + x < from → at hits (bump hits (slice from end w) w) x ≡ edgesTo (slice from end w) x
+  edges-counted x p = omega (arith, bump-at hits (slice from end w) w x within, zeros (hits + x) (omega arith) p)
+
+  pub sizes-kept : (x : ℕ) → hits + x < from → at counts (bump hits (slice from end w) w) x ≡ at counts w x
+  sizes-kept x p = bump-other hits (slice from end w) w (counts + x) (all-imp (λ y. hits + y < from) (λ y. counts + x ≡ hits + y → ⊥) (λ y q. omega arith) (slice from end w) low)
+
   pub chosen-by : chosen (at hits (bump hits (slice from end w) w)) (at counts (bump hits (slice from end w) w)) 0 (slice from end (bump hits (slice from end w) w)) ≡ chosen (edgesTo (slice from end w)) (at counts w) 0 (slice from end w)
   chosen-by =
       let names = slice from end w in
-      rw same-names (chosen-cong (λ x. hits + x < from) (at hits (bump hits names w)) (at counts (bump hits names w)) (edgesTo names) (at counts w)
-      (λ x p. omega (arith, bump-at hits names w x within, zeros (hits + x) (omega arith) p))
-      (λ x p. bump-other hits names w (counts + x) (all-imp (λ y. hits + y < from) (λ y. counts + x ≡ hits + y → ⊥) (λ y q. omega arith) names low))
+      rw same-names (chosen-cong (λ x. hits + x < from) (at hits (bump hits names w)) (at counts (bump hits names w)) (edgesTo names) (at counts w) edges-counted sizes-kept
       (λ b a p q. better-keeps (edgesTo names) (at counts w) b a (λ x. hits + x < from) p q)
       0 names (omega arith) low)

@@ -98,7 +98,7 @@ module _ (n groups : ℕ) (offsets nb ids w : List ℕ) (rep : Rep n groups offs
   unfolding stateOf
   members-are o h = getD-tab (membersOf n w) (suc groups) o [] (omega arith)
 
-  size-is : (o : ℕ) → o ≤ groups → sizeIn S o ≡ at (2 * n + 1) w o
+  pub size-is : (o : ℕ) → o ≤ groups → sizeIn S o ≡ at (2 * n + 1) w o
   unfolding membersOf
   size-is o h = ap length (members-are o h) ∙ length-walk (at (2 * n + 1) w o) w (at n w o)
 
@@ -143,7 +143,7 @@ module _ (n groups : ℕ) (offsets nb ids w : List ℕ) (rep : Rep n groups offs
     names-ok = named-ok (listed offsets nb) g ids (at (2 * n + 1) w) (λ o. o ≤ groups) (membersOf n w g)
         (all-imp (λ v. v < n) (λ v. All (λ x. getD ids x 0 ≤ groups) (listed offsets nb v)) (λ v h. listed-all (λ x. getD ids x 0 ≤ groups) (rep .grouped) v h) (membersOf n w g) (low-members g hg))
 
-    low-names : All (λ o. o ≤ groups) names
+    pub low-names : All (λ o. o ≤ groups) names
     low-names = all-imp (λ o. (o ≤ groups) × Other g (at (2 * n + 1) w) o) (λ o. o ≤ groups) (λ o p. p .0) names names-ok
 
     -- sizes that agree give the same choice
@@ -151,7 +151,7 @@ module _ (n groups : ℕ) (offsets nb ids w : List ℕ) (rep : Rep n groups offs
     choice-same sizes e = chosen-cong (λ o. o ≤ groups) (edgesTo names) sizes (edgesTo names) (at (2 * n + 1) w) (λ x p. refl) e
         (λ b a p q. better-keeps (edgesTo names) (at (2 * n + 1) w) b a (λ x. x ≤ groups) p q) 0 names (omega arith) low-names
 
-    same-names : namedGroups (listed offsets nb) noAnchor g S (nodesIn S g) ≡ names
+    pub same-names : namedGroups (listed offsets nb) noAnchor g S (nodesIn S g) ≡ names
     unfolding stateOf
     same-names = named-is (listed offsets nb) g S (nodesIn S g) ∙ rw (members-are g hg) (named-cong (listed offsets nb) g ids ids (sizeIn S) (at (2 * n + 1) w) (membersOf n w g)
         (all-imp (λ v. v < n) (λ v. All (λ x. (getD ids x 0 ≡ getD ids x 0) × (sizeIn S (getD ids x 0) ≡ at (2 * n + 1) w (getD ids x 0))) (listed offsets nb v))

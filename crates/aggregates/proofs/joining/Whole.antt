@@ -5,13 +5,16 @@ use Prim.Native.Nat.{ℕ, suc, _+_, _-_, _*_, _^_, _≤_, _<_}
 use native.Mathlib.Omega.{arith}
 use lib.ListN.{length, getD, take, drop, length-drop}
 use lib.Seq.{slice, drop-at, getD-drop, getD-take, take-take, take-append-le, length-take-le}
-use Rattle.definitions.specs.Groups.{Groups, Joining, edgesTo, chosen, listed, noAnchor, takerOf, joined, replay, relabelled}
+use Rattle.definitions.specs.Groups.{Joining, sizeIn, edgesTo, chosen, listed, noAnchor, takerOf, joined, replay, relabelled}
+use Rattle.definitions.specs.JoiningLog.{ruleOf, logOf}
 use Rattle.aggregates.specs.JoinChoice.{at, namedBy, Named, Zeros}
-use Rattle.aggregates.specs.JoinState.{All, chainOf, moved, membersOf, stateOf, turnOf, Rep, Gathers, Moves}
+use Rattle.aggregates.specs.JoinState.{All, chainOf, moved, membersOf, stateIn, turnOf, Rep, Turned, Gathers, Moves}
+use Rattle.aggregates.specs.Log.{Rules, ruleIn, noted, turnLog}
 use Rattle.aggregates.proofs.Stops.{Other, all-imp}
 use Rattle.aggregates.proofs.joining.Laws.{getD-all}
 use Rattle.aggregates.proofs.joining.View.{counts-are, heads-are}
 use Rattle.aggregates.proofs.joining.Edges.{front-kept}
+use Rattle.aggregates.proofs.joining.Ruled.{rule-same}
 use Rattle.aggregates.proofs.joining.Moved.{moved-state, moved-rep}
 use Rattle.aggregates.proofs.joining.Turns.{turn-stays, turn-joins, listed-all, low-members, edges-within, none-empty, none-floor, names, names-few, names-ok, named-cong, choice-same, taker-is, good, both-few, state-still, rep-still}
 
@@ -19,28 +22,23 @@ pub chain-is : (n : ℕ) (w : List ℕ) (g : ℕ) → chainOf n w g ≡ membersO
 unfolding membersOf
 chain-is n w g = rw (counts-are n w g, heads-are n w g) refl
 
--- the groups that one list stands for
-abbrev pub stateIn : ℕ → ℕ → List ℕ → Groups
-stateIn n groups w = stateOf n groups (take n w) (drop n w)
-
--- the list w' and the answer r are what the turn of g makes of the list w
-abbrev pub Turned : ℕ → ℕ → List ℕ → List ℕ → ℕ → ℕ → List ℕ → List ℕ → ℕ → Type 0
-Turned n groups offsets nb floor g w w' r =
-    (r ≡ length (turnOf (listed offsets nb) floor (stateIn n groups w) g)) × ((stateIn n groups w' ≡ replay (turnOf (listed offsets nb) floor (stateIn n groups w) g) (stateIn n groups w)) × Rep n groups offsets nb (take n w') (drop n w'))
-
 module _ (n groups : ℕ) (offsets nb w : List ℕ) (rep : Rep n groups offsets nb (take n w) (drop n w)) where
   pub room : 5 * n + length nb + 3 ≤ length w
   room = omega (arith, rep .room, length-drop n w)
 
   module _ (floor g : ℕ) (hg : g ≤ groups) where
-    idle : (w' : List ℕ) → takerOf (listed offsets nb) noAnchor floor (stateIn n groups w) g ≡ 0 → stateIn n groups w' ≡ stateIn n groups w → Rep n groups offsets nb (take n w') (drop n w') → Turned n groups offsets nb floor g w w' 0
-    unfolding replay
-    idle w' e s r = rw (turn-stays (listed offsets nb) floor (stateIn n groups w) g e) (refl, (s, r))
+    -- the log stays as it is
+    abbrev Unlogged : Type 0
+    Unlogged = (made : ℕ) (log : List ℕ) → log ≡ turnLog (listed offsets nb) floor (stateIn n groups w) g made log
 
-    pub turn-empty : at (3 * n + 1) w g ≡ 0 → Turned n groups offsets nb floor g w w 0
+    idle : (w' : List ℕ) → takerOf (listed offsets nb) noAnchor floor (stateIn n groups w) g ≡ 0 → stateIn n groups w' ≡ stateIn n groups w → Rep n groups offsets nb (take n w') (drop n w') → Turned n groups offsets nb floor g w w' 0 × Unlogged
+    unfolding replay logOf noted
+    idle w' e s r = rw (turn-stays (listed offsets nb) floor (stateIn n groups w) g e) ((refl, (s, r)), λ made log. refl)
+
+    pub turn-empty : at (3 * n + 1) w g ≡ 0 → Turned n groups offsets nb floor g w w 0 × Unlogged
     turn-empty z = idle w (none-empty n groups offsets nb (take n w) (drop n w) rep floor g hg (sym (counts-are n w g) ∙ z)) refl rep
 
-    pub turn-large : (at (3 * n + 1) w g ≡ 0 → ⊥) → floor ≤ at (3 * n + 1) w g → Turned n groups offsets nb floor g w w 0
+    pub turn-large : (at (3 * n + 1) w g ≡ 0 → ⊥) → floor ≤ at (3 * n + 1) w g → Turned n groups offsets nb floor g w w 0 × Unlogged
     turn-large z h = idle w (none-floor n groups offsets nb (take n w) (drop n w) rep floor g hg (λ e. z (counts-are n w g ∙ e)) (omega (arith, counts-are n w g))) refl rep
 
     group-low : (v : ℕ) → v < n → getD w v 0 ≤ groups
@@ -133,7 +131,7 @@ module _ (n groups : ℕ) (offsets nb w : List ℕ) (rep : Rep n groups offsets 
         taker-b = taker-is n groups offsets nb (take n w) (drop n w) rep floor g hg some' low' ∙ sym b-is
 
         -- none is named
-        pub turn-none : b ≡ 0 → Turned n groups offsets nb floor g w w₁ 0
+        pub turn-none : b ≡ 0 → Turned n groups offsets nb floor g w w₁ 0 × Unlogged
         turn-none z = idle w₁ (taker-b ∙ z) state₁ (rw ids-same rep₁)
 
         module _ (found : b ≡ 0 → ⊥) where
@@ -150,6 +148,32 @@ module _ (n groups : ℕ) (offsets nb w : List ℕ) (rep : Rep n groups offsets 
             nodes = rw (chain-is n w₁ g) (low-members n groups offsets nb (take n w) (drop n w₁) rep₁ g hg);
           }
 
+          pub asks-log : Rules (3 * n + 1) (4 * n + 2) (5 * n + 3) end b w₁
+          asks-log = record {
+            upward = omega (arith, asks-choose);
+            fits = omega (arith, asks-choose);
+            small = omega (arith, asks-choose);
+            room = omega arith;
+            taker = omega (arith, rep .few, fine .0);
+            named = named-still;
+            zeros = zeros-still;
+          }
+
+          abbrev joining : Joining
+          joining = record { moved = g; taker = b }
+
+          the-turn : turnOf (listed offsets nb) floor (stateIn n groups w) g ≡ joining ∷ []
+          the-turn =
+              let e : b ≡ suc (b - 1) = omega (arith, found) in
+              turn-joins (listed offsets nb) floor (stateIn n groups w) g (b - 1) joining (ap (λ x. record { moved = g; taker = x }) e) (taker-b ∙ e)
+
+          -- after `log_joining`
+          pub turn-logged : sizeIn (stateIn n groups w) 0 ≡ 0 → (made : ℕ) (log : List ℕ) → noted (3 * made) ((g - 1) ∷ (b - 1) ∷ ruleIn (3 * n + 1) (5 * n + 3) end b w₁ ∷ []) log ≡ turnLog (listed offsets nb) floor (stateIn n groups w) g made log
+          unfolding logOf
+          turn-logged none made log =
+              let rule : ruleIn (3 * n + 1) (5 * n + 3) end b w₁ ≡ ruleOf (listed offsets nb) noAnchor (stateIn n groups w) joining = rw names-are (rule-same n groups offsets nb (take n w) (drop n w) rep floor g hg some' low' b b-is found none (at (3 * n + 1) w₁) same-sizes joining refl) in
+              rw the-turn (ap (λ x. noted (3 * made) ((g - 1) ∷ (b - 1) ∷ x ∷ []) log) rule)
+
           some₁ : 0 < at (2 * n + 1) (drop n w₁) g
           some₁ = rw (front' (2 * n + 1 + g) (omega (arith, rep .few))) some'
 
@@ -157,10 +181,6 @@ module _ (n groups : ℕ) (offsets nb w : List ℕ) (rep : Rep n groups offsets 
           pub turn-moved : (w₂ : List ℕ) → take n w₂ ≡ relabelled b (chainOf n w₁ g) (take n w₁) → drop n w₂ ≡ moved n g b (drop n w₁) → Turned n groups offsets nb floor g w w₂ 1
           unfolding replay
           turn-moved w₂ ids work =
-              let j : Joining = record { moved = g; taker = b } in
-              let e : b ≡ suc (b - 1) = omega (arith, found) in
-              let is : j ≡ record { moved = g; taker = suc (b - 1) } = ap (λ x. record { moved = g; taker = x }) e in
-              let t : turnOf (listed offsets nb) floor (stateIn n groups w) g ≡ j ∷ [] = turn-joins (listed offsets nb) floor (stateIn n groups w) g (b - 1) j is (taker-b ∙ e) in
               let ids' : take n w₂ ≡ relabelled b (membersOf n (drop n w₁) g) (take n w) = rw (chain-is n w₁ g, ids-same) at ids in
-              let s : stateIn n groups w₂ ≡ joined j (stateIn n groups w) = rw (ids', work) (moved-state n groups offsets nb (take n w) (drop n w₁) rep₁ g b hg (fine .0) (fine .1 .1) some₁ j refl ∙ ap (joined j) (state-still n groups offsets nb (take n w) (drop n w) (drop n w₁) rep long' front')) in
-              rw t (refl, (s, rw (ids', work) (moved-rep n groups offsets nb (take n w) (drop n w₁) rep₁ g b hg (fine .0) (fine .1 .1) some₁)))
+              let s : stateIn n groups w₂ ≡ joined joining (stateIn n groups w) = rw (ids', work) (moved-state n groups offsets nb (take n w) (drop n w₁) rep₁ g b hg (fine .0) (fine .1 .1) some₁ joining refl ∙ ap (joined joining) (state-still n groups offsets nb (take n w) (drop n w) (drop n w₁) rep long' front')) in
+              rw the-turn (refl, (s, rw (ids', work) (moved-rep n groups offsets nb (take n w) (drop n w₁) rep₁ g b hg (fine .0) (fine .1 .1) some₁)))

@@ -1,0 +1,2 @@
+-- The laws that several proofs of the joining log cite.
+pub mod Ruling
