@@ -20,3 +20,7 @@ two-parts e = (ap (λ h. h .number) e, (ap (λ h. h .lists .result) e, (ap (λ h
 
 pub lists-are : {ids ids′ log log′ work work′ : List ℕ} → ids ≡ ids′ → log ≡ log′ → work ≡ work′ → logLists ids log work ≡ logLists ids′ log′ work′
 lists-are p q r = rw (p, q, r)
+
+-- its number, its three lists, its answer
+pub log-parts : {x y : Handed LogLists} → x ≡ y → (x .number ≡ y .number) × ((x .lists .ids ≡ y .lists .ids) × ((x .lists .log ≡ y .lists .log) × ((x .lists .work ≡ y .lists .work) × (x .answer ≡ y .answer))))
+log-parts e = (ap (λ h. h .number) e, (ap (λ h. h .lists .ids) e, (ap (λ h. h .lists .log) e, (ap (λ h. h .lists .work) e, ap (λ h. h .answer) e))))
