@@ -17,7 +17,8 @@
  *   23 the coarse matrix is zero or infinite    24 a coarse pivot is not usable: the coarse row
  *   25 a vector of wrong length: expected and actual length
  *   26 record and lists do not fit              27 bad neighbour offsets
- *   28 a neighbour is no node                  255 a number that is no policy (setup only)
+ *   28 a neighbour is no node                   29 the log has fewer than three elements a node
+ *  255 a number that is no policy (setup only)
  * What stands after the colon is returned with the number: in `answer`, by a refused setup in `record`. An accepted call returns there
  * the results that are numbers. Either way as many as the list has room for, and zeros after them. Rows count from 0. `answer` and
  * `record` are how a function returns more than one number, and no lists lent to the calculation: they are written after every call,
@@ -42,6 +43,9 @@ extern "C" {
 enum { YELOMAWIN_CONTIGUOUS = 0, YELOMAWIN_GRAPH = 1, YELOMAWIN_STRONG_GRAPH = 2 };
 enum { YELOMAWIN_PIECEWISE_CONSTANT = 0, YELOMAWIN_JACOBI_SMOOTHED = 1 };
 enum { YELOMAWIN_AUTO = 0, YELOMAWIN_FACTOR_SOLVE = 1, YELOMAWIN_EXPLICIT_INVERSE = 2 };
+
+/* The rules of a joining log: the first test that left a single group of those named. */
+enum { YELOMAWIN_ONLY_ONE_NAMED = 1, YELOMAWIN_MOST_EDGES = 2, YELOMAWIN_FEWER_MEMBERS = 3, YELOMAWIN_LOWER_ID = 4 };
 
 /* The numbers of a record, in their order. */
 enum {
@@ -78,6 +82,14 @@ uint64_t yelomawin_block_apply(uint64_t rows, uint64_t block_size, const double 
 uint64_t yelomawin_group(uint64_t nodes, uint64_t group_size, const uint32_t *offsets, size_t offsets_len,
     const uint32_t *neighbours, size_t neighbours_len, uint32_t *ids, size_t ids_len, uint32_t *work, size_t work_len,
     uint64_t *answer, size_t answer_len);
+
+/* The same groups, with a log of the joinings. Each joining, in order, takes three elements of `log`: the group that moved, its taker
+ * (ids as grown: from 0, in the order in which growth made the groups) and the rule that decided, YELOMAWIN_ONLY_ONE_NAMED and so on.
+ * The elements after the last joining are zero. `log` needs 3 * nodes elements, `ids` and `work` as above. answer[0] receives the number
+ * of groups, answer[1] the number of joinings. Causes 1, 11, 27, 16, 28, 13, 29 in this order. */
+uint64_t yelomawin_group_log(uint64_t nodes, uint64_t group_size, const uint32_t *offsets, size_t offsets_len,
+    const uint32_t *neighbours, size_t neighbours_len, uint32_t *ids, size_t ids_len, uint32_t *log, size_t log_len,
+    uint32_t *work, size_t work_len, uint64_t *answer, size_t answer_len);
 
 /* The spectral radius and the damping factor, by their bits in answer[0] and answer[1]; `work` needs 3 * rows elements.
  * Causes 1 to 9, 25 for the diagonal, 13, 20 to 22. */

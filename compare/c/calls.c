@@ -55,6 +55,27 @@ static void path(void)
         expect("group of a node", ids[v], groups[v]);
 }
 
+/* The path of nine nodes in groups of eight: the ninth, grown as group 1, joins group 0, the only one that it names. */
+static void joining(void)
+{
+    const uint32_t offsets[] = {0, 1, 3, 5, 7, 9, 11, 13, 15, 16}, neighbours[] = {1, 0, 2, 1, 3, 2, 4, 3, 5, 4, 6, 5, 7, 6, 8, 7};
+    uint32_t ids[9], log[3 * 9], work[8 * 9 + 4 * 16 + 16];
+    uint64_t answer[2];
+
+    memset(log, 7, sizeof log);
+    expect("a log that is too short", (double)yelomawin_group_log(9, 8, offsets, 10, neighbours, 16, ids, 9, log, 26, work, sizeof work / sizeof *work, answer, 2), 29);
+    expect("group with a log", (double)yelomawin_group_log(9, 8, offsets, 10, neighbours, 16, ids, 9, log, 27, work, sizeof work / sizeof *work, answer, 2), 0);
+    expect("number of groups", (double)answer[0], 1);
+    expect("number of joinings", (double)answer[1], 1);
+    expect("group that moved", log[0], 1);
+    expect("its taker", log[1], 0);
+    expect("rule", log[2], YELOMAWIN_ONLY_ONE_NAMED);
+    for (int k = 3; k < 27; k++)
+        expect("rest of the log", log[k], 0);
+    for (int v = 0; v < 9; v++)
+        expect("group of a node", ids[v], 0);
+}
+
 /* [4] divided by its diagonal is [1]: rho is 1, and the damping factor 4/(3 rho). */
 static void radius(void)
 {
@@ -72,6 +93,7 @@ int main(void)
 {
     block();
     path();
+    joining();
     radius();
     return wrong;
 }

@@ -1,7 +1,7 @@
 //! Each call on both sides: the same input, times of the same run, and the results compared bit for bit.
 use crate::input::{self, BLOCK};
 use crate::table::{Row, counted};
-use cases::{Csr, Options, answers, expected};
+use cases::{Csr, Options, answers, expected, joining};
 use hybit_core::Preconditioner;
 use hybit_matrix::Csr32Matrix;
 use hybit_precond::{BlockJacobiPreconditioner, probe};
@@ -47,16 +47,28 @@ fn residual(rows: usize) -> Vec<f64> {
 
 // ---- grouping
 
-pub fn grouping(name: &'static str, lists: Vec<Vec<usize>>, size: usize) -> Row {
+/// Without a log, and with one, beside the Rust, which keeps none: its log is compared with that of the plain program.
+pub fn grouping(name: &'static str, lists: Vec<Vec<usize>>, size: usize) -> Vec<Row> {
     let (offsets, neighbours) = ::lent::flat(&lists);
     let neighbours = narrow(&neighbours);
-    let (mut ids, mut work) = (Vec::new(), Vec::new());
+    let (mut ids, mut log, mut work) = (Vec::new(), Vec::new(), Vec::new());
     let (rust, (expected, count), ours, found) =
         both(|| probe::groups(&lists, size).unwrap(), || yelomawin::group_in(size, &offsets, &neighbours, &mut ids, &mut work).unwrap());
     assert_eq!(found, count, "grouping, {name}: counts differ");
     assert!(narrow(&expected) == ids, "grouping, {name}: ids differ");
-    let size = format!("{} nodes, {} neighbours", counted(lists.len()), counted(neighbours.len()));
-    Row::new(format!("grouping, {name}, size 64"), size, lists.len(), rust, None, ours)
+    let (again, _, logged, (found, joinings)) = both(
+        || probe::groups(&lists, size).unwrap(),
+        || yelomawin::group_log_in(size, &offsets, &neighbours, &mut ids, &mut log, &mut work).unwrap(),
+    );
+    let plain = joining::joined(&lists.iter().map(|l| narrow(l)).collect::<Vec<_>>(), size);
+    assert_eq!((found, joinings), (count, plain.log.len()), "grouping with a log, {name}: counts differ");
+    let rest = log.strip_prefix(plain.log.as_flattened());
+    assert!(narrow(&expected) == ids && rest.is_some_and(|r| r.iter().all(|&x| x == 0)), "grouping with a log, {name}: ids or logs differ");
+    let nodes = format!("{} nodes, {} neighbours", counted(lists.len()), counted(neighbours.len()));
+    vec![
+        Row::new(format!("grouping, {name}, size {size}"), nodes.clone(), lists.len(), rust, None, ours),
+        Row::new(format!("grouping with a log, {name}, size {size}"), format!("{nodes}, {} joinings", counted(joinings)), lists.len(), again, None, logged),
+    ]
 }
 
 // ---- calls on a matrix

@@ -121,3 +121,19 @@ pub fn random_graph(nodes: usize, each: usize) -> Vec<Vec<usize>> {
 pub fn star(nodes: usize) -> Vec<Vec<usize>> {
     (0..nodes).map(|v| if v == 0 { (1..nodes).collect() } else { vec![0] }).collect()
 }
+
+/// Paths of 64 nodes, then as many nodes in paths of 8 that each name four of the long ones, some twice: all the short ones join.
+pub fn joining_paths(nodes: usize) -> Vec<Vec<usize>> {
+    let mut g = Random(7);
+    let half = nodes / 2;
+    let of = |v: usize| {
+        let length = if v < half { 64 } else { 8 };
+        let mut list: Vec<usize> = [v.wrapping_sub(1), v + 1].into_iter().filter(|w| *w < nodes && *w / length == v / length).collect();
+        if v >= half && v % 2 == 0 {
+            let w = g.below(half);
+            list.extend(std::iter::repeat_n(w, 1 + g.below(2)));
+        }
+        list
+    };
+    (0..nodes).map(of).collect()
+}

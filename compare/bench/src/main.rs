@@ -1,5 +1,5 @@
 //! Times and peak memory of the Rust and of the library on the same input in one run: `bench [quick | all] [--write FOLDER]`.
-//! Prints Markdown; with a folder, writes BENCHMARKS.md and benchmarks.svg there.
+//! Prints Markdown; with a folder, writes BENCHMARKS.md and benchmarks.svg there. `bench grouping` measures the grouping alone.
 mod calls;
 mod input;
 mod memory;
@@ -13,7 +13,8 @@ use table::{Memory, Row};
 const LARGEST: usize = 1_048_572;
 
 fn quick() -> (Vec<Row>, Vec<Memory>) {
-    let mut rows = vec![calls::grouping("grid", input::grid(100), 64), calls::grouping("grid", input::grid(173), 64)];
+    let mut rows = calls::grouping("grid", input::grid(100), 64);
+    rows.extend(calls::grouping("grid", input::grid(173), 64));
     for n in [6_000, 30_000] {
         let a = input::frame(n);
         rows.extend(calls::stages(&a, input::BLOCK));
@@ -25,14 +26,18 @@ fn quick() -> (Vec<Row>, Vec<Memory>) {
     (rows, memory::measured(30_000, 300))
 }
 
+fn groupings() -> Vec<Row> {
+    let mut rows = calls::grouping("grid", input::grid(173), 64);
+    rows.extend(calls::grouping("grid", input::grid(548), 64));
+    rows.extend(calls::grouping("grid", input::grid(1024), 64));
+    rows.extend(calls::grouping("random graph", input::random_graph(1 << 20, 16), 64));
+    rows.extend(calls::grouping("star", input::star(1 << 20), 64));
+    rows.extend(calls::grouping("paths that join", input::joining_paths(1 << 20), 64));
+    rows
+}
+
 fn all() -> (Vec<Row>, Vec<Memory>) {
-    let mut rows = vec![
-        calls::grouping("grid", input::grid(173), 64),
-        calls::grouping("grid", input::grid(548), 64),
-        calls::grouping("grid", input::grid(1024), 64),
-        calls::grouping("random graph", input::random_graph(1 << 20, 16), 64),
-        calls::grouping("star", input::star(1 << 20), 64),
-    ];
+    let mut rows = groupings();
     for n in [30_000, 300_000, LARGEST] {
         let a = input::frame(n);
         rows.extend(calls::stages(&a, input::BLOCK));
@@ -69,10 +74,11 @@ fn main() {
         }
         ["quick"] => ("quick", quick, None),
         ["quick", "--write", folder] => ("quick", quick, Some(folder)),
+        ["grouping"] => ("grouping", || (groupings(), Vec::new()), None),
         [] | ["all"] => ("all", all, None),
         ["--write", folder] | ["all", "--write", folder] => ("all", all, Some(folder)),
         _ => {
-            eprintln!("usage: bench [quick | all] [--write FOLDER]");
+            eprintln!("usage: bench [quick | all] [--write FOLDER] | grouping");
             std::process::exit(2);
         }
     };

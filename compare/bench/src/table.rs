@@ -58,7 +58,8 @@ pub fn markdown(command: &str, machine: &str, rows: &[Row], memory: &[Memory]) -
         "Both sides ran in one process on the same input, one thread each, in turn; a time is the shortest of up to 25 runs (of about two\n\
          seconds, or a single one that takes longer). Every result was compared bit for bit. Our lists are lent again from run to run, as a\n\
          solver would; the Rust allocates its own at each call, and that is counted as it is. \"With validate\" adds the time of the Rust's own\n\
-         `validate`: our calls check the matrix each time, the Rust does when it builds one.\n\n\
+         `validate`: our calls check the matrix each time, the Rust does when it builds one. The Rust keeps no log of joinings: beside grouping\n\
+         with a log stands its grouping without one.\n\n\
          ![Times against rows](benchmarks.svg)\n"
     )
     .unwrap();

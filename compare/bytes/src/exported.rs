@@ -25,6 +25,12 @@ unsafe extern "C" {
         offset_room: *mut u32, l3: usize, neighbour_room: *mut u32, l4: usize,
         ids_room: *mut u32, l5: usize, work: *mut u32, l6: usize, answer_room: *mut u64, l7: usize, ids: *mut u8, l8: usize, answer: *mut u8, l9: usize,
     ) -> u64;
+    pub fn yelomawin_bytes_group_log(
+        nodes: u64, group_size: u64, offsets: *const u8, l1: usize, neighbours: *const u8, l2: usize,
+        offset_room: *mut u32, l3: usize, neighbour_room: *mut u32, l4: usize,
+        ids_room: *mut u32, l5: usize, log_room: *mut u32, l6: usize, work: *mut u32, l7: usize, answer_room: *mut u64, l8: usize,
+        ids: *mut u8, l9: usize, log: *mut u8, l10: usize, answer: *mut u8, l11: usize,
+    ) -> u64;
     pub fn yelomawin_bytes_estimate(
         rows: u64, cols: u64, row_ptr: *const u8, l1: usize, col_idx: *const u8, l2: usize, values: *const u8, l3: usize, diagonal: *const u8, l4: usize,
         row_room: *mut u32, l5: usize, col_room: *mut u32, l6: usize, value_room: *mut f64, l7: usize, diagonal_room: *mut f64, l8: usize,

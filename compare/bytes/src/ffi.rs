@@ -163,6 +163,31 @@ pub unsafe fn yelomawin_group(
 }
 
 #[allow(clippy::too_many_arguments)]
+pub unsafe fn yelomawin_group_log(
+    nodes: u64, group_size: u64, offsets: *const u32, l1: usize, neighbours: *const u32, l2: usize,
+    ids: *mut u32, l3: usize, log: *mut u32, l4: usize, work: *mut u32, l5: usize, answer: *mut u64, l6: usize,
+) -> u64 {
+    let (offsets, neighbours) = unsafe { (read(offsets, l1), read(neighbours, l2)) };
+    let (ids, log, work, answer) = unsafe { (lent(ids, l3), lent(log, l4), lent(work, l5), lent(answer, l6)) };
+    twice(|g, spoiled| {
+        let (mut o, mut n) = (Input::new(g, offsets), Input::new(g, neighbours));
+        let (mut i, mut k, mut w) = (Output::result(g, ids), Output::result(g, log), Output::answer(g, answer));
+        let mut room = Lent::holding(g, work);
+        spoil(g, spoiled, &mut [&mut o, &mut n, &mut i, &mut k, &mut w]);
+        let number = called!(
+            yelomawin_bytes_group_log: nodes, group_size; o.bytes, n.bytes; ;
+            o.room, n.room, i.room, k.room, room, w.room, i.bytes, k.bytes, w.bytes
+        );
+        held("grouping with a log", spoiled, number, number != 0, &[&o, &n, &i, &k, &w, &room])?;
+        i.hand(ids);
+        k.hand(log);
+        w.hand(answer);
+        work.copy_from_slice(room.list());
+        Ok(number)
+    })
+}
+
+#[allow(clippy::too_many_arguments)]
 pub unsafe fn yelomawin_estimate(
     rows: u64, cols: u64, row_ptr: *const u32, l1: usize, col_idx: *const u32, l2: usize, values: *const f64, l3: usize,
     diagonal: *const f64, l4: usize, work: *mut f64, l5: usize, answer: *mut u64, l6: usize,

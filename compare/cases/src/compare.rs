@@ -1,7 +1,7 @@
 //! One case on both sides: nothing where they agree, else what differs.
 use crate::answers::Answer;
 use crate::draw::Random;
-use crate::{Case, Csr, Options, expected};
+use crate::{Case, Csr, Options, expected, joining};
 use lent::{Expected, Seen, bits, differences, keeps, pattern};
 
 /// The library's calls on lists of one form; an error says what is wrong whatever the answer.
@@ -15,6 +15,8 @@ pub trait Library {
     fn blocks(g: &mut Random, a: &Csr, block: usize) -> Result<Seen, String>;
     fn block_apply(g: &mut Random, rows: usize, block: usize, factors: &[f64], residual: &[f64]) -> Result<Seen, String>;
     fn group(g: &mut Random, lists: &[Vec<u32>], size: usize) -> Result<Seen, String>;
+    /// Result lists "ids" and "log".
+    fn group_log(g: &mut Random, lists: &[Vec<u32>], size: usize) -> Result<Seen, String>;
     fn estimate(g: &mut Random, a: &Csr, diagonal: &[f64]) -> Result<Seen, String>;
     /// Result lists "setup_ints" and "setup_floats", answer list "record"; lists for a coarse dimension.
     fn setup(g: &mut Random, a: &Csr, o: &Options, coarse: usize) -> Result<Seen, String>;
@@ -48,7 +50,14 @@ pub fn compared<L: Library>(case: &Case, rust: &Answer, seed: u64) -> Result<(),
             let solved = L::block_apply(g, a.rows, *block, &seen.left::<f64>("factors"), residual)?;
             alike("block apply", &solved, &expected::accepted(&[], vec![bits(z)]), true)
         }
-        Case::Group { lists, size } => alike("grouping", &L::group(g, lists, *size)?, &want, true),
+        Case::Group { lists, size } => {
+            alike("grouping", &L::group(g, lists, *size)?, &want, true)?;
+            let logged = match rust {
+                Answer::Groups(count, ids) => expected::logged(&joining::joined(lists, *size), *count, ids)?,
+                _ => want,
+            };
+            alike("grouping with a log", &L::group_log(g, lists, *size)?, &logged, true)
+        }
         Case::Estimate { a, diagonal } => alike("estimate", &L::estimate(g, a, diagonal)?, &want, left),
         Case::TwoLevel { a, options, residuals } => {
             let (seen, told) = setup::<L>(g, a, options)?;

@@ -234,6 +234,41 @@ pub fn group(seed: u64, most: usize) -> Case {
     Case::Group { lists, size: if g.one_in(50) { 0 } else { 1 + g.below(24) } }
 }
 
+/// Graphs whose groups join much: lists run one way, so that growth leaves many small groups, name some nodes twice, and themselves.
+pub fn joining(seed: u64, most: usize) -> Case {
+    let g = &mut Random(seed);
+    let nodes = 1 + g.below(most);
+    let (kind, few) = (g.below(5), 2 + g.below(5));
+    let mut lists: Vec<Vec<u32>> = vec![Vec::new(); nodes];
+    for v in 0..nodes {
+        let count = match kind {
+            // Anywhere; around a few nodes.
+            0 | 1 => g.below(4),
+            // Nodes below, by every other node; by one in a few, the rest seldom.
+            2 => if g.one_in(2) { 1 + g.below(4) } else { 0 },
+            3 => if v % few == few - 1 { 1 + g.below(4) } else { g.one_in(4) as usize },
+            // Paths of a few nodes, of which each may name any other.
+            _ => {
+                if v % few > 0 {
+                    lists[v].push(v as u32 - 1);
+                    lists[v - 1].push(v as u32);
+                }
+                g.below(2)
+            }
+        };
+        for _ in 0..count {
+            let w = match kind {
+                0 | 4 => g.below(nodes),
+                1 => if g.one_in(4) { g.below(nodes) } else { g.below(few.min(nodes)) },
+                _ => g.below(v + 1),
+            };
+            let times = if g.one_in(5) { 2 } else { 1 };
+            lists[v].extend(std::iter::repeat_n(w as u32, times));
+        }
+    }
+    Case::Group { lists, size: if g.one_in(200) { g.below(2) } else { 2 + g.below(4 * nodes.max(8)) } }
+}
+
 pub fn root(seed: u64) -> Case {
     let g = &mut Random(seed);
     let bits = match g.below(4) {

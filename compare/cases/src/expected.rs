@@ -1,5 +1,6 @@
 //! What the library must answer, and leave in its lists, by the Rust's answer; where the Rust tells nothing, by document 01.
 use crate::answers::Answer;
+use crate::joining::Joined;
 use crate::refusal::Refusal;
 use crate::{Case, Csr, Options};
 use hybit_precond::probe::Kept;
@@ -27,6 +28,14 @@ pub fn record(a: &Csr, o: &Options, k: &Kept) -> [u64; 15] {
     all[8..11].copy_from_slice(&policies);
     all[11..].copy_from_slice(&[k.damping.to_bits(), k.scale.to_bits(), (e + c * c) as u64, e as u64]);
     all
+}
+
+/// What grouping with a log must answer: the Rust's groups, with the log of a program that has these groups too.
+pub fn logged(plain: &Joined, count: usize, ids: &[u32]) -> Result<Expected, String> {
+    if (plain.count, &plain.ids[..]) != (count, ids) {
+        return Err(format!("the program that keeps a log has {} groups, {:?}, the Rust has {count}, {ids:?}", plain.count, plain.ids));
+    }
+    Ok(accepted(&[count as u64, plain.log.len() as u64], vec![bits(ids), bits(plain.log.as_flattened())]))
 }
 
 /// What the first call of a case must answer.

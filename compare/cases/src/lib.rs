@@ -6,6 +6,7 @@ pub mod draw;
 pub mod examples;
 pub mod expected;
 pub mod hard;
+pub mod joining;
 pub mod refusal;
 pub mod run;
 pub mod shrink;

@@ -1,9 +1,11 @@
 //! A comparison from the command line: NAME KIND FIRST COUNT MOST for COUNT seeds from FIRST on, cases of at most MOST rows or nodes.
-//! KIND is root, validate, diagonal, blocks, group, estimate, two_level, hard (cases that random numbers miss), wide (coarse dimensions
-//! around 1,024) or any. The first case that differs is shrunk and printed. A run in which no case was accepted has failed.
+//! KIND is root, validate, diagonal, blocks, group, joining (graphs whose groups join much), estimate, two_level, hard (cases that random
+//! numbers miss), wide (coarse dimensions around 1,024) or any. The first case that differs is shrunk and printed. A run in which no case
+//! was accepted has failed, and one of joining that did not meet every rule and three rounds.
 //! NAME --self-test spoils calls in one place after the other and asks that each be noticed.
 use crate::answers::{self, Answer};
 use crate::compare::{Library, compared};
+use crate::joining::{Met, joined};
 use crate::{Case, draw, hard, shrink, spoiled, text};
 use std::collections::BTreeMap;
 
@@ -14,6 +16,7 @@ fn drawn(kind: &str, seed: u64, most: usize) -> Option<Case> {
         "diagonal" => draw::diagonal(seed, most),
         "blocks" => draw::blocks(seed, most),
         "group" => draw::group(seed, most),
+        "joining" => draw::joining(seed, most),
         "estimate" => draw::estimate(seed, most),
         "two_level" => draw::two_level(seed, most),
         "hard" => hard::hard(seed),
@@ -44,7 +47,7 @@ pub fn main<L: Library>() {
         eprintln!("usage: {name} KIND FIRST COUNT MOST | --self-test");
         std::process::exit(2);
     };
-    let (mut ran, mut refused) = (0, BTreeMap::<u32, u64>::new());
+    let (mut ran, mut refused, mut met) = (0, BTreeMap::<u32, u64>::new(), Met::default());
     for seed in seeds(first, count) {
         let Some(case) = drawn(kind, seed, most as usize) else {
             eprintln!("no kind '{kind}'");
@@ -63,14 +66,19 @@ pub fn main<L: Library>() {
         ran += 1;
         if let Answer::Refused(r) = &rust {
             *refused.entry(r.number).or_default() += 1;
+        } else if let (Case::Group { lists, size }, "joining") = (&case, &kind[..]) {
+            met.add(&joined(lists, *size));
         }
     }
     let accepted = ran - refused.values().sum::<u64>();
     let causes: Vec<String> = refused.iter().map(|(n, k)| format!("{n} ({k})")).collect();
     let causes = if causes.is_empty() { String::new() } else { format!(", refused by cause {}", causes.join(", ")) };
     println!("{name}, {kind}: {ran} cases from seed {first}, no difference; {accepted} accepted{causes}");
-    if accepted == 0 {
-        println!("{name}, {kind}: no case was accepted, too little was seen");
+    if kind == "joining" {
+        println!("{name}, {kind}: {met}");
+    }
+    if kind == "joining" && !met.above(0) || accepted == 0 {
+        println!("{name}, {kind}: too little was seen");
         std::process::exit(1);
     }
 }

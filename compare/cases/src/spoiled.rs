@@ -62,6 +62,10 @@ impl<L: Library> Library for Spoiled<L> {
         let seen = L::group(g, lists, size);
         spoiled(g, seen)
     }
+    fn group_log(g: &mut Random, lists: &[Vec<u32>], size: usize) -> Result<Seen, String> {
+        let seen = L::group_log(g, lists, size);
+        spoiled(g, seen)
+    }
     fn estimate(g: &mut Random, a: &Csr, diagonal: &[f64]) -> Result<Seen, String> {
         let seen = L::estimate(g, a, diagonal);
         spoiled(g, seen)

@@ -108,6 +108,28 @@ impl Library for OnLists {
         Ok(seen)
     }
 
+    fn group_log(g: &mut Random, lists: &[Vec<u32>], size: usize) -> Result<Seen, String> {
+        let (offsets, neighbours) = flat(lists);
+        let was = (bits(&offsets), bits(&neighbours));
+        let n = lists.len();
+        let (mut ids, mut log) = (Lent::<u32>::roomy(g, n), Lent::<u32>::roomy(g, 3 * n));
+        let (mut work, mut answer) = (Lent::<u32>::roomy(g, 8 * n + 4 * neighbours.len() + 16), Lent::<u64>::roomy(g, 2));
+        let number = unsafe {
+            yelomawin_group_log(
+                n as u64, size as u64, offsets.as_ptr(), offsets.len(), neighbours.as_ptr(), neighbours.len(),
+                ids.ptr(), ids.len(), log.ptr(), log.len(), work.ptr(), work.len(), answer.ptr(), answer.len(),
+            )
+        };
+        let mut seen = Seen::new(number);
+        seen.read("offsets", &was.0, &offsets);
+        seen.read("neighbours", &was.1, &neighbours);
+        seen.lent("ids", Kind::Result, &ids);
+        seen.lent("log", Kind::Result, &log);
+        seen.lent("work", Kind::Work, &work);
+        seen.lent("answer", Kind::Answer, &answer);
+        Ok(seen)
+    }
+
     fn estimate(g: &mut Random, a: &Csr, diagonal: &[f64]) -> Result<Seen, String> {
         let (was, diagonal_was) = (before(a), bits(diagonal));
         let (mut work, mut answer) = (Lent::<f64>::roomy(g, 3 * a.rows), Lent::<u64>::roomy(g, 2));

@@ -15,15 +15,15 @@ pub struct Group {
 }
 
 impl Group {
-    fn needs(&self) -> [u64; 2] {
+    pub fn needs(&self) -> [u64; 2] {
         let (n, e) = (within(self.nodes, ROWS), within(self.neighbours.len() as u64, ENTRIES as u64));
         [n, 8 * n + 4 * e + 16]
     }
-    fn of(size: u64, lists: &[&[u32]]) -> Group {
+    pub fn of(size: u64, lists: &[&[u32]]) -> Group {
         let (offsets, neighbours) = lent::flat(lists);
         Group { nodes: lists.len() as u64, size, offsets: offsets.into(), neighbours: neighbours.into(), ids: Room::More, work: Room::More }
     }
-    fn unlinked(nodes: u64) -> Group {
+    pub fn unlinked(nodes: u64) -> Group {
         Group { nodes, size: 1, offsets: vec![0; nodes as usize + 1].into(), neighbours: vec![].into(), ids: Room::More, work: Room::More }
     }
 }

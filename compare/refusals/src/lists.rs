@@ -1,12 +1,13 @@
 //! How long lent lists are, and lists that a call only reads.
 pub use lent::{Item, Kind, Lent, Random, Seen, bits, odd};
 
-/// How long a list is that the call needs: as long or up to four longer, one too short at entry, or one too short for the coarse part.
+/// How long a list is that the call needs: as long or up to four longer, one too short at entry, one too short for the coarse part, or none.
 #[derive(Clone, Copy, PartialEq, Eq, Debug)]
 pub enum Room {
     More,
     Short,
     CoarseShort,
+    None,
 }
 
 /// Rows, nodes or sizes above their limit are refused before any list is looked at: such a call gets lists as for eight.
@@ -21,6 +22,7 @@ impl Room {
         (match self {
             Room::More => entry + coarse + more,
             Room::Short => entry.saturating_sub(1),
+            Room::None => 0,
             Room::CoarseShort => (entry + coarse).saturating_sub(1),
         }) as usize
     }

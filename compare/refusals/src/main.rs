@@ -11,6 +11,7 @@ mod diagonal;
 mod estimate;
 mod faults;
 mod group;
+mod group_log;
 mod lists;
 mod matrix;
 mod setup;
@@ -23,6 +24,7 @@ use diagonal::Diagonal;
 use estimate::Estimate;
 use faults::{Case, Entry, Fault, Tally, cases, run, unnoticed};
 use group::Group;
+use group_log::GroupLog;
 use lists::Random;
 use setup::Setup;
 use validate::Validate;
@@ -95,6 +97,7 @@ fn main() {
         entry(&task, Blocks::base(), Blocks::faults(), Blocks::cases()),
         entry(&task, BlockApply::base(), BlockApply::faults(), BlockApply::cases()),
         entry(&task, Group::base(), Group::faults(), Group::cases()),
+        entry(&task, GroupLog::base(), GroupLog::faults(), GroupLog::cases()),
         entry(&task, Estimate::base(), Estimate::faults(), Estimate::cases()),
         entry(&task, Setup::base(), Setup::faults(), Setup::cases()),
         entry(&task, Apply::base(), Apply::faults(), Apply::cases()),

@@ -5,7 +5,7 @@ use mathlib.Core.List.{List, [], _∷_, _++_, append-assoc, append-nil}
 use native.Mathlib.Nat.{add-zero}
 use native.Mathlib.Numerals.{add-one}
 use native.Mathlib.Omega.{arith}
-use lib.ListN.{length, getD, set, drop, replicate}
+use lib.ListN.{length, getD, set, drop, replicate, length-set}
 use lib.Seq.{drop-cons, drop-length, set-at}
 use Rattle.definitions.specs.Lists.{tab, padded}
 use Rattle.laws.proofs.Lists.{length-tab}
@@ -17,18 +17,29 @@ unfolding tab
 tab-snoc f zero = refl
 tab-snoc f (suc n) = ap (λ l. f zero ∷ l) (tab-snoc (λ i. f (suc i)) n)
 
-pub tab-none : {A : Type 0} (f : ℕ → A) (d : List A) → d ≡ tab f 0 ++ drop 0 d
-unfolding tab
-tab-none f d = refl
-
-pub tab-more : {A : Type 0} (f : ℕ → A) (i : ℕ) (s d : List A) (v : A) → i < length d → s ≡ tab f i ++ drop i d → v ≡ f i → set s i v ≡ tab f (i + 1) ++ drop (i + 1) d
+tab-more : {A : Type 0} (f : ℕ → A) (i : ℕ) (s d : List A) (v : A) → i < length d → s ≡ tab f i ++ drop i d → v ≡ f i → set s i v ≡ tab f (i + 1) ++ drop (i + 1) d
 tab-more f i s d v l e g =
     rw (e, g, add-one, drop-cons d i v l, set-at (tab f i) (getD d i v) (drop (suc i) d) (f i) i (length-tab f i), tab-snoc f i, append-assoc (tab f i) (f i ∷ []) (drop (suc i) d))
 
--- the loop's end: over what stood there
-pub tab-over : {A : Type 0} (f : ℕ → A) (i n : ℕ) (s d : List A) → i ≡ n → s ≡ tab f i ++ drop i d → s ≡ over (tab f n) d
-unfolding over
-tab-over f i n s d e h = rw (length-tab f n, ← e) h
+-- the first k of n elements stand in the front of a list that has place for them
+pub record Filled {A : Type 0} (f : ℕ → A) (n : ℕ) (lent room : List A) (k : ℕ) : Type 0 where
+  pub within : k ≤ n
+  pub place : n ≤ length lent
+  pub long : length room ≡ length lent
+  pub front : room ≡ tab f k ++ drop k lent
+
+module _ {A : Type 0} {f : ℕ → A} {n : ℕ} {lent : List A} where
+  pub filled-none : n ≤ length lent → Filled f n lent lent 0
+  unfolding tab
+  filled-none h = record { within = omega arith; place = h; long = refl; front = refl }
+
+  pub filled-more : {room : List A} {k : ℕ} {v : A} → Filled f n lent room k → k < n → v ≡ f k → Filled f n lent (set room k v) (k + 1)
+  filled-more {room} {k} {v} t h e = record { within = omega arith; place = t .place; long = simp length-set (t .long); front = tab-more f k room lent v (omega arith) (t .front) e }
+
+  -- the loop's end: over what stood there
+  pub filled-over : {room : List A} {k : ℕ} → Filled f n lent room k → n ≤ k → room ≡ over (tab f n) lent
+  unfolding over
+  filled-over {room} {k} t h = let e : k ≡ n = omega arith in rw (length-tab f n, ← e) (t .front)
 
 module _ {A : Type 0} (z : A) where
   tab-same : (n : ℕ) → tab (λ _. z) n ≡ replicate n z
@@ -42,13 +53,13 @@ module _ {A : Type 0} (z : A) where
   drop-same (suc n) (suc m) = let e : suc m - suc n ≡ m - n = omega arith in rw (e) (drop-same n m)
 
   -- zeros all along
-  pub tab-cleared : (i : ℕ) (s d : List A) → i ≡ length d → s ≡ tab (λ _. z) i ++ drop i d → s ≡ replicate (length d) z
-  tab-cleared i s d e h = rw (h, e, drop-length d, tab-same (length d), append-nil)
+  pub filled-cleared : {lent room : List A} {k : ℕ} → Filled (λ _. z) (length lent) lent room k → length lent ≤ k → room ≡ replicate (length lent) z
+  filled-cleared {lent} {room} {k} t h = let e : k ≡ length lent = omega arith in rw (t .front, e, drop-length lent, tab-same (length lent), append-nil)
 
   -- over zeros
-  pub tab-padded : (f : ℕ → A) (i n m : ℕ) (s d : List A) → i ≡ n → d ≡ replicate m z → s ≡ tab f i ++ drop i d → s ≡ padded z m (tab f n)
+  pub filled-padded : (m : ℕ) {f : ℕ → A} {n : ℕ} {lent room : List A} {k : ℕ} → Filled f n lent room k → n ≤ k → lent ≡ replicate m z → room ≡ padded z m (tab f n)
   unfolding padded
-  tab-padded f i n m s d e g h = rw (h, e, g, length-tab f n, drop-same n m)
+  filled-padded m {f} {n} {lent} {room} {k} t h g = let e : k ≡ n = omega arith in rw (t .front, e, g, length-tab f n, drop-same n m)
 
 -- ---- bytes of one number
 

@@ -110,8 +110,8 @@ fn fill_floats(bytes: &[u8], room: &mut [f64])
 
 // Reads integers into the front of a list; answers whether they fit, and leaves the list as it was where they do not.
 pub fn read_ints(bytes: &[u8], room: &mut [u32]) -> bool
-    ensures { λ r. ⌜ r ≡ readable 4 (length (now (bytes .entry))) (length (now (room .entry))) ⌝ }
-    ensures { λ _. ⌜ now (room .exit) ≡ cond (readable 4 (length (now (bytes .entry))) (length (now (room .entry)))) (over (intsOf (now (bytes .entry))) (now (room .entry))) (now (room .entry)) ⌝ }
+    ensures { λ r. ⌜ (let fits = readable 4 (length (now (bytes .entry))) (length (now (room .entry))) in
+        (r ≡ fits) × (now (room .exit) ≡ cond fits (over (intsOf (now (bytes .entry))) (now (room .entry))) (now (room .entry)))) ⌝ }
 {
     if ints_fit(bytes.len(), room.len()) {
         fill_ints(bytes, room);
@@ -122,8 +122,8 @@ pub fn read_ints(bytes: &[u8], room: &mut [u32]) -> bool
 }
 
 pub fn read_numbers(bytes: &[u8], room: &mut [u64]) -> bool
-    ensures { λ r. ⌜ r ≡ readable 8 (length (now (bytes .entry))) (length (now (room .entry))) ⌝ }
-    ensures { λ _. ⌜ now (room .exit) ≡ cond (readable 8 (length (now (bytes .entry))) (length (now (room .entry)))) (over (numbersOf (now (bytes .entry))) (now (room .entry))) (now (room .entry)) ⌝ }
+    ensures { λ r. ⌜ (let fits = readable 8 (length (now (bytes .entry))) (length (now (room .entry))) in
+        (r ≡ fits) × (now (room .exit) ≡ cond fits (over (numbersOf (now (bytes .entry))) (now (room .entry))) (now (room .entry)))) ⌝ }
 {
     if words_fit(bytes.len(), room.len()) {
         fill_numbers(bytes, room);
@@ -134,8 +134,8 @@ pub fn read_numbers(bytes: &[u8], room: &mut [u64]) -> bool
 }
 
 pub fn read_floats(bytes: &[u8], room: &mut [f64]) -> bool
-    ensures { λ r. ⌜ r ≡ readable 8 (length (now (bytes .entry))) (length (now (room .entry))) ⌝ }
-    ensures { λ _. ⌜ now (room .exit) ≡ cond (readable 8 (length (now (bytes .entry))) (length (now (room .entry)))) (over (floatsOf (now (bytes .entry))) (now (room .entry))) (now (room .entry)) ⌝ }
+    ensures { λ r. ⌜ (let fits = readable 8 (length (now (bytes .entry))) (length (now (room .entry))) in
+        (r ≡ fits) × (now (room .exit) ≡ cond fits (over (floatsOf (now (bytes .entry))) (now (room .entry))) (now (room .entry)))) ⌝ }
 {
     if words_fit(bytes.len(), room.len()) {
         fill_floats(bytes, room);
@@ -231,8 +231,8 @@ fn spell_floats(list: &[f64], bytes: &mut [u8])
 
 // Writes a list of integers into a byte list, zeros after them; answers whether it fits, and leaves the bytes as they were where it does not.
 pub fn write_ints(list: &[u32], bytes: &mut [u8]) -> bool
-    ensures { λ r. ⌜ r ≡ writable 4 (length (now (list .entry))) (length (now (bytes .entry))) ⌝ }
-    ensures { λ _. ⌜ now (bytes .exit) ≡ cond (writable 4 (length (now (list .entry))) (length (now (bytes .entry)))) (padded 0 (length (now (bytes .entry))) (bytesOfInts (now (list .entry)))) (now (bytes .entry)) ⌝ }
+    ensures { λ r. ⌜ (let fits = writable 4 (length (now (list .entry))) (length (now (bytes .entry))) in
+        (r ≡ fits) × (now (bytes .exit) ≡ cond fits (padded 0 (length (now (bytes .entry))) (bytesOfInts (now (list .entry)))) (now (bytes .entry)))) ⌝ }
 {
     if holds_ints(list.len(), bytes.len()) {
         spell_ints(list, bytes);
@@ -243,8 +243,8 @@ pub fn write_ints(list: &[u32], bytes: &mut [u8]) -> bool
 }
 
 pub fn write_numbers(list: &[u64], bytes: &mut [u8]) -> bool
-    ensures { λ r. ⌜ r ≡ writable 8 (length (now (list .entry))) (length (now (bytes .entry))) ⌝ }
-    ensures { λ _. ⌜ now (bytes .exit) ≡ cond (writable 8 (length (now (list .entry))) (length (now (bytes .entry)))) (padded 0 (length (now (bytes .entry))) (bytesOfNumbers (now (list .entry)))) (now (bytes .entry)) ⌝ }
+    ensures { λ r. ⌜ (let fits = writable 8 (length (now (list .entry))) (length (now (bytes .entry))) in
+        (r ≡ fits) × (now (bytes .exit) ≡ cond fits (padded 0 (length (now (bytes .entry))) (bytesOfNumbers (now (list .entry)))) (now (bytes .entry)))) ⌝ }
 {
     if holds_words(list.len(), bytes.len()) {
         spell_numbers(list, bytes);
@@ -255,8 +255,8 @@ pub fn write_numbers(list: &[u64], bytes: &mut [u8]) -> bool
 }
 
 pub fn write_floats(list: &[f64], bytes: &mut [u8]) -> bool
-    ensures { λ r. ⌜ r ≡ writable 8 (length (now (list .entry))) (length (now (bytes .entry))) ⌝ }
-    ensures { λ _. ⌜ now (bytes .exit) ≡ cond (writable 8 (length (now (list .entry))) (length (now (bytes .entry)))) (padded 0 (length (now (bytes .entry))) (bytesOfFloats (now (list .entry)))) (now (bytes .entry)) ⌝ }
+    ensures { λ r. ⌜ (let fits = writable 8 (length (now (list .entry))) (length (now (bytes .entry))) in
+        (r ≡ fits) × (now (bytes .exit) ≡ cond fits (padded 0 (length (now (bytes .entry))) (bytesOfFloats (now (list .entry)))) (now (bytes .entry)))) ⌝ }
 {
     if holds_words(list.len(), bytes.len()) {
         spell_floats(list, bytes);

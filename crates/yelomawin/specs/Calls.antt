@@ -9,10 +9,11 @@ use Rattle.definitions.specs.Matrix.{Matrix}
 use Rattle.definitions.specs.Diagonal.{diagonalCall, diagonalLeft}
 use Rattle.definitions.specs.Block.{blocksCall, blocksLeft, blockApplyCall, blockApplyLeft}
 use Rattle.definitions.specs.Groups.{groupingCall, groupingLeft, groupingWorkLeft}
+use Rattle.definitions.specs.JoiningLog.{groupingLogCall, groupingIn, logLeft}
 use Rattle.definitions.specs.Estimate.{estimateCall, estimateWorkLeft}
 use Rattle.definitions.specs.Setup.{Lent, setupOf, setupLeft, lengthsOf}
 use Rattle.definitions.specs.Apply.{applyCall}
-use Rattle.definitions.specs.Answers.{answerOf, answerNumber, answerValues, groupingAnswer, groupingNumber, groupingValues, estimateAnswer, estimateNumber, estimateValues, setupAnswer, setupNumber, setupValues}
+use Rattle.definitions.specs.Answers.{answerOf, answerNumber, answerValues, groupingAnswer, groupingNumber, groupingValues, groupingLogAnswer, groupingLogNumber, groupingLogValues, estimateAnswer, estimateNumber, estimateValues, setupAnswer, setupNumber, setupValues}
 use Rattle.definitions.specs.Record.{arePolicies, recordOf, isRecord}
 use Rattle.definitions.specs.declared.Refusal.the-variants.{SetupMisfit}
 use Rattle.yelomawin.specs.Boundary.{received, optionsOf, whether, noPolicy}
@@ -33,6 +34,15 @@ pub record ResultWork (A : Type 0) : Type 0 where
 abbrev pub resultWork : {A : Type 0} → List A → List A → ResultWork A
 resultWork result work = record { result = result; work = work }
 
+-- the lists that grouping with a log is lent for writing
+pub record LogLists : Type 0 where
+  pub ids : List ℕ
+  pub log : List ℕ
+  pub work : List ℕ
+
+abbrev pub logLists : List ℕ → List ℕ → List ℕ → LogLists
+logLists ids log work = record { ids = ids; log = log; work = work }
+
 -- a call that returns nothing where it is accepted
 unfoldable pub exported : {A L : Type 0} → Outcome A → L → List ℕ → Handed L
 exported o lists answer = handed (answerNumber (answerOf o)) lists (received (answerValues (answerOf o)) answer)
@@ -50,6 +60,14 @@ unfoldable pub exportedGroup : ℕ → ℕ → List ℕ → List ℕ → List �
 exportedGroup nodes size offsets neighbours ids work answer =
     let g = groupingCall nodes size offsets neighbours (length ids) (length work) in
     handed (groupingNumber (groupingAnswer g)) (resultWork (groupingLeft g ids) (groupingWorkLeft g work)) (received (groupingValues (groupingAnswer g)) answer)
+
+unfoldable pub exportedGroupLog : ℕ → ℕ → List ℕ → List ℕ → LogLists → List ℕ → Handed LogLists
+exportedGroupLog nodes size offsets neighbours lent answer =
+    let g = groupingLogCall nodes size offsets neighbours (length (lent .ids)) (length (lent .log)) (length (lent .work)) in
+    handed
+    (groupingLogNumber (groupingLogAnswer g))
+    (logLists (groupingLeft (groupingIn g) (lent .ids)) (logLeft g (lent .log)) (groupingWorkLeft (groupingIn g) (lent .work)))
+    (received (groupingLogValues (groupingLogAnswer g)) answer)
 
 unfoldable pub exportedEstimate : Matrix → List Float → List Float → List ℕ → Handed (List Float)
 exportedEstimate a d work answer =

@@ -5,7 +5,7 @@ ghost use Rattle.definitions.specs.Numbers.{rootᶠ};
 ghost use Rattle.definitions.specs.Matrix.{csr, validOf};
 ghost use Rattle.two_level_setup.specs.Contracts.{lentOf};
 ghost use Rattle.definitions.specs.Answers.{answerOf, answerNumber};
-ghost use Rattle.yelomawin.specs.Calls.{handed, resultWork, exportedDiagonal, exportedBlocks, exportedBlockApply, exportedGroup, exportedEstimate, exportedSetup, exportedApply};
+ghost use Rattle.yelomawin.specs.Calls.{handed, resultWork, logLists, exportedDiagonal, exportedBlocks, exportedBlockApply, exportedGroup, exportedGroupLog, exportedEstimate, exportedSetup, exportedApply};
 
 mod answers;
 mod record;
@@ -126,6 +126,32 @@ pub extern "C" fn yelomawin_group(
         work,
     );
     told::grouping(a, answer)
+}
+
+#[no_mangle]
+pub extern "C" fn yelomawin_group_log(
+    nodes: u64,
+    group_size: u64,
+    offsets: &[u32],
+    neighbours: &[u32],
+    ids: &mut [u32],
+    log: &mut [u32],
+    work: &mut [u32],
+    answer: &mut [u64],
+) -> u64
+    ensures { λ r. ⌜ handed r (logLists (now (ids .exit)) (now (log .exit)) (now (work .exit))) (now (answer .exit))
+        ≡ exportedGroupLog nodes «group_size» (now (offsets .entry)) (now (neighbours .entry)) (logLists (now (ids .entry)) (now (log .entry)) (now (work .entry))) (now (answer .entry)) ⌝ }
+{
+    let a = aggregates::group_log(
+        nodes as usize,
+        group_size as usize,
+        offsets,
+        neighbours,
+        ids,
+        log,
+        work,
+    );
+    told::grouping_log(a, answer)
 }
 
 #[no_mangle]

@@ -4,10 +4,11 @@ use crate::record;
 use definitions::Answer;
 use definitions::EstimateAnswer;
 use definitions::GroupingAnswer;
+use definitions::GroupingLogAnswer;
 use definitions::SetupAnswer;
 use float_bits::bits_of;
 ghost use mathlib.Core.Path.{_≡_};
-ghost use Rattle.definitions.specs.Answers.{answerNumber, answerValues, groupingNumber, groupingValues, estimateNumber, estimateValues, setupNumber, setupValues};
+ghost use Rattle.definitions.specs.Answers.{answerNumber, answerValues, groupingNumber, groupingValues, groupingLogNumber, groupingLogValues, estimateNumber, estimateValues, setupNumber, setupValues};
 ghost use Rattle.yelomawin.specs.Boundary.{received};
 
 pub(crate) fn number(answer: Answer) -> u64
@@ -42,6 +43,19 @@ pub(crate) fn grouping(answer: GroupingAnswer, list: &mut [u64]) -> u64
             0
         }
         GroupingAnswer::Refused(cause) => answers::refuse(cause, list),
+    }
+}
+
+pub(crate) fn grouping_log(answer: GroupingLogAnswer, list: &mut [u64]) -> u64
+    ensures { λ r. ⌜ r ≡ groupingLogNumber answer ⌝ }
+    ensures { λ _. ⌜ now (list .exit) ≡ received (groupingLogValues answer) (now (list .entry)) ⌝ }
+{
+    match answer {
+        GroupingLogAnswer::Logged { groups, joinings } => {
+            answers::receive(list, groups, joinings);
+            0
+        }
+        GroupingLogAnswer::Refused(cause) => answers::refuse(cause, list),
     }
 }
 

@@ -1,3 +1,4 @@
 pub mod Tests
 pub mod Carried
 pub mod Handing
+pub mod Reading

@@ -1,12 +1,14 @@
 -- The calls on byte lists: inputs are read from their bytes into typed rooms, the call on typed lists is made, and what it yields is written into bytes.
 -- An input is bytes, with room for the numbers that they spell; a result is room, as long as the call is to believe it is, with bytes for all of it.
 use Prim.Native.Nat.{ℕ}
+use mathlib.Core.Path.{_≡_}
 use mathlib.Core.Bool.{Bool, cond, _&&_}
 use mathlib.Core.List.{List}
 use lib.Ieee.{Float}
 use lib.ListN.{length, replicate}
 use Rattle.byte_lists.specs.Bytes.{intsOf, floatsOf, bytesOfInts, bytesOfNumbers, readable, writable}
 use Rattle.definitions.specs.Lists.{padded}
+use Rattle.definitions.specs.Numbers.{zeroᶠ}
 use Rattle.definitions.specs.Refusal.{Outcome, done, _>>=_, resultLeft}
 use Rattle.definitions.specs.Matrix.{Matrix, csr}
 use Rattle.definitions.specs.Groups.{Grouping, groupingLeft}
@@ -51,3 +53,25 @@ idsLeft g bytes = groupingLeft (g >>= (λ x. done (record { ids = bytesOfInts (x
 -- an answer's bytes: its values, as far as its room has place for them, and zeros
 unfoldable pub answerLeft : List ℕ → List ℕ → List ℕ → List ℕ
 answerLeft values room bytes = padded 0 (length bytes) (bytesOfNumbers (received values room))
+
+-- ---- rooms and bytes after a call, by whether it is made
+
+-- the rooms of a matrix are emptied
+pub record MatrixEmptied (made : Bool) (rows cols : List ℕ) (values : List Float) (rows' cols' : List ℕ) (values' : List Float) : Type 0 where
+  pub rowRoom : rows' ≡ after made (emptied 0) rows
+  pub colRoom : cols' ≡ after made (emptied 0) cols
+  pub valueRoom : values' ≡ after made (emptied zeroᶠ) values
+
+-- two rooms of inputs are emptied
+pub record BothEmptied {A : Type 0} (made : Bool) (z : A) (xs ys xs' ys' : List A) : Type 0 where
+  pub first : xs' ≡ after made (emptied z) xs
+  pub second : ys' ≡ after made (emptied z) ys
+
+-- a result's room and its bytes, each by what the call leaves in such a list
+pub record ResultLeft {A : Type 0} (made : Bool) (left : List A → List A) (leftBytes : List ℕ → List ℕ) (room : List A) (bytes : List ℕ) (room' : List A) (bytes' : List ℕ) : Type 0 where
+  pub inRoom : room' ≡ after made left room
+  pub inBytes : bytes' ≡ after made leftBytes bytes
+
+-- an answer's room is emptied, and its bytes are its values
+abbrev pub AnswerLeft : Bool → List ℕ → List ℕ → List ℕ → List ℕ → List ℕ → Type 0
+AnswerLeft made values room bytes room' bytes' = ResultLeft made (emptied 0) (answerLeft values room) room bytes room' bytes'

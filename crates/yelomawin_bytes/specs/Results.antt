@@ -1,8 +1,11 @@
 -- What setup and apply on byte lists return, and leave in the bytes of their results. `fits` says that every byte list is of whole numbers and has its room.
 use Prim.Native.Nat.{ℕ}
+use mathlib.Core.Path.{_≡_}
 use mathlib.Core.Bool.{Bool, cond, _&&_}
 use mathlib.Core.List.{List, []}
 use Rattle.byte_lists.specs.Bytes.{intsOf, numbersOf, floatsOf, bytesOfInts, bytesOfFloats}
+use Rattle.definitions.specs.Numbers.{zeroᶠ}
+use Rattle.definitions.specs.Refusal.{Outcome, workLeft}
 use Rattle.definitions.specs.Matrix.{Matrix}
 use Rattle.definitions.specs.Setup.{Lent, Built, setupOf, lengthsOf}
 use Rattle.definitions.specs.Apply.{applyCall}
@@ -43,3 +46,10 @@ bytesApply fits numbers ints floats residual room workRoom correction =
       number = cond fits (whether known (answerNumber (answerOf o)) 26) misfit;
       correction = after (fits && known) (bytesLeft bytesOfFloats o) correction;
     }
+
+-- the rooms of the setup lists, and the work lists, are all work lists of the call
+pub record LentLeft (made : Bool) (s : Outcome Built) (lent left : Lent) : Type 0 where
+  pub ints : left .ints ≡ after made (workLeft 0 s) (lent .ints)
+  pub floats : left .floats ≡ after made (workLeft zeroᶠ s) (lent .floats)
+  pub workInts : left .workInts ≡ after made (workLeft 0 s) (lent .workInts)
+  pub workFloats : left .workFloats ≡ after made (workLeft zeroᶠ s) (lent .workFloats)

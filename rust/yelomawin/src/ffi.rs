@@ -25,6 +25,10 @@ unsafe extern "C" {
         nodes: u64, group_size: u64, offsets: *const u32, offsets_len: usize, neighbours: *const u32, neighbours_len: usize,
         ids: *mut u32, ids_len: usize, work: *mut u32, work_len: usize, answer: *mut u64, answer_len: usize,
     ) -> u64;
+    pub fn yelomawin_group_log(
+        nodes: u64, group_size: u64, offsets: *const u32, offsets_len: usize, neighbours: *const u32, neighbours_len: usize,
+        ids: *mut u32, ids_len: usize, log: *mut u32, log_len: usize, work: *mut u32, work_len: usize, answer: *mut u64, answer_len: usize,
+    ) -> u64;
     pub fn yelomawin_estimate(
         rows: u64, cols: u64,
         row_ptr: *const u32, row_ptr_len: usize, col_idx: *const u32, col_idx_len: usize, values: *const f64, values_len: usize,

@@ -39,7 +39,7 @@ mod refusal;
 mod setup;
 
 pub use blocks::BlockJacobi;
-pub use grouping::{group, group_in};
+pub use grouping::{Grouping, Joining, Rule, group, group_in, group_log, group_log_in};
 pub use lengths::{Lengths, lengths};
 pub use matrix::{Estimate, Matrix};
 pub use record::{Layout, RECORD, Record};

@@ -69,6 +69,7 @@ causes! {
     26 SetupMisfit "the setup's record and its lists do not fit each other"
     27 NeighbourOffsets "the neighbour offsets must be one more than the nodes, begin at 0, never fall and end at the number of neighbours"
     28 NeighbourOutside "a neighbour is not below the number of nodes: nodes count from 0"
+    29 LogTooShort "the list for the log of joinings must have three elements for each node (only callers from C can meet this)"
     255 NoPolicy "a number given for a policy names none (only callers from C can meet this)"
 }
 
@@ -78,7 +79,7 @@ impl std::error::Error for Refusal {}
 pub(crate) fn answered(number: u64, values: &[u64]) -> Result<(), Refusal> {
     match number {
         0 => Ok(()),
-        n => Err(Refusal::from_number(n, values).expect("the library answers 0, 1 to 28 or 255")),
+        n => Err(Refusal::from_number(n, values).expect("the library answers 0, 1 to 29 or 255")),
     }
 }
 
@@ -88,13 +89,13 @@ mod tests {
 
     #[test]
     fn every_number_has_its_message() {
-        for n in (1..=28).chain([255]) {
+        for n in (1..=29).chain([255]) {
             let r = Refusal::from_number(n, &[7, 9]).unwrap();
             assert_eq!(r.number(), n);
             let said = r.to_string();
             assert!(said.ends_with(&format!(" (cause {n})")) && !said.contains('{'), "{said}");
         }
-        for n in [0, 29, 254, 256, u64::MAX] {
+        for n in [0, 30, 254, 256, u64::MAX] {
             assert_eq!(Refusal::from_number(n, &[]), None);
         }
     }

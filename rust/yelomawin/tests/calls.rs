@@ -68,6 +68,80 @@ fn numbers_above_the_limits_are_refused_and_nothing_overflows() {
     assert_eq!(group(1, &[0, 1], &[1]), Err(Refusal::NeighbourOutside));
 }
 
+/// Paths one after the other, then single nodes with what they list: offsets and neighbours.
+fn graph(paths: &[u32], more: &[&[u32]]) -> (Vec<u32>, Vec<u32>) {
+    let mut lists: Vec<Vec<u32>> = Vec::new();
+    for &n in paths {
+        let first = lists.len() as u32;
+        lists.extend((0..n).map(|v| [v.wrapping_sub(1), v + 1].into_iter().filter(|&w| w < n).map(|w| first + w).collect()));
+    }
+    lists.extend(more.iter().map(|l| l.to_vec()));
+    let mut offsets = vec![0];
+    lists.iter().for_each(|l| offsets.push(offsets[offsets.len() - 1] + l.len() as u32));
+    (offsets, lists.concat())
+}
+
+#[test]
+fn logs_of_joinings() {
+    use Rule::*;
+    let logged = |size: usize, paths: &[u32], more: &[&[u32]], log: &[(u32, u32, Rule)]| {
+        let (offsets, neighbours) = graph(paths, more);
+        let grouping = group_log(size, &offsets, &neighbours).unwrap();
+        let joinings: Vec<Joining> = log.iter().map(|&(moved, taker, rule)| Joining { moved, taker, rule }).collect();
+        assert_eq!(grouping.joinings, joinings);
+        // The groups are those without a log.
+        assert_eq!((grouping.groups, grouping.ids), group(size, &offsets, &neighbours).unwrap());
+    };
+    logged(2, &[5], &[], &[]);
+    logged(8, &[9], &[], &[(1, 0, OnlyOneNamed)]);
+    logged(8, &[8, 7], &[&[3, 11]], &[(2, 1, FewerMembers)]);
+    logged(8, &[8, 7], &[&[3, 3, 11]], &[(2, 0, MostEdges)]);
+    logged(8, &[8, 8], &[&[3, 11]], &[(2, 0, LowerId)]);
+    logged(16, &[16], &[&[], &[16, 16, 3]], &[(2, 1, MostEdges), (1, 0, OnlyOneNamed)]);
+    let six: [&[u32]; 6] = [&[0], &[2], &[], &[0], &[], &[4, 3, 1]];
+    logged(20, &[], &six, &[(2, 0, OnlyOneNamed), (4, 3, FewerMembers), (3, 0, LowerId), (0, 1, OnlyOneNamed)]);
+    assert_eq!(group_log(0, &[0, 0], &[]), Err(Refusal::GroupSize));
+    assert_eq!(group_log(1, &[0], &[]), Err(Refusal::NoNode));
+    assert_eq!(group_log(1, &[], &[]), Err(Refusal::NeighbourOffsets));
+    assert_eq!(group_log(1, &[0, 1], &[1]), Err(Refusal::NeighbourOutside));
+    assert_eq!(group_log(1, &vec![0; MOST_ROWS + 2], &[]), Err(Refusal::TooLarge));
+}
+
+#[test]
+fn logs_in_lists_of_ones_own() {
+    let (offsets, neighbours) = graph(&[9], &[]);
+    let (mut ids, mut log, mut work) = (Vec::new(), vec![7; 100], Vec::new());
+    assert_eq!(group_log_in(8, &offsets, &neighbours, &mut ids, &mut log, &mut work), Ok((1, 1)));
+    assert_eq!((ids, &log[..3], &log[3..]), (vec![0; 9], &[1, 0, 1][..], &[0; 24][..]));
+    assert!(work.iter().all(|&x| x == 0));
+    let joining = Joining { moved: 2, taker: 0, rule: Rule::MostEdges };
+    assert_eq!(joining.to_string(), "group 2 joins group 0: most edges");
+    assert_eq!([0, 1, 4, 5].map(Rule::from_number), [None, Some(Rule::OnlyOneNamed), Some(Rule::LowerId), None]);
+}
+
+/// A log that is one too short is 29, and leaves every list; a work list that is too short is found before it.
+#[test]
+fn a_log_that_is_too_short() {
+    let (offsets, neighbours) = graph(&[9], &[]);
+    for (log, work, cause) in [(27, 152, 0), (26, 152, 29), (0, 152, 29), (26, 151, 13)] {
+        let (mut ids, mut log, mut work, mut answer) = (vec![7; 9], vec![7; log], vec![7; work], [7; 2]);
+        // Sound: every list is lent with its length.
+        let number = unsafe {
+            ffi::yelomawin_group_log(
+                9, 8, offsets.as_ptr(), offsets.len(), neighbours.as_ptr(), neighbours.len(), ids.as_mut_ptr(), ids.len(),
+                log.as_mut_ptr(), log.len(), work.as_mut_ptr(), work.len(), answer.as_mut_ptr(), answer.len(),
+            )
+        };
+        assert_eq!(number, cause);
+        if cause != 0 {
+            assert!(answer == [0; 2] && [ids, log, work].concat().iter().all(|&x| x == 7));
+        }
+    }
+    let refused = Refusal::from_number(29, &[]).unwrap();
+    assert_eq!(refused, Refusal::LogTooShort);
+    assert!(refused.to_string().contains("three elements for each node"), "{refused}");
+}
+
 #[test]
 fn coarse_dimension_above_the_limit() {
     let n = 2049;

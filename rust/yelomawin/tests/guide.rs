@@ -1,12 +1,23 @@
-//! docs/USING.md shows the crate's first example, which is run with its documentation.
+//! docs/USING.md shows the crate's first example and that of a log, which are run with its documentation.
+
+/// The example of a documentation comment that contains some text, without its hidden lines, as the guide indents it.
+fn example(source: &str, mark: &str, with: &str) -> String {
+    let fence = format!("{mark} ```");
+    let lines: Vec<&str> = source.lines().collect();
+    let mut examples = lines.split(|l| *l == fence).skip(1).step_by(2);
+    let found = examples.find(|e| e.iter().any(|l| l.contains(with))).expect("an example");
+    let shown = found.iter().filter(|l| !l.starts_with(&format!("{mark} #"))).map(|l| match l.strip_prefix(mark) {
+        Some("") | None => "\n".into(),
+        Some(code) => format!("   {code}\n"),
+    });
+    shown.collect()
+}
 
 #[test]
-fn the_guide_shows_the_example() {
-    let lines = include_str!("../src/lib.rs").lines().skip_while(|l| *l != "//! ```").skip(1).take_while(|l| *l != "//! ```");
-    let shown = lines.filter(|l| !l.starts_with("//! #")).map(|l| match l.strip_prefix("//! ") {
-        Some(code) => format!("    {code}\n"),
-        None => "\n".into(),
-    });
-    let example: String = shown.collect();
-    assert!(example.contains("Setup::build") && include_str!("../../../docs/USING.md").contains(&example), "{example}");
+fn the_guide_shows_the_examples() {
+    let guide = include_str!("../../../docs/USING.md");
+    let first = example(include_str!("../src/lib.rs"), "//!", "Setup::build");
+    assert!(guide.contains(&first), "{first}");
+    let log = example(include_str!("../src/grouping.rs"), "///", "group_log");
+    assert!(guide.contains(&log), "{log}");
 }

@@ -1,32 +1,30 @@
 -- Float k is filled in from its pattern; the bytes are read whole.
-use mathlib.Core.Path.{_≡_, refl, ap, _∙_}
-use mathlib.Core.List.{_++_}
-use Prim.Native.Nat.{_-_, _/_, _<_, _≤_}
-use native.Mathlib.Omega.{arith}
+use Prim.Native.Nat.{_-_, _/_}
+use mathlib.Core.Path.{ap, _∙_}
 use lib.Ieee.{binary64, ofBits}
-use lib.ListN.{length, drop, length-set}
-use Rattle.definitions.specs.Lists.{tab}
+use lib.ListN.{length}
 use Rattle.byte_lists.specs.Bytes.{wordAt, floatsOf}
-use Rattle.byte_lists.proofs.Filling.{tab-none, tab-more, tab-over}
+use native.Mathlib.Omega.{arith}
 use borrow.Author.Needs.{needs}
+use Rattle.byte_lists.proofs.Filling.{Filled, filled-none, filled-more, filled-over}
 use Rattle.byte_lists.proofs.fill_floats.Statement.{statement}
 use Rattle.byte_lists.proofs.fill_floats.Tie as tie
 
 abbrev Inv-loop : tie.InvT-loop
-Inv-loop bytes room₀ n k₀ room k = (n ≡ length bytes / 8) × (k ≤ n) × (n ≤ length room₀) × (length room ≡ length room₀) × (room ≡ tab (λ i. ofBits binary64 (wordAt 8 bytes i)) k ++ drop k room₀)
+Inv-loop bytes room₀ n k₀ room k = Filled (λ i. ofBits binary64 (wordAt 8 bytes i)) (length bytes / 8) room₀ room k
 
 abbrev μ-loop : tie.MeasureT-loop
 μ-loop bytes room₀ n k₀ room k = n - k
 
 loop-holds : tie.Need-loop-holds Inv-loop μ-loop
-loop-holds c = (refl, omega arith, omega arith, refl, tab-none _ _)
+loop-holds c = filled-none (omega arith)
 
 loop-again : tie.Need-loop-again Inv-loop μ-loop
-loop-again c = let l = c .before .before .before .loop in let a = c .before .before .before .before .before .before .args in let h : l .k < length (a .room .now) = omega arith in (refl, omega arith, omega arith, simp length-set (l .inv .3), tab-more (λ i. ofBits binary64 (wordAt 8 (a .bytes .now) i)) (l .k) (l .room) (a .room .now) _ h (l .inv .4) (c .of-bits .ensures ∙ ap (ofBits binary64) (c .before .number-at .ensures)))
+loop-again c = filled-more (c .before .before .before .loop .inv) (omega arith) (c .of-bits .ensures ∙ ap (ofBits binary64) (c .before .number-at .ensures))
 
 returns : tie.Need-returns Inv-loop μ-loop
 unfolding floatsOf
-returns c = let l = c .before .loop in let a = c .before .before .before .before .args in let h : l .k ≡ length (a .bytes .now) / 8 = omega arith in tab-over (λ i. ofBits binary64 (wordAt 8 (a .bytes .now) i)) (l .k) (length (a .bytes .now) / 8) (l .room) (a .room .now) h (l .inv .4)
+returns c = filled-over (c .before .loop .inv) (omega arith)
 
 pub fill-floats-spec : {M : Type 1} → statement M
 fill-floats-spec =

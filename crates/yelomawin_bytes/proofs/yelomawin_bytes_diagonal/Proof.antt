@@ -1,139 +1,65 @@
 -- What is read stands in the front of its room; what the call yields is handed out; the rooms are cleared.
-use mathlib.Core.Path.{refl, sym, _∙_}
-use mathlib.Core.Bool.{true}
-use Rattle.byte_lists.proofs.Laws.{ints-front, ints-fit, ints-count, floats-front, floats-fit, floats-count}
-use Rattle.definitions.specs.Numbers.{zeroᶠ}
+use mathlib.Core.Path.{refl}
+use mathlib.Core.Bool.{false}
 use Rattle.definitions.specs.Diagonal.{diagonalLeft}
-use Rattle.yelomawin.specs.Boundary.{whether}
 use Rattle.yelomawin.specs.Calls.{exportedDiagonal, exported}
 use Rattle.yelomawin.proofs.Handing.{parts}
 use Rattle.yelomawin_bytes.specs.Calls.{writes}
-use Rattle.yelomawin_bytes.proofs.Tests.{two, three}
-use Rattle.yelomawin_bytes.proofs.Handing.{no-record, floats-out, answer-out, emptied-out}
+use Rattle.yelomawin_bytes.proofs.Tests.{two, three, tested, passed}
+use Rattle.yelomawin_bytes.proofs.Handing.{told, matrix-emptied, matrix-kept, floats-told, answer-told, result-kept}
+use borrow.Author.Needs.{needs}
 use Rattle.yelomawin_bytes.proofs.yelomawin_bytes_diagonal.Statement.{statement}
 use Rattle.yelomawin_bytes.proofs.yelomawin_bytes_diagonal.Tie as tie
 
-matrix-requires : tie.Need-matrix-requires
-matrix-requires c κs = tt
-
-floats-requires : tie.Need-floats-requires
-floats-requires c κs = tt
-
 read-matrix-requires : tie.Need-read-matrix-requires
-read-matrix-requires c κs = three _ _ _ (sym (c .before .before .before .before .before .before .matrix .ensures) ∙ c .before .before .before .before .before .if1 .taken)
-
-slice-reshare-prefix-yelomawin-diagonal : tie.Need-slice-reshare-prefix-yelomawin-diagonal
-slice-reshare-prefix-yelomawin-diagonal c = ints-fit _ _ _ (c .before .before .before .before .before .before .read-matrix .ensures .0)
-
-slice-aggregate-yelomawin-diagonal : tie.Need-slice-aggregate-yelomawin-diagonal
-slice-aggregate-yelomawin-diagonal c = ints-count _ _ _ (c .before .before .before .before .before .before .before .read-matrix .ensures .0)
-
-slice-reshare-prefix-yelomawin-diagonal-2 : tie.Need-slice-reshare-prefix-yelomawin-diagonal-2
-slice-reshare-prefix-yelomawin-diagonal-2 c = ints-fit _ _ _ (c .before .before .before .before .before .before .before .read-matrix .ensures .1 .0)
-
-slice-aggregate-yelomawin-diagonal-2 : tie.Need-slice-aggregate-yelomawin-diagonal-2
-slice-aggregate-yelomawin-diagonal-2 c = ints-count _ _ _ (c .before .before .before .before .before .before .before .before .read-matrix .ensures .1 .0)
-
-slice-reshare-prefix-yelomawin-diagonal-3 : tie.Need-slice-reshare-prefix-yelomawin-diagonal-3
-slice-reshare-prefix-yelomawin-diagonal-3 c = floats-fit _ _ _ (c .before .before .before .before .before .before .before .before .read-matrix .ensures .1 .1)
-
-slice-aggregate-yelomawin-diagonal-3 : tie.Need-slice-aggregate-yelomawin-diagonal-3
-slice-aggregate-yelomawin-diagonal-3 c = floats-count _ _ _ (c .before .before .before .before .before .before .before .before .before .read-matrix .ensures .1 .1)
-
-yelomawin-diagonal-requires : tie.Need-yelomawin-diagonal-requires
-yelomawin-diagonal-requires c κs = tt
-
-clear-matrix-requires : tie.Need-clear-matrix-requires
-clear-matrix-requires c κs = tt
-
-leaves-all-requires : tie.Need-leaves-all-requires
-leaves-all-requires c κs = tt
-
-hand-floats-requires : tie.Need-hand-floats-requires
-hand-floats-requires c κs = rw (c .before .before .before .before .before .before .before .before .before .before .before .before .before .before .before .before .diagonal-room .given) (two (writes 8 (c .before .before .before .before .before .before .before .before .before .before .before .before .before .before .before .before .before .before .before .before .before .before .before .before .before .before .before .before .before .before .before .before .before .before .before .before .before .before .before .before .before .before .before .before .before .before .before .args .diagonal-room .now) (c .before .before .before .before .before .before .before .before .before .before .before .before .before .before .before .before .before .before .before .before .before .before .before .before .before .before .before .before .before .before .before .before .before .before .before .before .before .before .before .before .before .before .before .before .before .before .before .args .diagonal .now)) (writes 8 (c .before .before .before .before .before .before .before .before .before .before .before .before .before .before .before .before .before .before .before .before .before .before .before .before .before .before .before .before .before .before .before .before .before .before .before .before .before .before .before .before .before .before .before .before .before .before .before .args .answer-room .now) (c .before .before .before .before .before .before .before .before .before .before .before .before .before .before .before .before .before .before .before .before .before .before .before .before .before .before .before .before .before .before .before .before .before .before .before .before .before .before .before .before .before .before .before .before .before .before .before .args .answer .now)) (sym (c .before .before .before .before .before .before .before .before .before .before .before .before .before .before .before .before .before .before .before .before .before .before .before .before .before .before .before .before .before .before .before .before .before .before .floats .ensures) ∙ c .before .before .before .before .before .before .before .before .before .before .before .before .before .before .before .before .before .before .before .before .before .before .before .before .before .before .before .before .before .before .before .before .before .if2 .taken) .0)
-
-hand-answer-requires : tie.Need-hand-answer-requires
-hand-answer-requires c κs = rw (c .before .before .before .before .before .before .before .before .before .before .before .before .before .before .before .before .before .before .before .before .before .answer-room .given) (two (writes 8 (c .before .before .before .before .before .before .before .before .before .before .before .before .before .before .before .before .before .before .before .before .before .before .before .before .before .before .before .before .before .before .before .before .before .before .before .before .before .before .before .before .before .before .before .before .before .before .before .before .before .before .before .before .before .before .args .diagonal-room .now) (c .before .before .before .before .before .before .before .before .before .before .before .before .before .before .before .before .before .before .before .before .before .before .before .before .before .before .before .before .before .before .before .before .before .before .before .before .before .before .before .before .before .before .before .before .before .before .before .before .before .before .before .before .before .before .args .diagonal .now)) (writes 8 (c .before .before .before .before .before .before .before .before .before .before .before .before .before .before .before .before .before .before .before .before .before .before .before .before .before .before .before .before .before .before .before .before .before .before .before .before .before .before .before .before .before .before .before .before .before .before .before .before .before .before .before .before .before .before .args .answer-room .now) (c .before .before .before .before .before .before .before .before .before .before .before .before .before .before .before .before .before .before .before .before .before .before .before .before .before .before .before .before .before .before .before .before .before .before .before .before .before .before .before .before .before .before .before .before .before .before .before .before .before .before .before .before .before .before .args .answer .now)) (sym (c .before .before .before .before .before .before .before .before .before .before .before .before .before .before .before .before .before .before .before .before .before .before .before .before .before .before .before .before .before .before .before .before .before .before .before .before .before .before .before .before .before .floats .ensures) ∙ c .before .before .before .before .before .before .before .before .before .before .before .before .before .before .before .before .before .before .before .before .before .before .before .before .before .before .before .before .before .before .before .before .before .before .before .before .before .before .before .before .if2 .taken) .1)
-
-same-length : tie.Need-same-length
-same-length c = c .before .before .before .before .before .before .before .before .before .before .before .before .before .before .before .before .before .before .before .before .row-room2 .given ∙ c .before .before .before .before .before .before .before .before .before .before .before .before .before .before .before .before .before .before .before .before .before .before .before .before .before .before .before .before .before .before .before .before .before .before .before .before .before .before .before .before .row-room .given
-
-same-length-2 : tie.Need-same-length-2
-same-length-2 c = c .before .before .before .before .before .before .before .before .before .before .before .before .before .before .before .before .before .before .col-room2 .given ∙ c .before .before .before .before .before .before .before .before .before .before .before .before .before .before .before .before .before .before .before .before .before .before .before .before .before .before .before .before .before .before .before .before .before .before .before .before .before .before .col-room .given
-
-same-length-3 : tie.Need-same-length-3
-same-length-3 c = c .before .before .before .before .before .before .before .before .before .before .before .before .before .before .before .before .value-room2 .given ∙ c .before .before .before .before .before .before .before .before .before .before .before .before .before .before .before .before .before .before .before .before .before .before .before .before .before .before .before .before .before .before .before .before .before .before .before .before .value-room .given
-
-same-length-4 : tie.Need-same-length-4
-same-length-4 c = c .before .before .before .before .before .before .before .before .before .before .diagonal-room2 .given ∙ c .before .before .before .before .before .before .before .before .before .before .before .before .before .before .before .before .before .before .before .before .before .before .before .before .before .before .before .before .diagonal-room .given
-
-same-length-5 : tie.Need-same-length-5
-same-length-5 c = c .before .before .before .answer-room2 .given ∙ c .before .before .before .before .before .before .before .before .before .before .before .before .before .before .before .before .before .before .before .before .before .before .before .before .before .before .answer-room .given
-
-same-length-6 : tie.Need-same-length-6
-same-length-6 c = c .before .before .before .before .before .before .before .before .diagonal .given
-
-same-length-7 : tie.Need-same-length-7
-same-length-7 c = c .before .answer .given
+read-matrix-requires c κs = three _ _ _ (passed (c .before .before .before .before .before .before .matrix .ensures) (c .before .before .before .before .before .floats .ensures) (c .before .before .before .before .both .ensures) (c .before .before .before .if1 .taken) .1 .0)
 
 returns : tie.Need-returns
-unfolding whether diagonalLeft exportedDiagonal exported
+unfolding diagonalLeft exportedDiagonal exported
 returns c =
-    let at-hand-answer = c .before .before .before .before in
-    let at-hand-floats = at-hand-answer .before .before .before .before .before .before .before in
-    let at-leaves-all = at-hand-floats .before .before .before in
-    let at-clear-matrix = at-leaves-all .before .before .before .before .before .before .before in
-    let at-call = at-clear-matrix .before .before .before .before .before in
-    let at-read = at-call .before .before .before .before .before .before .before .before .before .before in
-    let at-tests = at-read .before .before .before .before .before .before .before .before .before in
-    let at-start = at-tests .before .before .before .before .before .before .before .before .before .before .before .before .before .before in
-    let a = at-start .args in
-    let q = sym (at-tests .before .floats .ensures) ∙ at-tests .if2 .taken in
-    let t = rw (ints-front _ _ _ (at-read .before .before .before .before .before .read-matrix .ensures .0), ints-front _ _ _ (at-read .before .before .before .before .before .read-matrix .ensures .1 .0), floats-front _ _ _ (at-read .before .before .before .before .before .read-matrix .ensures .1 .1)) at (parts (at-call .before .before .before .yelomawin-diagonal .ensures)) in
-    let out = floats-out true 26 _ _ (a .diagonal-room .now) (at-hand-floats .hand-floats .ensures) no-record (t .0) (at-leaves-all .leaves-all .ensures) (t .1 .0) (at-call .before .before .diagonal-room .given) (two (writes 8 (a .diagonal-room .now) (a .diagonal .now)) (writes 8 (a .answer-room .now) (a .answer .now)) q .0) in
-    let told = answer-out _ (a .answer-room .now) (at-hand-answer .hand-answer .ensures) (t .1 .1) (at-call .answer-room .given) in
-    rw (sym (at-tests .before .before .before .matrix .ensures) ∙ at-tests .before .before .if1 .taken, q) (
-      t .0,
-      emptied-out 0 (at-clear-matrix .clear-matrix .ensures .0) (at-read .before .before .before .before .row-room .given),
-      emptied-out 0 (at-clear-matrix .clear-matrix .ensures .1 .0) (at-read .before .before .col-room .given),
-      emptied-out zeroᶠ (at-clear-matrix .clear-matrix .ensures .1 .1) (at-read .value-room .given),
-      out .0,
-      told .0,
-      out .1,
-      told .1,
+    let at-hand = c .before .before .before .before .before .before .before .before in
+    let at-clear = at-hand .before .before .before .before .before .before .before .before .before .before .before in
+    let at-call = at-clear .before .before .before .before .before .before .before .before in
+    let at-read = at-call .before .before .before .before .before .before .before .before .before .before .before .before in
+    let at-test = at-read .before .before .before .before in
+    let a = at-test .before .before .before .before .before .before .before .before .before .before .before .before .before .before .args in
+    let q = passed (at-test .before .before .before .matrix .ensures) (at-test .before .before .floats .ensures) (at-test .before .both .ensures) (at-test .if1 .taken) in
+    let w = two (writes 8 (a .diagonal-room .now) (a .diagonal .now)) (writes 8 (a .answer-room .now) (a .answer .now)) (q .1 .1) in
+    let r = at-read .read-matrix .ensures in
+    let h = at-hand .hand-result .ensures in
+    let t = rw (r .0 .front, r .1 .0 .front, r .1 .1 .front) at (parts (at-call .yelomawin-diagonal .ensures)) in (
+      told (q .0) _ (t .0),
+      matrix-emptied (q .0) r (at-clear .clear-matrix .ensures),
+      floats-told (q .0) _ (w .0) (at-clear .before .before .before .before .before .before .before .diagonal-room .given) (h .0) (t .0) (t .1 .0),
+      answer-told (q .0) _ (w .1) (at-clear .before .before .before .before .before .answer-room .given) (h .1) (t .1 .1),
     )
 
 returns-2 : tie.Need-returns-2
-returns-2 c = rw (sym (c .before .before .before .matrix .ensures) ∙ c .before .before .if1 .taken, sym (c .before .floats .ensures) ∙ c .if2 .left) (refl, refl, refl, refl, refl, refl, refl, refl)
-
-returns-3 : tie.Need-returns-3
-returns-3 c = rw (sym (c .before .matrix .ensures) ∙ c .if1 .left) (refl, refl, refl, refl, refl, refl, refl, refl)
+returns-2 c = rw (tested false (c .before .before .before .matrix .ensures) (c .before .before .floats .ensures) (c .before .both .ensures) (c .if1 .left)) (refl, matrix-kept, result-kept, result-kept)
 
 pub yelomawin-bytes-diagonal-spec : {M : Type 1} → statement M
 yelomawin-bytes-diagonal-spec =
     tie.close
     (tie.spec
-    matrix-requires
-    floats-requires
+    (λ c κs. search needs)
+    (λ c κs. search needs)
+    (λ c κs. search needs)
     read-matrix-requires
-    slice-reshare-prefix-yelomawin-diagonal
-    slice-aggregate-yelomawin-diagonal
-    slice-reshare-prefix-yelomawin-diagonal-2
-    slice-aggregate-yelomawin-diagonal-2
-    slice-reshare-prefix-yelomawin-diagonal-3
-    slice-aggregate-yelomawin-diagonal-3
-    yelomawin-diagonal-requires
-    clear-matrix-requires
-    leaves-all-requires
-    hand-floats-requires
-    hand-answer-requires
-    same-length
-    same-length-2
-    same-length-3
-    same-length-4
-    same-length-5
-    same-length-6
-    same-length-7
+    (λ c. search needs)
+    (λ c. search needs)
+    (λ c. search needs)
+    (λ c. search needs)
+    (λ c. search needs)
+    (λ c. search needs)
+    (λ c κs. search needs)
+    (λ c κs. search needs)
+    (λ c κs. search needs)
+    (λ c. search needs)
+    (λ c. search needs)
+    (λ c. search needs)
+    (λ c. search needs)
+    (λ c. search needs)
+    (λ c. search needs)
+    (λ c. search needs)
     returns
-    returns-2
-    returns-3)
+    returns-2)

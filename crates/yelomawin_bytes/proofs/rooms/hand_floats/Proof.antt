@@ -5,10 +5,10 @@ use Rattle.yelomawin_bytes.proofs.rooms.hand_floats.Statement.{statemen
 use Rattle.yelomawin_bytes.proofs.rooms.hand_floats.Tie as tie
 
 returns : tie.Need-returns
-returns c = rw (c .if1 .taken) (record { cleared = refl; written = refl })
+returns c = rw (c .if1 .taken) (record { cleared = refl; written = λ _. refl })
 
 returns-2 : tie.Need-returns-2
-returns-2 c = rw (c .before .before .before .before .before .before .before .before .before .if1 .left) (record { cleared = c .before .before .zero-floats .ensures; written = rw (c .before .before .before .before .before .before .before .before .before .before .before .before .pre) at (c .before .before .before .before .before .before .write-floats .ensures .1) })
+returns-2 c = rw (c .before .before .before .before .before .before .before .before .before .if1 .left) (record { cleared = c .before .before .zero-floats .ensures; written = λ f. rw (f) at (c .before .before .before .before .before .before .write-floats .ensures .1) })
 
 pub hand-floats-spec : {M : Type 1} → statement M
 hand-floats-spec =
