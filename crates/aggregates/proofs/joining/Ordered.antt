@@ -5,7 +5,7 @@ use mathlib.Core.Bool.{true, false}
 use mathlib.Core.List.{List, [], _∷_}
 use Prim.Native.Nat.{ℕ, _≤_, _<_}
 use native.Mathlib.Omega.{arith}
-use borrow.Author.Tests.{ltb-true, ltb-false, eqb-true, eqb-false}
+use borrow.Author.Tests.{ltb-true, ltb-false, eqb-true, eqb-false, le-ltb, eq-eqb, ne-eqb}
 use lib.Dec.{eqb, ltb}
 use Rattle.definitions.specs.Groups.{before, chosen}
 use Rattle.aggregates.specs.JoinState.{All}
@@ -65,3 +65,10 @@ module _ (edges sizes : ℕ → ℕ) where
       (λ p. rw (chosen, e, p .0) ((λ d. behind-trans best a (best-of a l) (p .1) first), (first, new .1)))
       (λ p. rw (chosen, e, p .0) (old .0, (behind-trans a best (best-of best l) (p .1) (old .0 (eqb-false best 0 e)), old .1)))
       (sides a best))
+
+  -- the test of the definitions tells the same
+  pub not-before : (x y : ℕ) → Behind x y → before edges sizes x y ≡ false
+  unfolding before
+  not-before x y (fewer p) = rw (before, le-ltb (edges y) (edges x) (omega arith), ne-eqb (edges x) (edges y) (λ e. omega arith))
+  not-before x y (larger q p) = rw (before, le-ltb (edges y) (edges x) (omega arith), eq-eqb (edges x) (edges y) q, le-ltb (sizes x) (sizes y) (omega arith), ne-eqb (sizes x) (sizes y) (λ e. omega arith))
+  not-before x y (later q p r) = rw (before, le-ltb (edges y) (edges x) (omega arith), eq-eqb (edges x) (edges y) q, le-ltb (sizes x) (sizes y) (omega arith), eq-eqb (sizes x) (sizes y) p, le-ltb x y r)
