@@ -11,12 +11,7 @@ ghost use Rattle.block_factor.specs.Dense.{dense};
 ghost use Rattle.block_factor.specs.Gathered.{sumAt};
 use super::dense::Block;
 use super::dense::blanks;
-
-fn wide(x: u32) -> usize
-    ensures { λ r. ⌜ r ≡ x ⌝ }
-{
-    x as usize
-}
+use numbers::wide;
 
 // The entries from..to of one row, added at their places among the columns first..; row holds zeros before.
 fn gather_row(

@@ -113,7 +113,8 @@ fn fill_pairs(
     requires { ⌜ Rows (csr rows rows (now «row_ptr») (now «col_idx») (now values)) ⌝ }
     requires { ⌜ (0 < size) × (size ≤ 8) × (rows * size ≤ length (now factors)) ⌝ }
     ensures { λ r. ⌜ (r * size ≤ rows) × (length (now (factors .exit)) ≡ length (now (factors .entry))) ⌝ }
-    ensures { λ r. ⌜ factorsFrom (csr rows rows (now («row_ptr» .entry)) (now («col_idx» .entry)) (now (values .entry))) size (blockCount rows size - r) r (take (r * size * size) (now (factors .exit))) ≡ factorsOf (csr rows rows (now («row_ptr» .entry)) (now («col_idx» .entry)) (now (values .entry))) size ⌝ }
+    ensures { λ r. ⌜ (let a = csr rows rows (now («row_ptr» .entry)) (now («col_idx» .entry)) (now (values .entry)) in
+        factorsFrom a size (blockCount rows size - r) r (take (r * size * size) (now (factors .exit))) ≡ factorsOf a size) ⌝ }
 {
     let mut k: usize = 0;
     while (k + 2) * size <= rows {

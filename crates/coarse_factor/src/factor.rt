@@ -110,7 +110,9 @@ fn four_at(m: &[f64], at: usize) -> Four
 // The entries of row i left of the diagonal, from column `from` on; the row begins at `start`.
 fn fill_rest(m: &[f64], l: &mut [f64], c: usize, i: usize, start: usize, from: usize)
     requires { ⌜ (i < c) × (from ≤ i) × (length (now m) ≡ c * c) × (length (now l) ≡ packedLength c) × (start ≡ packedLength i) × (c ≤ 2048) ⌝ }
-    ensures { λ _. ⌜ (length (now (l .exit)) ≡ length (now (l .entry))) × ((l₀ : List Float) → now (l .entry) ≡ belowDiagonal packed (entryIn (now (m .entry)) c) i from l₀ → now (l .exit) ≡ belowDiagonal packed (entryIn (now (m .entry)) c) i i l₀) ⌝ }
+    ensures { λ _. ⌜ (let a = entryIn (now (m .entry)) c in
+        (length (now (l .exit)) ≡ length (now (l .entry)))
+        × ((l₀ : List Float) → now (l .entry) ≡ belowDiagonal packed a i from l₀ → now (l .exit) ≡ belowDiagonal packed a i i l₀)) ⌝ }
 {
     let base = i * c;
     let mut row = from * (from + 1) / 2;
@@ -157,7 +159,8 @@ fn fill_row(m: &[f64], l: &mut [f64], c: usize, i: usize, start: usize)
 // The rows one after the other; a pivot that is not finite or at most tol is refused.
 pub(crate) fn factor_rows(m: &[f64], l: &mut [f64], c: usize, tol: f64) -> Answer
     requires { ⌜ (length (now m) ≡ c * c) × (length (now l) ≡ packedLength c) × (c ≤ 2048) ⌝ }
-    ensures { λ r. ⌜ (length (now (l .exit)) ≡ length (now (l .entry))) × (outcomeOf r (now (l .exit)) ≡ factorRows packed (λ i. CoarsePivot i) (entryIn (now (m .entry)) c) tol c 0 (now (l .entry))) ⌝ }
+    ensures { λ r. ⌜ (length (now (l .exit)) ≡ length (now (l .entry)))
+        × (outcomeOf r (now (l .exit)) ≡ factorRows packed (λ i. CoarsePivot i) (entryIn (now (m .entry)) c) tol c 0 (now (l .entry))) ⌝ }
 {
     let mut start = 0;
     let mut i = 0;

@@ -33,7 +33,9 @@ fn unit_solve(lower: &[f64], y: &mut [f64], i: usize)
 // The rows from `first` on, where those before it are there.
 fn solve_rest(c: usize, lower: &[f64], inverse: &mut [f64], first: usize)
     requires { ⌜ (length (now lower) ≡ packedLength c) × (c * c ≤ length (now inverse)) × (first ≤ c) × (c ≤ 2048) ⌝ }
-    ensures { λ _. ⌜ (length (now (inverse .exit)) ≡ length (now (inverse .entry))) × ((w : List Float) → now (inverse .entry) ≡ solvedRows c (now (lower .entry)) first ++ drop (first * c) w → now (inverse .exit) ≡ solvedRows c (now (lower .entry)) c ++ drop (c * c) w) ⌝ }
+    ensures { λ _. ⌜ (let rows = solvedRows c (now (lower .entry)) in
+        (length (now (inverse .exit)) ≡ length (now (inverse .entry)))
+        × ((w : List Float) → now (inverse .entry) ≡ rows first ++ drop (first * c) w → now (inverse .exit) ≡ rows c ++ drop (c * c) w)) ⌝ }
 {
     let mut from = first * c;
     let mut i = first;

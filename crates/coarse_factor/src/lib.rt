@@ -72,7 +72,8 @@ fn long_enough(need: usize, len: usize, other_need: usize, other_len: usize) -> 
 
 // Cholesky's factor of the coarse matrix in the first c · c elements of m, packed, with zeros after it.
 pub fn coarse_factor(c: usize, m: &[f64], lower: &mut [f64]) -> FactorAnswer
-    ensures { λ r. ⌜ (r ≡ factorAnswer (largest (take (c * c) (now (m .entry)))) (coarseFactorCall c (now (m .entry)) (length (now (lower .entry))))) × (now (lower .exit) ≡ resultLeft zeroᶠ (coarseFactorCall c (now (m .entry)) (length (now (lower .entry)))) (now (lower .entry))) ⌝ }
+    ensures { λ r. ⌜ (let o = coarseFactorCall c (now (m .entry)) (length (now (lower .entry))) in
+        (r ≡ factorAnswer (largest (take (c * c) (now (m .entry)))) o) × (now (lower .exit) ≡ resultLeft zeroᶠ o (now (lower .entry)))) ⌝ }
 {
     if c <= MAX_COARSE {
         let square = c * c;
@@ -90,7 +91,8 @@ pub fn coarse_factor(c: usize, m: &[f64], lower: &mut [f64]) -> FactorAnswer
 
 // The inverse from the packed factor in the first elements of lower, averaged with its transpose, with zeros after it.
 pub fn coarse_inverse(c: usize, lower: &[f64], inverse: &mut [f64]) -> Answer
-    ensures { λ r. ⌜ (r ≡ answerOf (coarseInverseCall c (now (lower .entry)) (length (now (inverse .entry))))) × (now (inverse .exit) ≡ resultLeft zeroᶠ (coarseInverseCall c (now (lower .entry)) (length (now (inverse .entry)))) (now (inverse .entry))) ⌝ }
+    ensures { λ r. ⌜ (let o = coarseInverseCall c (now (lower .entry)) (length (now (inverse .entry))) in
+        (r ≡ answerOf o) × (now (inverse .exit) ≡ resultLeft zeroᶠ o (now (inverse .entry)))) ⌝ }
 {
     if c <= MAX_COARSE {
         let packed = c * (c + 1) / 2;
@@ -114,7 +116,8 @@ pub fn coarse_solve(
     part: &[f64],
     work: &mut [f64],
 ) -> Answer
-    ensures { λ r. ⌜ (r ≡ answerOf (coarseSolveCall policy c (now (part .entry)) (now (work .entry)))) × (now (work .exit) ≡ resultLeft zeroᶠ (coarseSolveCall policy c (now (part .entry)) (now (work .entry))) (now (work .entry))) ⌝ }
+    ensures { λ r. ⌜ (let o = coarseSolveCall policy c (now (part .entry)) (now (work .entry)) in
+        (r ≡ answerOf o) × (now (work .exit) ≡ resultLeft zeroᶠ o (now (work .entry)))) ⌝ }
 {
     if c <= MAX_COARSE {
         let count = stored::stored_length(policy, c);

@@ -29,7 +29,8 @@ fn run(
     out: &mut [u8],
 ) -> usize
     requires { ⌜ (length (now ids) ≡ nodes) × (length (now work) ≡ 8 * nodes + 4 * length (now neighbours) + 16) ⌝ }
-    ensures { λ r. ⌜ Puts (now (out .entry)) 0 (printed (groupingCall nodes size (now (offsets .entry)) (now (neighbours .entry)) nodes (8 * nodes + 4 * length (now (neighbours .entry)) + 16))) (now (out .exit)) r ⌝ }
+    ensures { λ r. ⌜ (let g = groupingCall nodes size (now (offsets .entry)) (now (neighbours .entry)) nodes (8 * nodes + 4 * length (now (neighbours .entry)) + 16) in
+        Puts (now (out .entry)) 0 (printed g) (now (out .exit)) r) ⌝ }
 {
     let found = aggregates::group(nodes, size, offsets, neighbours, ids, work);
     match found {
@@ -47,7 +48,8 @@ pub(crate) fn answer(
     out: &mut [u8],
 ) -> usize
     requires { ⌜ (nodes ≤ 256) × (length (now neighbours) ≤ 2048) ⌝ }
-    ensures { λ r. ⌜ Puts (now (out .entry)) 0 (printed (groupingCall nodes size (now (offsets .entry)) (now (neighbours .entry)) nodes (8 * nodes + 4 * length (now (neighbours .entry)) + 16))) (now (out .exit)) r ⌝ }
+    ensures { λ r. ⌜ (let g = groupingCall nodes size (now (offsets .entry)) (now (neighbours .entry)) nodes (8 * nodes + 4 * length (now (neighbours .entry)) + 16) in
+        Puts (now (out .entry)) 0 (printed g) (now (out .exit)) r) ⌝ }
 {
     let mut ids = [0u32; 256];
     let mut work = [0u32; 10256];

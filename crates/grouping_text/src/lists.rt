@@ -10,7 +10,8 @@ use crate::Got;
 // Copies what the node at numbers[at] lists into neighbours[have..].
 fn node_of(numbers: &[u32], at: usize, neighbours: &mut [u32], have: usize) -> Got
     requires { ⌜ (have ≤ 2048) × (2048 ≤ length (now neighbours)) ⌝ }
-    ensures { λ r. ⌜ ((offsets : List ℕ) → gotOf (offsets ++ (r .count ∷ [])) (take (r .count) (now (neighbours .exit))) (now (numbers .entry)) r ≡ nodeFrom offsets (take have (now (neighbours .entry))) (drop at (now (numbers .entry)))) ⌝ }
+    ensures { λ r. ⌜ ((offsets : List ℕ) → gotOf (offsets ++ (r .count ∷ [])) (take (r .count) (now (neighbours .exit))) (now (numbers .entry)) r
+        ≡ nodeFrom offsets (take have (now (neighbours .entry))) (drop at (now (numbers .entry)))) ⌝ }
     ensures { λ r. ⌜ r .count ≤ 2048 ⌝ }
 {
     let malformed = Got {
@@ -52,7 +53,8 @@ pub(crate) fn nodes_of(
     neighbours: &mut [u32],
 ) -> Got
     requires { ⌜ (nodes + 1 ≤ length (now offsets)) × (2048 ≤ length (now neighbours)) ⌝ }
-    ensures { λ r. ⌜ gotOf (take (nodes + 1) (now (offsets .exit))) (take (r .count) (now (neighbours .exit))) (now (numbers .entry)) r ≡ listsFrom nodes (listing (0 ∷ []) [] (drop at (now (numbers .entry)))) ⌝ }
+    ensures { λ r. ⌜ gotOf (take (nodes + 1) (now (offsets .exit))) (take (r .count) (now (neighbours .exit))) (now (numbers .entry)) r
+        ≡ listsFrom nodes (listing (0 ∷ []) [] (drop at (now (numbers .entry)))) ⌝ }
     ensures { λ r. ⌜ r .count ≤ 2048 ⌝ }
 {
     offsets[0] = 0;

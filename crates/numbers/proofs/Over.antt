@@ -4,7 +4,7 @@ use mathlib.Core.List.{List, [], _∷_, _++_, append-nil}
 use Prim.Native.Nat.{ℕ, zero, suc, _+_, _<_, _≤_}
 use native.Mathlib.Nat.{not-suc-le-zero, le-of-suc-le-suc}
 use native.Mathlib.Numerals.{add-one}
-use lib.ListN.{length, getD, set, take, drop, replicate, drop-of-length-le}
+use lib.ListN.{length, getD, set, take, drop, replicate, length-set, drop-of-length-le}
 use native.Mathlib.Omega.{arith}
 use lib.Seq.{take-all, drop-length}
 use Rattle.numbers.specs.Copied.{copied}
@@ -16,21 +16,40 @@ module _ {A : Type 0} (z : A) where
   over-suc zero (x ∷ s) (y ∷ d) h k = refl
   over-suc (suc n) (x ∷ s) (y ∷ d) h k = ap (λ (t : List A). x ∷ t) (over-suc n s d (le-of-suc-le-suc h) (le-of-suc-le-suc k))
 
-  pub over-more : (n : ℕ) (s d l : List A) → n < length s → n < length d → l ≡ take n s ++ drop n d → set l n (getD s n z) ≡ take (n + 1) s ++ drop (n + 1) d
+  over-more : (n : ℕ) (s d l : List A) → n < length s → n < length d → l ≡ take n s ++ drop n d → set l n (getD s n z) ≡ take (n + 1) s ++ drop (n + 1) d
   over-more n s d l h k e = rw (e, add-one) (over-suc n s d h k)
 
--- the source is passed whole, or the target is full
-pub over-source : {A : Type 0} (n : ℕ) (s d l : List A) → length s ≤ n → n ≤ length s → length s ≤ length d → l ≡ take n s ++ drop n d → l ≡ copied s d
-unfolding copied
-over-source n s d l h k g e =
-    let m : n ≡ length s = omega arith in
-    rw (e, m, take-all (length s) s (omega arith), take-all (length d) s g)
+-- the first n elements of a list are a source's, the others as they were
+pub record Over {A : Type 0} (s d l : List A) (n : ℕ) : Type 0 where
+  pub inTarget : n ≤ length d
+  pub inSource : n ≤ length s
+  pub long : length l ≡ length d
+  pub front : l ≡ take n s ++ drop n d
 
-pub over-target : {A : Type 0} (n : ℕ) (s d l : List A) → n ≡ length d → n ≤ length s → l ≡ take n s ++ drop n d → l ≡ copied s d
-unfolding copied
-over-target n s d l h k e =
-    let g : length d ≤ length s = omega arith in
-    rw (e, h, drop-length d, drop-of-length-le d g)
+module _ {A : Type 0} {s d l : List A} {n : ℕ} where
+  pub over-next : (z : A) → Over s d l n → n < length s → n < length d → Over s d (set l n (getD s n z)) (n + 1)
+  over-next z o h k = record { inTarget = omega arith; inSource = omega arith; long = simp length-set (o .long); front = over-more z n s d l h k (o .front) }
+
+  -- the source is passed whole, or the target is full
+  pub over-source : Over s d l n → length s ≤ n → l ≡ copied s d
+  unfolding copied
+  over-source o h =
+      let m : n ≡ length s = omega arith in
+      let g : length s ≤ length d = omega arith in
+      rw (o .front, m, take-all (length s) s (omega arith), take-all (length d) s g)
+
+  pub over-target : Over s d l n → length d ≤ n → l ≡ copied s d
+  unfolding copied
+  over-target o h =
+      let m : n ≡ length d = omega arith in
+      let g : length d ≤ length s = omega arith in
+      rw (o .front, m, drop-length d, drop-of-length-le d g)
+
+-- the first n elements of a list are v, the others as they were
+pub record Filled {A : Type 0} (v : A) (d l : List A) (n : ℕ) : Type 0 where
+  pub within : n ≤ length d
+  pub long : length l ≡ length d
+  pub front : l ≡ replicate n v ++ drop n d
 
 module _ {A : Type 0} (v : A) where
   fill-suc : (n : ℕ) (d : List A) → n < length d → set (replicate n v ++ drop n d) n v ≡ replicate (suc n) v ++ drop (suc n) d
@@ -38,8 +57,9 @@ module _ {A : Type 0} (v : A) where
   fill-suc zero (x ∷ d) h = refl
   fill-suc (suc n) (x ∷ d) h = ap (λ (t : List A). v ∷ t) (fill-suc n d (le-of-suc-le-suc h))
 
-  pub filled-more : (n : ℕ) (l d : List A) → n < length d → l ≡ replicate n v ++ drop n d → set l n v ≡ replicate (n + 1) v ++ drop (n + 1) d
-  filled-more n l d h e = rw (e, add-one) (fill-suc n d h)
+module _ {A : Type 0} {v : A} {d l : List A} {n : ℕ} where
+  pub filled-more : Filled v d l n → n < length d → Filled v d (set l n v) (n + 1)
+  filled-more o h = record { within = omega arith; long = simp length-set (o .long); front = rw (o .front, add-one) (fill-suc v n d h) }
 
-  pub filled : (n : ℕ) (l d : List A) → n ≡ length d → l ≡ replicate n v ++ drop n d → l ≡ replicate (length d) v
-  filled n l d h e = rw (e, h, drop-length d, append-nil)
+  pub filled : Filled v d l n → length d ≤ n → l ≡ replicate (length d) v
+  filled o h = let m : n ≡ length d = omega arith in rw (o .front, m, drop-length d, append-nil)

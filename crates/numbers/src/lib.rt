@@ -83,6 +83,13 @@ pub fn short_quotient(x: u32, d: u32) -> u32
     quotient(x as usize, d as usize) as u32
 }
 
+// The same number, as a length or an index.
+pub fn wide(x: u32) -> usize
+    ensures { λ r. ⌜ r ≡ x ⌝ }
+{
+    x as usize
+}
+
 pub fn zero_ints(s: &mut [u32])
     ensures { λ _. ⌜ now (s .exit) ≡ replicate (length (now (s .entry))) 0 ⌝ }
 {

@@ -245,7 +245,8 @@ pub extern "C" fn yelomawin_apply(
     answer: &mut [u64],
 ) -> u64
     ensures { λ r. ⌜ handed r (resultWork (now (correction .exit)) (now (work .exit))) (now (answer .exit))
-        ≡ exportedApply (now («record» .entry)) (now («setup_ints» .entry)) (now («setup_floats» .entry)) (now (residual .entry)) (now (correction .entry)) (now (work .entry)) (now (answer .entry)) ⌝ }
+        ≡ exportedApply (now («record» .entry)) (now («setup_ints» .entry)) (now («setup_floats» .entry)) (now (residual .entry))
+        (now (correction .entry)) (now (work .entry)) (now (answer .entry)) ⌝ }
 {
     if record::is_record(record) {
         let s = record::record_of(record);

@@ -77,7 +77,8 @@ pub(crate) fn policy_of(n: u64) -> TwoLevelCoarseApplyPolicy
 
 // The sizes, at the front.
 fn put_sizes(list: &mut [u64], s: Setup)
-    ensures { λ _. ⌜ now (list .exit) ≡ set (set (set (set (set (set (set (set (now (list .entry)) 0 (s .rows)) 1 (s .entries)) 2 (s .block)) 3 (s .group)) 4 (s .nodes)) 5 (s .groups)) 6 (s .coarse)) 7 (s .transfers) ⌝ }
+    ensures { λ _. ⌜ (let l = set (set (set (set (now (list .entry)) 0 (s .rows)) 1 (s .entries)) 2 (s .block)) 3 (s .group) in
+        now (list .exit) ≡ set (set (set (set l 4 (s .nodes)) 5 (s .groups)) 6 (s .coarse)) 7 (s .transfers)) ⌝ }
 {
     answers::put(list, 0, s.rows);
     answers::put(list, 1, s.entries);
@@ -91,7 +92,8 @@ fn put_sizes(list: &mut [u64], s: Setup)
 
 // Policies, floats and counts, behind them.
 fn put_rest(list: &mut [u64], s: Setup)
-    ensures { λ _. ⌜ now (list .exit) ≡ set (set (set (set (set (set (set (now (list .entry)) 8 (aggregationNumber (s .aggregation))) 9 (basisNumber (s .basis))) 10 (policyNumber (s .policy))) 11 (toBits binary64 (s .damping))) 12 (toBits binary64 (s .scale))) 13 (s .complexity)) 14 (s .baseline) ⌝ }
+    ensures { λ _. ⌜ (let l = set (set (set (now (list .entry)) 8 (aggregationNumber (s .aggregation))) 9 (basisNumber (s .basis))) 10 (policyNumber (s .policy)) in
+        now (list .exit) ≡ set (set (set (set l 11 (toBits binary64 (s .damping))) 12 (toBits binary64 (s .scale))) 13 (s .complexity)) 14 (s .baseline)) ⌝ }
 {
     let g = s.aggregation;
     let b = s.basis;

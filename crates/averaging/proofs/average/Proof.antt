@@ -13,9 +13,6 @@ use borrow.Author.Needs.{needs}
 use Rattle.averaging.proofs.average.Statement.{statement}
 use Rattle.averaging.proofs.average.Tie as tie
 
-mul-square : tie.Need-mul-square
-mul-square c = omega (arith, square-small (c .before .before .args .c) (omega arith))
-
 returns : tie.Need-returns
 returns c =
     let a = c .before .before .before .before .before .before .before .before .before .before .before .args in
@@ -37,7 +34,7 @@ pub average-spec : {M : Type 1} → statement M
 average-spec =
     tie.close
     (tie.spec
-    mul-square
+    (λ c. omega (arith, square-small (c .before .before .args .c) (omega arith)))
     (λ c κs. search needs)
     (λ c. search needs)
     (λ c. search needs)

@@ -32,18 +32,6 @@ up c =
 loop-holds : tie.Need-loop-holds Inv-loop μ-loop
 loop-holds c = let a = c .before .args in (omega arith, omega arith, averages-none (a .c) (tile (a .from) (a .from) (a .j) (a .j + 1)) (a .m .now) (λ x y h t. omega (arith, t)))
 
-mul-average-pair : tie.Need-mul-average-pair Inv-loop μ-loop
-mul-average-pair c = omega (arith, low (c .before))
-
-add-average-pair : tie.Need-add-average-pair Inv-loop μ-loop
-add-average-pair c = omega (arith, low (c .before))
-
-mul-average-pair-2 : tie.Need-mul-average-pair-2 Inv-loop μ-loop
-mul-average-pair-2 c = omega (arith, up (c .before))
-
-add-average-pair-2 : tie.Need-add-average-pair-2 Inv-loop μ-loop
-add-average-pair-2 c = omega (arith, up (c .before))
-
 average-pair-requires : tie.Need-average-pair-requires Inv-loop μ-loop
 average-pair-requires c κs = let l = c .before .before .loop .inv .2 .long in (omega (arith, low (c .before), l), omega (arith, up (c .before), l))
 
@@ -58,9 +46,6 @@ loop-again c =
           (c .before .before .average-pair .ensures),
     )
 
-same-length : tie.Need-same-length Inv-loop μ-loop
-same-length c = c .before .loop .inv .2 .long
-
 returns : tie.Need-returns Inv-loop μ-loop
 returns c = let e : c .before .loop .i ≡ c .before .before .before .args .to = omega arith in rw e at (c .before .loop .inv .2)
 
@@ -71,13 +56,13 @@ average-column-spec =
     Inv-loop
     μ-loop
     loop-holds
-    mul-average-pair
-    add-average-pair
-    mul-average-pair-2
-    add-average-pair-2
+    (λ c. omega (arith, low (c .before)))
+    (λ c. omega (arith, low (c .before)))
+    (λ c. omega (arith, up (c .before)))
+    (λ c. omega (arith, up (c .before)))
     average-pair-requires
     (λ c. search needs)
     (λ c. omega arith)
     loop-again
-    same-length
+    (λ c. c .before .loop .inv .2 .long)
     returns)

@@ -36,9 +36,6 @@ loop-again c =
     let e = ends (c .before .before .before .before) in
     (e .1, rows-more (a .c) (l .first) (c .before .before .before .before .if1 .end) (a .m .now) (l .m) _ (omega (arith, e)) (e .1) (l .inv .1) (c .before .before .average-strip .ensures))
 
-same-length : tie.Need-same-length Inv-loop μ-loop
-same-length c = c .before .loop .inv .1 .long
-
 returns : tie.Need-returns Inv-loop μ-loop
 returns c = let e : c .before .loop .first ≡ c .before .before .before .args .c = omega arith in rw e at (c .before .loop .inv .1)
 
@@ -54,5 +51,5 @@ average-rows-spec =
     average-strip-requires
     loop-less
     loop-again
-    same-length
+    (λ c. c .before .loop .inv .1 .long)
     returns)

@@ -39,9 +39,6 @@ loop-again c =
     let b = begins (c .before .before .before .before) in
     (omega arith, strip-more (a .c) (a .first) (a .end) (l .j) (c .before .before .before .before .if1 .from) (a .m .now) (l .m) _ (b .0) (b .3) (l .inv .1) (c .before .before .average-column .ensures))
 
-same-length : tie.Need-same-length Inv-loop μ-loop
-same-length c = c .before .loop .inv .1 .long
-
 returns : tie.Need-returns Inv-loop μ-loop
 returns c = let e : c .before .loop .j ≡ c .before .before .before .args .end = omega arith in rw e at (c .before .loop .inv .1)
 
@@ -57,5 +54,5 @@ average-strip-spec =
     (λ c. search needs)
     (λ c. omega arith)
     loop-again
-    same-length
+    (λ c. c .before .loop .inv .1 .long)
     returns)

@@ -44,14 +44,8 @@ inside c = omega (arith, here c .ends, c .before .before .before .before .before
 still : (c : tie.After-block-into Inv-loop μ-loop) → length (putMid (c .before .before .before .before .loop .used) (end (c .before .before) - c .before .before .before .before .loop .used) (c .before .before .before .before .loop .factors) (c .block-into .last .1 .1 .1 .1 .1 .1 .0)) ≡ length (c .before .before .before .before .loop .factors)
 still c = same-len-mid (c .before .before .before .before .loop .used) (end (c .before .before) - c .before .before .before .before .loop .used) (c .before .before .before .before .loop .factors) (c .block-into .last .1 .1 .1 .1 .1 .1 .0) (c .block-into .kept .1 .1 .1 .1 .1 .1 .0)
 
-sub-count : tie.Need-sub-count Inv-loop μ-loop
-sub-count c = omega (arith, c .before .before .before .before .pre .1 .0)
-
 add-count : tie.Need-add-count Inv-loop μ-loop
 add-count c = omega (arith, c .before .before .before .before .pre .0 .fewRows, c .before .before .before .before .pre .1 .1)
-
-div-count : tie.Need-div-count Inv-loop μ-loop
-div-count c = c .before .before .before .before .pre .1 .0
 
 mul-used : tie.Need-mul-used Inv-loop μ-loop
 mul-used c = omega (arith, c .before .before .fill-pairs .ensures .0 .0, c .before .before .before .before .before .before .before .before .pre .0 .fewRows)
@@ -73,17 +67,11 @@ mul-first c = let s = c .before .before .before .before .before .before .before 
 width-requires : tie.Need-width-requires Inv-loop μ-loop
 width-requires c κs = let s = c .before .before .before .before .before .before .before .before .before .before in omega (arith, begins-at (s .args .rows) (s .args .size) (c .before .loop .k) (s .pre .1 .0) (c .loop-test .taken))
 
-mul-end : tie.Need-mul-end Inv-loop μ-loop
-mul-end c = omega (arith, here c .square)
-
 add-end : tie.Need-add-end Inv-loop μ-loop
 add-end c = omega (arith, here c .ends, small (c .before .before .before .before .before .before .before .before .before .before .before))
 
 mul-block-into : tie.Need-mul-block-into Inv-loop μ-loop
 mul-block-into c = omega (arith, c .before .before .loop .inv .4, small (c .before .before .before .before .before .before .before .before .before .before .before))
-
-part-block-into-end : tie.Need-part-block-into-end Inv-loop μ-loop
-part-block-into-end c = inside c
 
 block-into-requires : tie.Need-block-into-requires Inv-loop μ-loop
 block-into-requires c κs =
@@ -152,21 +140,21 @@ fill-from-spec =
     (tie.spec
     Inv-loop
     μ-loop
-    sub-count
+    (λ c. omega (arith, c .before .before .before .before .pre .1 .0))
     add-count
-    div-count
+    (λ c. c .before .before .before .before .pre .1 .0)
     (λ c κs. search needs)
     mul-used
     mul-used-2
     loop-holds
     mul-first
     width-requires
-    mul-end
+    (λ c. omega (arith, here c .square))
     add-end
     mul-block-into
     (λ c. omega arith)
     (λ c. omega arith)
-    part-block-into-end
+    (λ c. inside c)
     block-into-requires
     (λ c. search needs)
     (λ c κs. search needs)

@@ -52,27 +52,6 @@ add-loop c = omega (arith, le-mul-of-pos-right (c .loop .k) (c .before .before .
 mul-loop : tie.Need-mul-loop Inv-loop μ-loop
 mul-loop c = omega (arith, add-mul (c .loop .k) 2 (c .before .before .before .before .before .args .size), c .loop .inv .0, c .before .before .before .before .before .pre .0 .fewRows, c .before .before .before .before .before .pre .1 .1)
 
-mul-first : tie.Need-mul-first Inv-loop μ-loop
-mul-first c = omega (arith, c .before .loop .inv .0, c .before .before .before .before .before .before .pre .0 .fewRows)
-
-mul-used : tie.Need-mul-used Inv-loop μ-loop
-mul-used c = omega (arith, small c)
-
-mul-end : tie.Need-mul-end Inv-loop μ-loop
-mul-end c = omega (arith, small c)
-
-mul-end-2 : tie.Need-mul-end-2 Inv-loop μ-loop
-mul-end-2 c = omega (arith, small c)
-
-add-end : tie.Need-add-end Inv-loop μ-loop
-add-end c = omega (arith, small c)
-
-mul-pair-into : tie.Need-mul-pair-into Inv-loop μ-loop
-mul-pair-into c = omega (arith, small c)
-
-part-pair-into-end : tie.Need-part-pair-into-end Inv-loop μ-loop
-part-pair-into-end c = inside c
-
 pair-into-requires : tie.Need-pair-into-requires Inv-loop μ-loop
 pair-into-requires c κs =
     let s = c .before .before .before .before .before .before .before in
@@ -95,9 +74,6 @@ loop-again c =
       rw (← t .next) (pairs-more (csr (x .rows) (x .rows) (x .row-ptr .now) (x .col-idx .now) (x .values .now)) (x .size) (l .k) (used (c .before .before .before .before .before)) (end (c .before .before .before .before .before)) t (l .factors) _ (omega arith) (inside (c .before .before .before .before .before)) (p .kept .1 .1 .1 .1 .1 .1 .0) (l .inv .2) (p .ensures (c .if1 .taken))),
     )
 
-same-length : tie.Need-same-length Inv-loop μ-loop
-same-length c = still (c .before .before .before)
-
 returns : tie.Need-returns Inv-loop μ-loop
 returns c =
     let l = c .before .before .before .before .before .before .loop in
@@ -115,20 +91,20 @@ fill-pairs-spec =
     loop-holds
     add-loop
     mul-loop
-    mul-first
-    mul-used
-    mul-end
-    mul-end-2
-    add-end
-    mul-pair-into
+    (λ c. omega (arith, c .before .loop .inv .0, c .before .before .before .before .before .before .pre .0 .fewRows))
+    (λ c. omega (arith, small c))
+    (λ c. omega (arith, small c))
+    (λ c. omega (arith, small c))
+    (λ c. omega (arith, small c))
+    (λ c. omega (arith, small c))
     (λ c. search needs)
     (λ c. search needs)
-    part-pair-into-end
+    (λ c. inside c)
     pair-into-requires
     add-k
     loop-less
     loop-again
-    same-length
+    (λ c. still (c .before .before .before))
     returns
     (λ c. search needs)
     returns-2)

@@ -5,9 +5,6 @@ use borrow.Author.Needs.{needs}
 use Rattle.byte_lists.proofs.read_numbers.Statement.{statement}
 use Rattle.byte_lists.proofs.read_numbers.Tie as tie
 
-fill-numbers-requires : tie.Need-fill-numbers-requires
-fill-numbers-requires c κs = readable-room 8 _ _ (sym (c .before .before .words-fit .ensures) ∙ c .before .if1 .taken)
-
 returns : tie.Need-returns
 returns c = rw (sym (c .before .before .before .before .before .words-fit .ensures) ∙ c .before .before .before .before .if1 .taken) (refl, c .before .before .fill-numbers .ensures)
 
@@ -16,4 +13,4 @@ returns-2 c = rw (sym (c .before .words-fit .ensures) ∙ c .if1 .left) (refl, r
 
 pub read-numbers-spec : {M : Type 1} → statement M
 read-numbers-spec =
-    tie.close (tie.spec (λ c κs. search needs) fill-numbers-requires (λ c. search needs) returns returns-2)
+    tie.close (tie.spec (λ c κs. search needs) (λ c κs. readable-room 8 _ _ (sym (c .before .before .words-fit .ensures) ∙ c .before .if1 .taken)) (λ c. search needs) returns returns-2)

@@ -17,9 +17,6 @@ abbrev μ-loop : tie.MeasureT-loop
 loop-holds : tie.Need-loop-holds Inv-loop μ-loop
 loop-holds c = filled-none (omega arith)
 
-cast-byte-of : tie.Need-cast-byte-of Inv-loop μ-loop
-cast-byte-of c = omega (arith, c .shared-slice-known2 .given (c .before .before .loop .i / 4))
-
 loop-again : tie.Need-loop-again Inv-loop μ-loop
 loop-again c = filled-more (c .before .before .before .loop .inv) (omega arith) (c .byte-of .ensures)
 
@@ -38,7 +35,7 @@ spell-ints-spec =
     loop-holds
     (λ c. search needs)
     (λ c. search needs)
-    cast-byte-of
+    (λ c. omega (arith, c .shared-slice-known2 .given (c .before .before .loop .i / 4)))
     (λ c κs. search needs)
     (λ c. search needs)
     (λ c. search needs)

@@ -5,9 +5,6 @@ use borrow.Author.Needs.{needs}
 use Rattle.byte_lists.proofs.write_ints.Statement.{statement}
 use Rattle.byte_lists.proofs.write_ints.Tie as tie
 
-spell-ints-requires : tie.Need-spell-ints-requires
-spell-ints-requires c κs = writable-room 4 _ _ (sym (c .before .before .holds-ints .ensures) ∙ c .before .if1 .taken)
-
 returns : tie.Need-returns
 returns c = rw (sym (c .before .before .before .before .before .holds-ints .ensures) ∙ c .before .before .before .before .if1 .taken) (refl, c .before .before .spell-ints .ensures)
 
@@ -16,4 +13,4 @@ returns-2 c = rw (sym (c .before .holds-ints .ensures) ∙ c .if1 .left) (refl, 
 
 pub write-ints-spec : {M : Type 1} → statement M
 write-ints-spec =
-    tie.close (tie.spec (λ c κs. search needs) spell-ints-requires (λ c. search needs) returns returns-2)
+    tie.close (tie.spec (λ c κs. search needs) (λ c κs. writable-room 4 _ _ (sym (c .before .before .holds-ints .ensures) ∙ c .before .if1 .taken)) (λ c. search needs) returns returns-2)

@@ -5,9 +5,6 @@ use borrow.Author.Needs.{needs}
 use Rattle.byte_lists.proofs.write_numbers.Statement.{statement}
 use Rattle.byte_lists.proofs.write_numbers.Tie as tie
 
-spell-numbers-requires : tie.Need-spell-numbers-requires
-spell-numbers-requires c κs = writable-room 8 _ _ (sym (c .before .before .holds-words .ensures) ∙ c .before .if1 .taken)
-
 returns : tie.Need-returns
 returns c = rw (sym (c .before .before .before .before .before .holds-words .ensures) ∙ c .before .before .before .before .if1 .taken) (refl, c .before .before .spell-numbers .ensures)
 
@@ -16,4 +13,4 @@ returns-2 c = rw (sym (c .before .holds-words .ensures) ∙ c .if1 .left) (refl,
 
 pub write-numbers-spec : {M : Type 1} → statement M
 write-numbers-spec =
-    tie.close (tie.spec (λ c κs. search needs) spell-numbers-requires (λ c. search needs) returns returns-2)
+    tie.close (tie.spec (λ c κs. search needs) (λ c κs. writable-room 8 _ _ (sym (c .before .before .holds-words .ensures) ∙ c .before .if1 .taken)) (λ c. search needs) returns returns-2)

@@ -17,12 +17,6 @@ use borrow.Author.Needs.{needs}
 use Rattle.coarse_factor.proofs.coarse_factor.Statement.{statement}
 use Rattle.coarse_factor.proofs.coarse_factor.Tie as tie
 
-mul-square : tie.Need-mul-square
-mul-square c = omega (arith, square-small (c .before .before .before .args .c) (omega arith))
-
-mul-long-enough : tie.Need-mul-long-enough
-mul-long-enough c = omega (arith, triangle-small (c .before .before .before .args .c) (omega arith))
-
 part-factor-fitting-end : tie.Need-part-factor-fitting-end
 part-factor-fitting-end c = let a = c .before .before .before .before .before .args in let h : a .c * a .c ≤ length (a .m .now) = covered (a .c * a .c) (length (a .m .now)) (packedLength (a .c)) (length (a .lower .now)) (sym (c .before .long-enough .ensures) ∙ c .if2 .taken) .0 in omega (arith, h)
 
@@ -55,9 +49,9 @@ pub coarse-factor-spec : {M : Type 1} → statement M
 coarse-factor-spec =
     tie.close
     (tie.spec
-    mul-square
+    (λ c. omega (arith, square-small (c .before .before .before .args .c) (omega arith)))
     (λ c. search needs)
-    mul-long-enough
+    (λ c. omega (arith, triangle-small (c .before .before .before .args .c) (omega arith)))
     (λ c κs. search needs)
     (λ c. search needs)
     (λ c. search needs)

@@ -19,12 +19,6 @@ use borrow.Author.Needs.{needs}
 use Rattle.coarse_factor.proofs.coarse_inverse.Statement.{statement}
 use Rattle.coarse_factor.proofs.coarse_inverse.Tie as tie
 
-mul-packed : tie.Need-mul-packed
-mul-packed c = omega (arith, triangle-small (c .before .before .before .args .c) (omega arith))
-
-mul-long-enough : tie.Need-mul-long-enough
-mul-long-enough c = omega (arith, square-small (c .before .before .before .args .c) (omega arith))
-
 part-invert-end : tie.Need-part-invert-end
 part-invert-end c = let a = c .before .before .before .before .before .args in let h : packedLength (a .c) ≤ length (a .lower .now) = covered (packedLength (a .c)) (length (a .lower .now)) (a .c * a .c) (length (a .inverse .now)) (sym (c .before .long-enough .ensures) ∙ c .if2 .taken) .0 in omega (arith, h)
 
@@ -58,8 +52,8 @@ coarse-inverse-spec =
     tie.close
     (tie.spec
     (λ c. search needs)
-    mul-packed
-    mul-long-enough
+    (λ c. omega (arith, triangle-small (c .before .before .before .args .c) (omega arith)))
+    (λ c. omega (arith, square-small (c .before .before .before .args .c) (omega arith)))
     (λ c κs. search needs)
     (λ c. search needs)
     (λ c. search needs)

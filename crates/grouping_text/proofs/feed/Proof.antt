@@ -21,18 +21,12 @@ abbrev μ-loop : tie.MeasureT-loop
 loop-holds : tie.Need-loop-holds Inv-loop μ-loop
 loop-holds c = (refl, refl)
 
-byte-in-requires : tie.Need-byte-in-requires Inv-loop μ-loop
-byte-in-requires c κs = tt
-
 loop-again : tie.Need-loop-again Inv-loop μ-loop
 loop-again c =
     let l = c .before .before .before .before .before .before .loop in
     let p = c .before .before .before .before .before .before .before .before .before .args .piece .now in
     let b = c .before .before .byte-in in
     (b .kept .1 .1 .0 ∙ l .inv .0, ap (fed (drop (l .i + 1) p)) (b .ensures) ∙ sym (fed-next p (l .i) (held (l .last) (l .numbers)) (omega arith)) ∙ l .inv .1)
-
-same-length : tie.Need-same-length Inv-loop μ-loop
-same-length c = c .before .loop .inv .0
 
 returns : tie.Need-returns Inv-loop μ-loop
 returns c =
@@ -47,9 +41,9 @@ feed-spec =
     μ-loop
     loop-holds
     (λ c. search needs)
-    byte-in-requires
+    (λ c κs. tt)
     (λ c. search needs)
     (λ c. omega arith)
     loop-again
-    same-length
+    (λ c. c .before .loop .inv .0)
     returns)

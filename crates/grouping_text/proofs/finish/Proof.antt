@@ -15,15 +15,6 @@ use Rattle.grouping_text.proofs.least.Reads as least-reads
 use Rattle.grouping_text.proofs.reading.close.Reads as close-reads
 use Rattle.grouping_text.proofs.say.Reads as say-reads
 
-close-requires : tie.Need-close-requires
-close-requires c κs = tt
-
-least-requires : tie.Need-least-requires
-least-requires c κs = tt
-
-say-requires : tie.Need-say-requires
-say-requires c κs = tt
-
 returns : tie.Need-returns
 returns c =
     let a = c .before .before .before .before .before .before .before .before .before .before .before .before .before .args in
@@ -38,12 +29,12 @@ pub finish-spec : {M : Type 1} → statement M
 finish-spec =
     tie.close
     (tie.spec
-    close-requires
-    least-requires
+    (λ c κs. tt)
+    (λ c κs. tt)
     (λ c. omega arith)
     (λ c. omega arith)
     (λ c. omega arith)
-    say-requires
+    (λ c κs. tt)
     (λ c. omega arith)
     (λ c. omega arith)
     returns)

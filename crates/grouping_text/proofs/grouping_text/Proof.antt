@@ -14,15 +14,6 @@ use Rattle.grouping_text.proofs.feed.Reads as feed-reads
 use Rattle.grouping_text.proofs.finish.Reads as finish-reads
 use Rattle.grouping_text.proofs.start.Reads as start-reads
 
-start-requires : tie.Need-start-requires
-start-requires c κs = tt
-
-feed-requires : tie.Need-feed-requires
-feed-requires c κs = tt
-
-finish-requires : tie.Need-finish-requires
-finish-requires c κs = tt
-
 returns : tie.Need-returns
 returns c =
     let a = c .before .before .before .before .before .before .before .before .before .before .before .before .args in
@@ -36,10 +27,10 @@ pub grouping-text-spec : {M : Type 1} → statement M
 grouping-text-spec =
     tie.close
     (tie.spec
-    start-requires
+    (λ c κs. tt)
     (λ c. search needs)
-    feed-requires
+    (λ c κs. tt)
     (λ c. search needs)
-    finish-requires
+    (λ c κs. tt)
     (λ c. search needs)
     returns)

@@ -33,9 +33,6 @@ returns c =
     ∙ ap (λ l. printed (groupingCall (r .nodes) (r .size) (take (r .nodes + 1) o) l (r .nodes) (8 * r .nodes + 4 * length l + 16))) (parts (r .count) n) ∙ e)
     (f .ensures)
 
-put-head-requires : tie.Need-put-head-requires
-put-head-requires c κs = tt
-
 returns-2 : tie.Need-returns-2
 returns-2 c =
     let a = c .before .before .before .before .before .before .before .before .before .before .before .before .before .before .args in
@@ -45,9 +42,6 @@ returns-2 c =
     let n = k .last .1 .1 .1 .0 in
     let h = c .before .before .put-head in
     puts-as (a .out .now) 0 (line refusedWord (decimal 1)) (printed (answered (askedIn (a .numbers .now) (a .whole)))) (h .last .0) (h .result) (prints-large (askedIn (a .numbers .now) (a .whole)) r (take (r .nodes + 1) o) (take (r .count) n) (k .ensures .0) (c .before .before .before .before .before .if2 .taken)) (h .ensures)
-
-put-head-requires-2 : tie.Need-put-head-requires-2
-put-head-requires-2 c κs = tt
 
 returns-3 : tie.Need-returns-3
 returns-3 c =
@@ -77,10 +71,10 @@ say-spec =
     (λ c. omega arith)
     returns
     (λ c. omega arith)
-    put-head-requires
+    (λ c κs. tt)
     (λ c. omega arith)
     returns-2
     (λ c. omega arith)
-    put-head-requires-2
+    (λ c κs. tt)
     (λ c. omega arith)
     returns-3)

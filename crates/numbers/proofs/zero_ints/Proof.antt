@@ -1,36 +1,27 @@
 -- The elements passed are zeros, the others as they were.
-use mathlib.Core.Path.{_≡_, refl}
-use mathlib.Core.List.{_++_}
-use Prim.Native.Nat.{_-_, _<_, _≤_}
+use mathlib.Core.Path.{refl}
+use Prim.Native.Nat.{_-_}
 use native.Mathlib.Omega.{arith}
-use lib.ListN.{length, drop, replicate, length-set}
+use lib.ListN.{length}
 use borrow.Author.Needs.{needs}
-use Rattle.numbers.proofs.Over.{filled, filled-more}
+use Rattle.numbers.proofs.Over.{Filled, filled, filled-more}
 use Rattle.numbers.proofs.zero_ints.Statement.{statement}
 use Rattle.numbers.proofs.zero_ints.Tie as tie
 
 abbrev Inv-loop : tie.InvT-loop
-Inv-loop s₀ i₀ s i = (i ≤ length s₀) × (length s ≡ length s₀) × (s ≡ replicate i 0 ++ drop i s₀)
+Inv-loop s₀ i₀ s i = Filled 0 s₀ s i
 
 abbrev μ-loop : tie.MeasureT-loop
 μ-loop s₀ i₀ s i = length s₀ - i
 
 loop-holds : tie.Need-loop-holds Inv-loop μ-loop
-loop-holds c = (omega arith, refl, refl)
+loop-holds c = record { within = omega arith; long = refl; front = refl }
 
 loop-again : tie.Need-loop-again Inv-loop μ-loop
-loop-again c =
-    let s₀ = c .before .before .args .s .now in
-    let l = c .before .loop in
-    let h : l .i < length s₀ = omega arith in
-    (omega arith, simp length-set (l .inv .1), filled-more 0 (l .i) (l .s) s₀ h (l .inv .2))
+loop-again c = filled-more (c .before .loop .inv) (omega arith)
 
 returns : tie.Need-returns Inv-loop μ-loop
-returns c =
-    let s₀ = c .before .before .args .s .now in
-    let l = c .before .loop in
-    let h : l .i ≡ length s₀ = omega arith in
-    filled 0 (l .i) (l .s) s₀ h (l .inv .2)
+returns c = filled (c .before .loop .inv) (omega arith)
 
 pub zero-ints-spec : {M : Type 1} → statement M
 zero-ints-spec =

@@ -9,12 +9,6 @@ use borrow.Author.Needs.{needs}
 use Rattle.block_factor.proofs.cholesky.factor.Statement.{statement}
 use Rattle.block_factor.proofs.cholesky.factor.Tie as tie
 
-mul-largest : tie.Need-mul-largest
-mul-largest c = omega (arith, square-fits (c .before .before .args .b .size) (c .before .before .pre .0))
-
-largest-requires : tie.Need-largest-requires
-largest-requires c κs = square-fits (c .before .before .args .b .size) (c .before .before .pre .0)
-
 returns : tie.Need-returns
 unfolding factored
 returns c =
@@ -38,8 +32,8 @@ pub factor-spec : {M : Type 1} → statement M
 factor-spec =
     tie.close
     (tie.spec
-    mul-largest
-    largest-requires
+    (λ c. omega (arith, square-fits (c .before .before .args .b .size) (c .before .before .pre .0)))
+    (λ c κs. square-fits (c .before .before .args .b .size) (c .before .before .pre .0))
     (λ c κs. search needs)
     (λ c κs. search needs)
     (λ c κs. search needs)

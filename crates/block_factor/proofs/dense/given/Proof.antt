@@ -9,18 +9,6 @@ use Rattle.block_factor.proofs.Shape.{row-fits}
 use Rattle.block_factor.proofs.dense.given.Statement.{statement}
 use Rattle.block_factor.proofs.dense.given.Tie as tie
 
-mul-result : tie.Need-mul-result
-mul-result c = omega (arith, row-fits (c .args .i) (c .args .w) (c .pre .0) (c .pre .2))
-
-add-result : tie.Need-add-result
-add-result c = omega (arith, row-fits (c .args .i) (c .args .w) (c .pre .0) (c .pre .2))
-
-mul-result-2 : tie.Need-mul-result-2
-mul-result-2 c = omega (arith, row-fits (c .args .i) (c .args .w) (c .pre .0) (c .pre .2))
-
-element-copy-out-result : tie.Need-element-copy-out-result
-element-copy-out-result c = omega (arith, row-fits (c .args .i) (c .args .w) (c .pre .0) (c .pre .2))
-
 returns : tie.Need-returns
 returns c =
     let a = c .before .args in
@@ -28,4 +16,4 @@ returns c =
 
 pub given-spec : {M : Type 1} → statement M
 given-spec =
-    tie.close (tie.spec mul-result add-result mul-result-2 element-copy-out-result returns)
+    tie.close (tie.spec (λ c. omega (arith, row-fits (c .args .i) (c .args .w) (c .pre .0) (c .pre .2))) (λ c. omega (arith, row-fits (c .args .i) (c .args .w) (c .pre .0) (c .pre .2))) (λ c. omega (arith, row-fits (c .args .i) (c .args .w) (c .pre .0) (c .pre .2))) (λ c. omega (arith, row-fits (c .args .i) (c .args .w) (c .pre .0) (c .pre .2))) returns)

@@ -43,9 +43,6 @@ loop-again c =
     w')
     (c .if1 .came))
 
-same-length : tie.Need-same-length Inv-loop μ-loop
-same-length c = let l = c .before .loop in l .inv .2
-
 returns : tie.Need-returns Inv-loop μ-loop
 returns c =
     let x = c .before .before .before .before .before .args in
@@ -71,5 +68,5 @@ gather-row-spec =
     (λ c. search needs)
     (λ c. omega arith)
     loop-again
-    same-length
+    (λ c. let l = c .before .loop in l .inv .2)
     returns)

@@ -8,17 +8,8 @@ use borrow.Author.Needs.{needs}
 use Rattle.block_factor.proofs.pair.factor_pair.Statement.{statement}
 use Rattle.block_factor.proofs.pair.factor_pair.Tie as tie
 
-mul-largest : tie.Need-mul-largest
-mul-largest c = let x = c .before .before .before in omega (arith, square-fits (x .args .b .size) (x .pre .0))
-
-largest-requires : tie.Need-largest-requires
-largest-requires c κs = let x = c .before .before .before in square-fits (x .args .b .size) (x .pre .0)
-
 mul-largest-2 : tie.Need-mul-largest-2
 mul-largest-2 c = let x = c .before .before .before .before .before .before in omega (arith, square-fits (x .args .b .size) (x .pre .0))
-
-largest-requires-2 : tie.Need-largest-requires-2
-largest-requires-2 c κs = let x = c .before .before .before .before .before .before in square-fits (x .args .b .size) (x .pre .0)
 
 returns : tie.Need-returns
 returns c = not-both (c .apart .result .both) (c .apart .ensures)
@@ -44,11 +35,11 @@ pub factor-pair-spec : {M : Type 1} → statement M
 factor-pair-spec =
     tie.close
     (tie.spec
-    mul-largest
-    largest-requires
+    (λ c. let x = c .before .before .before in omega (arith, square-fits (x .args .b .size) (x .pre .0)))
+    (λ c κs. let x = c .before .before .before in square-fits (x .args .b .size) (x .pre .0))
     (λ c κs. search needs)
     mul-largest-2
-    largest-requires-2
+    (λ c κs. let x = c .before .before .before .before .before .before in square-fits (x .args .b .size) (x .pre .0))
     (λ c κs. search needs)
     (λ c κs. search needs)
     (λ c κs. search needs)

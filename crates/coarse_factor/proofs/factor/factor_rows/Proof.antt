@@ -43,26 +43,8 @@ loop-holds c = let z : c .before .before .args .c - 0 ≡ c .before .before .arg
 fill-row-requires : tie.Need-fill-row-requires Inv-loop μ-loop
 fill-row-requires c κs = let p = c .before .before .before .before .before .pre in (omega arith, p .0, c .before .before .loop .inv .1 ∙ p .1, c .before .before .loop .inv .2, p .2)
 
-mul-rest : tie.Need-mul-rest Inv-loop μ-loop
-mul-rest c = omega (arith, room (c .before .before .before .before .before))
-
-add-rest : tie.Need-add-rest Inv-loop μ-loop
-add-rest c = omega (arith, room (c .before .before .before .before .before))
-
-mul-rest-2 : tie.Need-mul-rest-2 Inv-loop μ-loop
-mul-rest-2 c = omega (arith, room (c .before .before .before .before .before))
-
-shared-slice-read-rest : tie.Need-shared-slice-read-rest Inv-loop μ-loop
-shared-slice-read-rest c = omega (arith, room (c .before .before .before .before .before .before))
-
 rest-requires : tie.Need-rest-requires Inv-loop μ-loop
 rest-requires c κs = let f = room (c .before .before .before .before .before .before) in let g = long (c .before .before .before .before) in (omega arith, omega arith)
-
-add-l : tie.Need-add-l Inv-loop μ-loop
-add-l c = omega (arith, room (c .before .before .before .before .before .before .before .before .before .before))
-
-mul-l : tie.Need-mul-l Inv-loop μ-loop
-mul-l c = omega (arith, room (c .before .before .before .before .before .before .before .before .before .before))
 
 slice-write-l : tie.Need-slice-write-l Inv-loop μ-loop
 slice-write-l c = omega (arith, room (c .before .before .before .before .before .before .before .before .before .before), long (c .before .before .before .before .before .before .before .before))
@@ -80,12 +62,6 @@ returns c =
           (sym (c .before .above .ensures) ∙ c .if1 .left)) ∙ o .inv .3,
     )
 
-add-start : tie.Need-add-start Inv-loop μ-loop
-add-start c = omega (arith, room (c .before .before .before .before .before .before .before .before .before .before))
-
-add-start-2 : tie.Need-add-start-2 Inv-loop μ-loop
-add-start-2 c = omega (arith, room (c .before .before .before .before .before .before .before .before .before .before))
-
 loop-again : tie.Need-loop-again Inv-loop μ-loop
 loop-again c =
     let a = c .before .before .before .before .before .before .before .before .before .before .before .before .before .before .args in
@@ -96,9 +72,6 @@ loop-again c =
       sym (rows-on (a .m .now) (a .c) (a .tol) (o .i) (o .l) (c .before .before .before .before .before .before .before .before .fill-row .last .1 .0) (c .before .before .before .rest .result) (omega arith) (o .start) (o .inv .2) (c .before .before .before .before .before .before .before .before .fill-row .ensures) (c .before .before .before .rest .ensures)
           (sym (c .before .before .above .ensures) ∙ c .before .if1 .taken) (c .root .ensures) refl) ∙ o .inv .3,
     )
-
-same-length-2 : tie.Need-same-length-2 Inv-loop μ-loop
-same-length-2 c = c .before .loop .inv .1
 
 returns-2 : tie.Need-returns-2 Inv-loop μ-loop
 unfolding outcomeOf
@@ -115,22 +88,22 @@ factor-rows-spec =
     μ-loop
     loop-holds
     fill-row-requires
-    mul-rest
-    add-rest
-    mul-rest-2
-    shared-slice-read-rest
+    (λ c. omega (arith, room (c .before .before .before .before .before)))
+    (λ c. omega (arith, room (c .before .before .before .before .before)))
+    (λ c. omega (arith, room (c .before .before .before .before .before)))
+    (λ c. omega (arith, room (c .before .before .before .before .before .before)))
     rest-requires
     (λ c κs. search needs)
     (λ c κs. search needs)
-    add-l
-    mul-l
+    (λ c. omega (arith, room (c .before .before .before .before .before .before .before .before .before .before)))
+    (λ c. omega (arith, room (c .before .before .before .before .before .before .before .before .before .before)))
     slice-write-l
     same-length
     returns
-    add-start
-    add-start-2
+    (λ c. omega (arith, room (c .before .before .before .before .before .before .before .before .before .before)))
+    (λ c. omega (arith, room (c .before .before .before .before .before .before .before .before .before .before)))
     (λ c. search needs)
     (λ c. omega arith)
     loop-again
-    same-length-2
+    (λ c. c .before .loop .inv .1)
     returns-2)

@@ -36,63 +36,6 @@ mul-base c = omega (arith, place (c .before .before .args .i) 0 (c .before .befo
 loop-holds : tie.Need-loop-holds Inv-loop μ-loop
 loop-holds c = (omega arith, refl, refl, left-none (entryIn (c .before .before .args .m .now) (c .before .before .args .c)) (c .before .before .args .i) (c .before .before .args .l .now))
 
-add-second : tie.Need-add-second Inv-loop μ-loop
-add-second c = omega (arith, room c)
-
-add-second-2 : tie.Need-add-second-2 Inv-loop μ-loop
-add-second-2 c = omega (arith, room c)
-
-add-third : tie.Need-add-third Inv-loop μ-loop
-add-third c = omega (arith, room c)
-
-add-third-2 : tie.Need-add-third-2 Inv-loop μ-loop
-add-third-2 c = omega (arith, room c)
-
-add-fourth : tie.Need-add-fourth Inv-loop μ-loop
-add-fourth c = omega (arith, room c)
-
-add-fourth-2 : tie.Need-add-fourth-2 Inv-loop μ-loop
-add-fourth-2 c = omega (arith, room c)
-
-add-four-at : tie.Need-add-four-at Inv-loop μ-loop
-add-four-at c = omega (arith, room c)
-
-four-at-requires : tie.Need-four-at-requires Inv-loop μ-loop
-four-at-requires c κs = omega (arith, room c)
-
-rest-four-requires : tie.Need-rest-four-requires Inv-loop μ-loop
-rest-four-requires c κs = let f = room (c .before .before) in (omega arith, omega arith, omega arith, omega arith, omega arith)
-
-add-solved-four : tie.Need-add-solved-four Inv-loop μ-loop
-add-solved-four c = omega (arith, room (c .before .before .before .before))
-
-add-solved-four-2 : tie.Need-add-solved-four-2 Inv-loop μ-loop
-add-solved-four-2 c = omega (arith, room (c .before .before .before .before))
-
-add-solved-four-3 : tie.Need-add-solved-four-3 Inv-loop μ-loop
-add-solved-four-3 c = omega (arith, room (c .before .before .before .before))
-
-add-solved-four-4 : tie.Need-add-solved-four-4 Inv-loop μ-loop
-add-solved-four-4 c = omega (arith, room (c .before .before .before .before))
-
-solved-four-requires : tie.Need-solved-four-requires Inv-loop μ-loop
-solved-four-requires c κs = let f = room (c .before .before .before .before) in (omega arith, omega arith, omega arith, omega arith)
-
-add-put-four : tie.Need-add-put-four Inv-loop μ-loop
-add-put-four c = omega (arith, room (c .before .before .before .before .before .before))
-
-put-four-requires : tie.Need-put-four-requires Inv-loop μ-loop
-put-four-requires c κs = omega (arith, room (c .before .before .before .before .before .before))
-
-add-row : tie.Need-add-row Inv-loop μ-loop
-add-row c = omega (arith, room (c .before .before .before .before .before .before .before .before .before))
-
-add-row-2 : tie.Need-add-row-2 Inv-loop μ-loop
-add-row-2 c = omega (arith, room (c .before .before .before .before .before .before .before .before .before))
-
-add-j : tie.Need-add-j Inv-loop μ-loop
-add-j c = omega (arith, room (c .before .before .before .before .before .before .before .before .before))
-
 loop-again : tie.Need-loop-again Inv-loop μ-loop
 loop-again c =
     let a = c .before .before .before .before .before .before .before .before .before .before .before .before .before .args in
@@ -108,9 +51,6 @@ loop-again c =
           (o .inv .3) (c .before .before .before .before .before .before .before .before .four-at .ensures) (c .before .before .before .before .before .before .rest-four .ensures) (c .before .before .before .before .solved-four .ensures) r (c .before .before .put-four .ensures),
     )
 
-same-length : tie.Need-same-length Inv-loop μ-loop
-same-length c = c .before .loop .inv .2
-
 returns : tie.Need-returns Inv-loop μ-loop
 returns c = (omega arith, c .before .loop .inv .3)
 
@@ -123,26 +63,26 @@ fill-fours-spec =
     mul-base
     loop-holds
     (λ c. omega arith)
-    add-second
-    add-second-2
-    add-third
-    add-third-2
-    add-fourth
-    add-fourth-2
-    add-four-at
-    four-at-requires
-    rest-four-requires
-    add-solved-four
-    add-solved-four-2
-    add-solved-four-3
-    add-solved-four-4
-    solved-four-requires
-    add-put-four
-    put-four-requires
-    add-row
-    add-row-2
-    add-j
+    (λ c. omega (arith, room c))
+    (λ c. omega (arith, room c))
+    (λ c. omega (arith, room c))
+    (λ c. omega (arith, room c))
+    (λ c. omega (arith, room c))
+    (λ c. omega (arith, room c))
+    (λ c. omega (arith, room c))
+    (λ c κs. omega (arith, room c))
+    (λ c κs. let f = room (c .before .before) in (omega arith, omega arith, omega arith, omega arith, omega arith))
+    (λ c. omega (arith, room (c .before .before .before .before)))
+    (λ c. omega (arith, room (c .before .before .before .before)))
+    (λ c. omega (arith, room (c .before .before .before .before)))
+    (λ c. omega (arith, room (c .before .before .before .before)))
+    (λ c κs. let f = room (c .before .before .before .before) in (omega arith, omega arith, omega arith, omega arith))
+    (λ c. omega (arith, room (c .before .before .before .before .before .before)))
+    (λ c κs. omega (arith, room (c .before .before .before .before .before .before)))
+    (λ c. omega (arith, room (c .before .before .before .before .before .before .before .before .before)))
+    (λ c. omega (arith, room (c .before .before .before .before .before .before .before .before .before)))
+    (λ c. omega (arith, room (c .before .before .before .before .before .before .before .before .before)))
     (λ c. omega arith)
     loop-again
-    same-length
+    (λ c. c .before .loop .inv .2)
     returns)

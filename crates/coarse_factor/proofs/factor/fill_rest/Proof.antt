@@ -34,47 +34,8 @@ room c =
 mul-base : tie.Need-mul-base Inv-loop μ-loop
 mul-base c = omega (arith, place (c .before .before .args .i) 0 (c .before .before .args .c) (c .before .before .args .c) (omega arith) (omega arith))
 
-mul-row : tie.Need-mul-row Inv-loop μ-loop
-mul-row c = omega (arith, triangle-small (c .before .before .args .from) (omega arith))
-
 loop-holds : tie.Need-loop-holds Inv-loop μ-loop
 loop-holds c = (omega arith, refl, refl, λ k e. e)
-
-add-rest : tie.Need-add-rest Inv-loop μ-loop
-add-rest c = omega (arith, room (c .before))
-
-mul-rest : tie.Need-mul-rest Inv-loop μ-loop
-mul-rest c = omega (arith, room (c .before))
-
-shared-slice-read-rest : tie.Need-shared-slice-read-rest Inv-loop μ-loop
-shared-slice-read-rest c = omega (arith, room (c .before .before))
-
-rest-requires : tie.Need-rest-requires Inv-loop μ-loop
-rest-requires c κs = (omega (arith, room (c .before .before)), omega (arith, room (c .before .before)))
-
-add-l : tie.Need-add-l Inv-loop μ-loop
-add-l c = omega (arith, room (c .before .before .before))
-
-mul-l : tie.Need-mul-l Inv-loop μ-loop
-mul-l c = omega (arith, room (c .before .before .before))
-
-slice-read-l : tie.Need-slice-read-l Inv-loop μ-loop
-slice-read-l c = omega (arith, room (c .before .before .before .before))
-
-add-l-2 : tie.Need-add-l-2 Inv-loop μ-loop
-add-l-2 c = omega (arith, room (c .before .before .before .before))
-
-mul-l-2 : tie.Need-mul-l-2 Inv-loop μ-loop
-mul-l-2 c = omega (arith, room (c .before .before .before .before))
-
-slice-write-l : tie.Need-slice-write-l Inv-loop μ-loop
-slice-write-l c = omega (arith, room (c .before .before .before .before))
-
-add-row-2 : tie.Need-add-row-2 Inv-loop μ-loop
-add-row-2 c = omega (arith, room (c .before .before .before .before))
-
-add-row-3 : tie.Need-add-row-3 Inv-loop μ-loop
-add-row-3 c = omega (arith, room (c .before .before .before .before))
 
 loop-again : tie.Need-loop-again Inv-loop μ-loop
 loop-again c =
@@ -86,9 +47,6 @@ loop-again c =
       tri-next (l .row) (l .j) (l .inv .2),
       λ k e. left-more (a .m .now) (a .c) (a .i) (l .j) k (p .4) (l .inv .2) (l .inv .3 k e) (c .before .rest .ensures),
     )
-
-same-length : tie.Need-same-length Inv-loop μ-loop
-same-length c = c .before .loop .inv .1
 
 returns : tie.Need-returns Inv-loop μ-loop
 returns c =
@@ -103,22 +61,22 @@ fill-rest-spec =
     μ-loop
     mul-base
     (λ c. search needs)
-    mul-row
+    (λ c. omega (arith, triangle-small (c .before .before .args .from) (omega arith)))
     loop-holds
-    add-rest
-    mul-rest
-    shared-slice-read-rest
-    rest-requires
-    add-l
-    mul-l
-    slice-read-l
-    add-l-2
-    mul-l-2
-    slice-write-l
-    add-row-2
-    add-row-3
+    (λ c. omega (arith, room (c .before)))
+    (λ c. omega (arith, room (c .before)))
+    (λ c. omega (arith, room (c .before .before)))
+    (λ c κs. (omega (arith, room (c .before .before)), omega (arith, room (c .before .before))))
+    (λ c. omega (arith, room (c .before .before .before)))
+    (λ c. omega (arith, room (c .before .before .before)))
+    (λ c. omega (arith, room (c .before .before .before .before)))
+    (λ c. omega (arith, room (c .before .before .before .before)))
+    (λ c. omega (arith, room (c .before .before .before .before)))
+    (λ c. omega (arith, room (c .before .before .before .before)))
+    (λ c. omega (arith, room (c .before .before .before .before)))
+    (λ c. omega (arith, room (c .before .before .before .before)))
     (λ c. search needs)
     (λ c. omega arith)
     loop-again
-    same-length
+    (λ c. c .before .loop .inv .1)
     returns)

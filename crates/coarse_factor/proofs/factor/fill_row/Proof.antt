@@ -9,9 +9,6 @@ use Rattle.coarse_factor.proofs.factor.fill_row.Lts as lts
 use Rattle.coarse_factor.proofs.factor.fill_fours.Reads as fill-fours-reads
 use Rattle.coarse_factor.proofs.factor.fill_rest.Reads as fill-rest-reads
 
-fill-fours-requires : tie.Need-fill-fours-requires
-fill-fours-requires c κs = c .before .before .before .pre
-
 fill-rest-requires : tie.Need-fill-rest-requires
 fill-rest-requires c κs =
     let p = c .before .before .before .before .before .before .before .pre in
@@ -29,4 +26,4 @@ returns : tie.Need-returns
 returns c = c .before .before .fill-rest .ensures .1 (c .before .before .before .before .before .before .before .before .before .before .args .l .now) (c .before .before .before .before .before .before .fill-fours .ensures .1)
 
 pub fill-row-spec : {M : Type 1} → statement M
-fill-row-spec = tie.close (tie.spec fill-fours-requires fill-rest-requires same-length returns)
+fill-row-spec = tie.close (tie.spec (λ c κs. c .before .before .before .pre) fill-rest-requires same-length returns)

@@ -7,18 +7,6 @@ use Rattle.coarse_factor.proofs.factor.put_four.Tie as tie
 use Rattle.coarse_factor.proofs.factor.put_four.Reads as reads
 use Rattle.coarse_factor.proofs.factor.put_four.Lts as lts
 
-slice-write-l-2 : tie.Need-slice-write-l-2
-slice-write-l-2 c = simp length-set (omega arith)
-
-slice-write-l-3 : tie.Need-slice-write-l-3
-slice-write-l-3 c = simp length-set (omega arith)
-
-slice-write-l-4 : tie.Need-slice-write-l-4
-slice-write-l-4 c = simp length-set (omega arith)
-
-same-length : tie.Need-same-length
-same-length c = simp length-set
-
 returns : tie.Need-returns
 returns c = refl
 
@@ -30,12 +18,12 @@ put-four-spec =
     (λ c. search needs)
     (λ c. search needs)
     (λ c. search needs)
-    slice-write-l-2
+    (λ c. simp length-set (omega arith))
     (λ c. search needs)
     (λ c. search needs)
-    slice-write-l-3
+    (λ c. simp length-set (omega arith))
     (λ c. search needs)
     (λ c. search needs)
-    slice-write-l-4
-    same-length
+    (λ c. simp length-set (omega arith))
+    (λ c. simp length-set)
     returns)

@@ -31,21 +31,6 @@ room c =
 loop-holds : tie.Need-loop-holds Inv-loop μ-loop
 loop-holds c = let a = c .before .before .args in (omega arith, omega arith, refl, solved-none (a .c) (a .lower .now) (a .inverse .now))
 
-add-to : tie.Need-add-to Inv-loop μ-loop
-add-to c = omega (arith, room c)
-
-mul-solve-four : tie.Need-mul-solve-four Inv-loop μ-loop
-mul-solve-four c = omega (arith, room c)
-
-sub-solve-four : tie.Need-sub-solve-four Inv-loop μ-loop
-sub-solve-four c = omega (arith, room c)
-
-part-solve-four-start : tie.Need-part-solve-four-start Inv-loop μ-loop
-part-solve-four-start c = omega (arith, room c)
-
-part-solve-four-end : tie.Need-part-solve-four-end Inv-loop μ-loop
-part-solve-four-end c = omega (arith, room c)
-
 solve-four-requires : tie.Need-solve-four-requires Inv-loop μ-loop
 solve-four-requires c κs =
     let a = c .before .before .before .before .before .args in
@@ -65,9 +50,6 @@ loop-again c =
       solved-four (a .c) (a .lower .now) (a .inverse .now) (o .inverse) (s .last .1 .0) (o .i) (o .from) (o .from + b) (o .inv .1) refl (o .inv .3) (s .ensures),
     )
 
-same-length : tie.Need-same-length Inv-loop μ-loop
-same-length c = c .before .loop .inv .2
-
 returns : tie.Need-returns Inv-loop μ-loop
 returns c = (omega arith, c .before .loop .inv .2, c .before .loop .inv .3)
 
@@ -82,14 +64,14 @@ solve-fours-spec =
     (λ c. search needs)
     loop-holds
     (λ c. omega arith)
-    add-to
-    mul-solve-four
-    sub-solve-four
-    part-solve-four-start
-    part-solve-four-end
+    (λ c. omega (arith, room c))
+    (λ c. omega (arith, room c))
+    (λ c. omega (arith, room c))
+    (λ c. omega (arith, room c))
+    (λ c. omega (arith, room c))
     solve-four-requires
     (λ c. search needs)
     (λ c. omega arith)
     loop-again
-    same-length
+    (λ c. c .before .loop .inv .2)
     returns)

@@ -34,26 +34,8 @@ room c =
     let h : o .i < a .c = omega arith in
     (omega (arith, c .before .before .before .before .pre .1, o .inv .1, o .inv .2, place (o .i) (a .c - 1) (a .c) (a .c) h (omega arith)), o .inv .2)
 
-mul-from : tie.Need-mul-from Inv-loop μ-loop
-mul-from c = omega (arith, row-room (c .before .before .args .first) (c .before .before .args .c) (omega arith))
-
 loop-holds : tie.Need-loop-holds Inv-loop μ-loop
 loop-holds c = (omega arith, refl, refl, λ w e. e)
-
-add-to : tie.Need-add-to Inv-loop μ-loop
-add-to c = omega (arith, room c)
-
-mul-unit-solve : tie.Need-mul-unit-solve Inv-loop μ-loop
-mul-unit-solve c = omega (arith, room c)
-
-sub-unit-solve : tie.Need-sub-unit-solve Inv-loop μ-loop
-sub-unit-solve c = omega (arith, room c)
-
-part-unit-solve-start : tie.Need-part-unit-solve-start Inv-loop μ-loop
-part-unit-solve-start c = omega (arith, room c)
-
-part-unit-solve-end : tie.Need-part-unit-solve-end Inv-loop μ-loop
-part-unit-solve-end c = omega (arith, room c)
 
 unit-solve-requires : tie.Need-unit-solve-requires Inv-loop μ-loop
 unit-solve-requires c κs =
@@ -77,9 +59,6 @@ loop-again c =
       λ w e. solved-more (a .c) (a .lower .now) w (o .inverse) (u .last .1 .0) (o .i) (o .from) (o .from + a .c) (o .inv .1) refl (omega (arith, f, o .inv .1, next-row (o .i) (a .c))) (o .inv .3 w e) (u .ensures),
     )
 
-same-length : tie.Need-same-length Inv-loop μ-loop
-same-length c = c .before .loop .inv .2
-
 returns : tie.Need-returns Inv-loop μ-loop
 returns c =
     let e : c .before .loop .i ≡ c .before .before .before .before .args .c = omega arith in
@@ -91,16 +70,16 @@ solve-rest-spec =
     (tie.spec
     Inv-loop
     μ-loop
-    mul-from
+    (λ c. omega (arith, row-room (c .before .before .args .first) (c .before .before .args .c) (omega arith)))
     loop-holds
-    add-to
-    mul-unit-solve
-    sub-unit-solve
-    part-unit-solve-start
-    part-unit-solve-end
+    (λ c. omega (arith, room c))
+    (λ c. omega (arith, room c))
+    (λ c. omega (arith, room c))
+    (λ c. omega (arith, room c))
+    (λ c. omega (arith, room c))
     unit-solve-requires
     (λ c. search needs)
     (λ c. omega arith)
     loop-again
-    same-length
+    (λ c. c .before .loop .inv .2)
     returns)

@@ -36,9 +36,6 @@ loop-holds c =
     let z : a .c - 0 ≡ a .c = omega arith in
     (omega arith, rw z (c .before .before .pre .2), backward4-none (a .l .now) (a .c) (a .w .now) (c .before .before .pre .1), refl, λ e. absurd (true≢false (sym e)))
 
-slice-aggregate-col-sums : tie.Need-slice-aggregate-col-sums Inv-loop μ-loop
-slice-aggregate-col-sums c = sym (c .before .before .before .loop .inv .3)
-
 col-sums-requires : tie.Need-col-sums-requires Inv-loop μ-loop
 col-sums-requires c κs =
     let s = c .before .before .before .before .before .before in
@@ -49,23 +46,8 @@ col-sums-requires c κs =
       λ e. kept-here (a .l .now) (o .kept) (a .c) (a .c) (o .k) (row (c .before .before)) refl (f .0) (o .inv .4 e (omega arith)),
     )
 
-sub-put-lanes : tie.Need-sub-put-lanes Inv-loop μ-loop
-sub-put-lanes c = omega (arith, facts (c .before .before .before .before .before))
-
-mul-put-lanes : tie.Need-mul-put-lanes Inv-loop μ-loop
-mul-put-lanes c = omega (arith, facts (c .before .before .before .before .before))
-
-shared-slice-read-put-lanes : tie.Need-shared-slice-read-put-lanes Inv-loop μ-loop
-shared-slice-read-put-lanes c = omega (arith, facts (c .before .before .before .before .before .before))
-
 put-lanes-requires : tie.Need-put-lanes-requires Inv-loop μ-loop
 put-lanes-requires c κs = (omega arith, omega (arith, c .before .before .before .before .before .before .before .loop .inv .2 .long, c .before .before .before .before .before .before .before .before .before .before .pre .1))
-
-add-end : tie.Need-add-end Inv-loop μ-loop
-add-end c = omega (arith, facts (c .before .before .before .before .before .before .before .before .before))
-
-sub-end : tie.Need-sub-end Inv-loop μ-loop
-sub-end c = omega (arith, facts (c .before .before .before .before .before .before .before .before .before))
 
 loop-again : tie.Need-loop-again Inv-loop μ-loop
 loop-again c =
@@ -83,9 +65,6 @@ loop-again c =
       kept-next (a .l .now) (d .last .1 .1 .1 .1 .1 .1 .0) (a .c) (a .c) (o .k) i refl (f .0) (o .known) (d .ensures .1 .1),
     )
 
-same-length : tie.Need-same-length Inv-loop μ-loop
-same-length c = c .before .loop .inv .2 .long
-
 returns : tie.Need-returns Inv-loop μ-loop
 returns c = let e : c .before .loop .k ≡ c .before .before .before .before .args .c = omega arith in rw e at (c .before .loop .inv .2)
 
@@ -98,16 +77,16 @@ backward-four-spec =
     loop-holds
     (λ c. omega arith)
     (λ c. omega arith)
-    slice-aggregate-col-sums
+    (λ c. sym (c .before .before .before .loop .inv .3))
     col-sums-requires
-    sub-put-lanes
-    mul-put-lanes
-    shared-slice-read-put-lanes
+    (λ c. omega (arith, facts (c .before .before .before .before .before)))
+    (λ c. omega (arith, facts (c .before .before .before .before .before)))
+    (λ c. omega (arith, facts (c .before .before .before .before .before .before)))
     put-lanes-requires
-    add-end
-    sub-end
+    (λ c. omega (arith, facts (c .before .before .before .before .before .before .before .before .before)))
+    (λ c. omega (arith, facts (c .before .before .before .before .before .before .before .before .before)))
     (λ c. search needs)
     (λ c. omega arith)
     loop-again
-    same-length
+    (λ c. c .before .loop .inv .2 .long)
     returns)

@@ -27,27 +27,6 @@ loop-holds c =
     let a = c .args in
     (omega arith, omega arith, c .pre .3, col-none (a .l .now) (a .w .now) (a .i), col-none (a .l .now) (drop (a .c) (a .w .now)) (a .i), col-none (a .l .now) (drop (a .c + a .c) (a .w .now)) (a .i), col-none (a .l .now) (drop (a .c + a .c + a .c) (a .w .now)) (a .i), kept-none (a .l .now) (a .kept .now) (a .i))
 
-sub-kept : tie.Need-sub-kept Inv-loop μ-loop
-sub-kept c = omega (arith, room c)
-
-mul-kept : tie.Need-mul-kept Inv-loop μ-loop
-mul-kept c = omega (arith, room c)
-
-shared-slice-read-kept : tie.Need-shared-slice-read-kept Inv-loop μ-loop
-shared-slice-read-kept c = omega (arith, room (c .before))
-
-slice-write-kept : tie.Need-slice-write-kept Inv-loop μ-loop
-slice-write-kept c = omega (arith, c .before .before .loop .inv .7 .long)
-
-mul-x : tie.Need-mul-x Inv-loop μ-loop
-mul-x c = omega (arith, room (c .before))
-
-shared-slice-read-x : tie.Need-shared-slice-read-x Inv-loop μ-loop
-shared-slice-read-x c = omega (arith, room (c .before .before))
-
-add-at-2 : tie.Need-add-at-2 Inv-loop μ-loop
-add-at-2 c = omega (arith, room (c .before .before .before .before .before .before))
-
 loop-again : tie.Need-loop-again Inv-loop μ-loop
 loop-again c =
     let a = c .before .before .before .before .before .before .before .before .args in
@@ -62,9 +41,6 @@ loop-again c =
       col-more (a .l .now) (a .w .now) (a .c + a .c + a .c) (a .i) (o .j) (o .at) (o .v) (o .inv .0) (o .inv .2) (o .inv .6),
       kept-more (a .l .now) (a .kept .now) (o .kept) (a .i) (o .j) (o .at) (omega arith) (o .inv .2) (o .inv .7),
     )
-
-same-length : tie.Need-same-length Inv-loop μ-loop
-same-length c = c .before .loop .inv .7 .long
 
 returns : tie.Need-returns Inv-loop μ-loop
 returns c =
@@ -82,15 +58,13 @@ col-dots-spec =
     (λ c. omega arith)
     (λ c. omega arith)
     loop-holds
-    sub-kept
-    mul-kept
-    shared-slice-read-kept
+    (λ c. omega (arith, room c))
+    (λ c. omega (arith, room c))
+    (λ c. omega (arith, room (c .before)))
     (λ c. omega arith)
-    slice-write-kept
-    mul-x
-    shared-slice-read-x
-    (λ c. omega arith)
-    (λ c. omega arith)
+    (λ c. omega (arith, c .before .before .loop .inv .7 .long))
+    (λ c. omega (arith, room (c .before)))
+    (λ c. omega (arith, room (c .before .before)))
     (λ c. omega arith)
     (λ c. omega arith)
     (λ c. omega arith)
@@ -101,9 +75,11 @@ col-dots-spec =
     (λ c. omega arith)
     (λ c. omega arith)
     (λ c. omega arith)
-    add-at-2
+    (λ c. omega arith)
+    (λ c. omega arith)
+    (λ c. omega (arith, room (c .before .before .before .before .before .before)))
     (λ c. omega arith)
     (λ c. omega arith)
     loop-again
-    same-length
+    (λ c. c .before .loop .inv .7 .long)
     returns)

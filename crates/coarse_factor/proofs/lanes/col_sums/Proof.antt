@@ -25,22 +25,10 @@ returns c =
     let known = c .before .before .before .if1 .taken in
     (kept-sums (a .l .now) (a .w .now) (a .kept .now) (a .i) (a .c) (c .row-dots .result) (s .pre .1 known) (c .row-dots .ensures), (refl, λ e. absurd (true≢false (sym known ∙ e))))
 
-add-col-dots : tie.Need-add-col-dots
-add-col-dots c = omega (arith, room c)
-
 col-dots-requires : tie.Need-col-dots-requires
 col-dots-requires c κs =
     let s = c .before .before .before .before .before in
     (s .pre .0 .0, s .pre .0 .1, s .pre .0 .2, ap (λ n. n + s .args .i) (s .pre .0 .3), s .pre .0 .4, s .pre .0 .5)
-
-sub-kept : tie.Need-sub-kept
-sub-kept c = omega (arith, room (c .before .before .before .before .before))
-
-mul-kept : tie.Need-mul-kept
-mul-kept c = omega (arith, room (c .before .before .before .before .before))
-
-shared-slice-read-kept : tie.Need-shared-slice-read-kept
-shared-slice-read-kept c = omega (arith, room (c .before .before .before .before .before .before))
 
 returns-2 : tie.Need-returns-2
 returns-2 c =
@@ -68,11 +56,11 @@ col-sums-spec =
     (λ c κs. search needs)
     (λ c. search needs)
     returns
-    add-col-dots
+    (λ c. omega (arith, room c))
     col-dots-requires
-    sub-kept
-    mul-kept
-    shared-slice-read-kept
+    (λ c. omega (arith, room (c .before .before .before .before .before)))
+    (λ c. omega (arith, room (c .before .before .before .before .before)))
+    (λ c. omega (arith, room (c .before .before .before .before .before .before)))
     (λ c. search needs)
     (λ c. search needs)
     (λ c. search needs)

@@ -26,27 +26,6 @@ room c =
 loop-holds : tie.Need-loop-holds Inv-loop μ-loop
 loop-holds c = (omega arith, refl, forward4-none (c .before .before .args .l .now) (c .before .before .args .c) (c .before .before .args .w .now))
 
-row-dots-requires : tie.Need-row-dots-requires Inv-loop μ-loop
-row-dots-requires c κs = let f = room (c .before) in (omega arith, omega arith)
-
-add-put-lanes : tie.Need-add-put-lanes Inv-loop μ-loop
-add-put-lanes c = omega (arith, room (c .before .before .before))
-
-mul-put-lanes : tie.Need-mul-put-lanes Inv-loop μ-loop
-mul-put-lanes c = omega (arith, room (c .before .before .before))
-
-shared-slice-read-put-lanes : tie.Need-shared-slice-read-put-lanes Inv-loop μ-loop
-shared-slice-read-put-lanes c = omega (arith, room (c .before .before .before .before))
-
-put-lanes-requires : tie.Need-put-lanes-requires Inv-loop μ-loop
-put-lanes-requires c κs = let f = room (c .before .before .before .before) in (omega arith, omega arith)
-
-add-start : tie.Need-add-start Inv-loop μ-loop
-add-start c = omega (arith, room (c .before .before .before .before .before .before .before))
-
-add-start-2 : tie.Need-add-start-2 Inv-loop μ-loop
-add-start-2 c = omega (arith, room (c .before .before .before .before .before .before .before))
-
 loop-again : tie.Need-loop-again Inv-loop μ-loop
 loop-again c =
     let a = c .before .before .before .before .before .before .before .before .before .before .before .args in
@@ -56,9 +35,6 @@ loop-again c =
       tri-next (o .start) (o .i) (o .inv .1),
       forward4-more (a .l .now) (a .c) (a .w .now) (o .w) (c .before .before .put-lanes .last .0) (o .i) (o .start) (c .before .before .before .before .before .row-dots .result) (getD (a .l .now) (o .start + o .i) nan) (omega arith) (p .1) (o .inv .1) (o .inv .2) (c .before .before .before .before .before .row-dots .ensures) refl (c .before .before .put-lanes .ensures),
     )
-
-same-length : tie.Need-same-length Inv-loop μ-loop
-same-length c = c .before .loop .inv .2 .long
 
 returns : tie.Need-returns Inv-loop μ-loop
 returns c = let e : c .before .loop .i ≡ c .before .before .before .before .args .c = omega arith in rw e at (c .before .loop .inv .2)
@@ -70,15 +46,15 @@ forward-four-spec =
     Inv-loop
     μ-loop
     loop-holds
-    row-dots-requires
-    add-put-lanes
-    mul-put-lanes
-    shared-slice-read-put-lanes
-    put-lanes-requires
-    add-start
-    add-start-2
+    (λ c κs. let f = room (c .before) in (omega arith, omega arith))
+    (λ c. omega (arith, room (c .before .before .before)))
+    (λ c. omega (arith, room (c .before .before .before)))
+    (λ c. omega (arith, room (c .before .before .before .before)))
+    (λ c κs. let f = room (c .before .before .before .before) in (omega arith, omega arith))
+    (λ c. omega (arith, room (c .before .before .before .before .before .before .before)))
+    (λ c. omega (arith, room (c .before .before .before .before .before .before .before)))
     (λ c. search needs)
     (λ c. omega arith)
     loop-again
-    same-length
+    (λ c. c .before .loop .inv .2 .long)
     returns)

@@ -13,33 +13,6 @@ use Rattle.numbers.proofs.zero_floats.Reads as zero-floats-reads
 zeros : (c : tie.After-zero-floats) → length (c .zero-floats .last .0) ≡ length (c .before .before .before .args .w .now)
 zeros c = ap length (c .zero-floats .ensures) ∙ length-replicate (length (c .before .before .before .args .w .now)) zeroᶠ
 
-mul-w : tie.Need-mul-w
-mul-w c = omega (arith, zeros (c .before .before))
-
-slice-write-w : tie.Need-slice-write-w
-slice-write-w c = omega (arith, zeros (c .before .before))
-
-mul-w-2 : tie.Need-mul-w-2
-mul-w-2 c = omega (arith, zeros (c .before .before))
-
-slice-write-w-2 : tie.Need-slice-write-w-2
-slice-write-w-2 c = simp length-set (omega (arith, zeros (c .before .before)))
-
-mul-w-3 : tie.Need-mul-w-3
-mul-w-3 c = omega (arith, zeros (c .before .before))
-
-slice-write-w-3 : tie.Need-slice-write-w-3
-slice-write-w-3 c = simp length-set (omega (arith, zeros (c .before .before)))
-
-mul-w-4 : tie.Need-mul-w-4
-mul-w-4 c = omega (arith, zeros (c .before .before))
-
-slice-write-w-4 : tie.Need-slice-write-w-4
-slice-write-w-4 c = simp length-set (omega (arith, zeros (c .before .before)))
-
-same-length : tie.Need-same-length
-same-length c = simp length-set (zeros (c .before .before))
-
 returns : tie.Need-returns
 returns c =
     let a = c .before .before .before .before .before .args in
@@ -50,22 +23,22 @@ set-units-spec =
     tie.close
     (tie.spec
     (λ c κs. search needs)
-    mul-w
-    slice-write-w
+    (λ c. omega (arith, zeros (c .before .before)))
+    (λ c. omega (arith, zeros (c .before .before)))
     (λ c. search needs)
     (λ c. search needs)
-    mul-w-2
-    slice-write-w-2
-    (λ c. search needs)
-    (λ c. search needs)
-    (λ c. search needs)
-    mul-w-3
-    slice-write-w-3
+    (λ c. omega (arith, zeros (c .before .before)))
+    (λ c. simp length-set (omega (arith, zeros (c .before .before))))
     (λ c. search needs)
     (λ c. search needs)
     (λ c. search needs)
+    (λ c. omega (arith, zeros (c .before .before)))
+    (λ c. simp length-set (omega (arith, zeros (c .before .before))))
     (λ c. search needs)
-    mul-w-4
-    slice-write-w-4
-    same-length
+    (λ c. search needs)
+    (λ c. search needs)
+    (λ c. search needs)
+    (λ c. omega (arith, zeros (c .before .before)))
+    (λ c. simp length-set (omega (arith, zeros (c .before .before))))
+    (λ c. simp length-set (zeros (c .before .before)))
     returns)

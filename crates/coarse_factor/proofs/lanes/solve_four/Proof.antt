@@ -8,9 +8,6 @@ use Rattle.coarse_factor.proofs.lanes.backward_four.Reads as backward-f
 use Rattle.coarse_factor.proofs.lanes.forward_four.Reads as forward-four-reads
 use Rattle.coarse_factor.proofs.lanes.set_units.Reads as set-units-reads
 
-set-units-requires : tie.Need-set-units-requires
-set-units-requires c κs = (c .before .before .before .pre .0, c .before .before .before .pre .2)
-
 forward-four-requires : tie.Need-forward-four-requires
 forward-four-requires c κs = (c .before .before .before .before .before .before .before .pre .1, c .before .before .before .set-units .ensures .0 ∙ c .before .before .before .before .before .before .before .pre .2, c .before .before .before .before .before .before .before .pre .3)
 
@@ -29,4 +26,4 @@ returns c =
 pub solve-four-spec : {M : Type 1} → statement M
 solve-four-spec =
     tie.close
-    (tie.spec set-units-requires forward-four-requires backward-four-requires same-length returns)
+    (tie.spec (λ c κs. (c .before .before .before .pre .0, c .before .before .before .pre .2)) forward-four-requires backward-four-requires same-length returns)

@@ -40,9 +40,6 @@ loop-holds c =
     let z : length (a .y .now) - 0 ≡ length (a .y .now) = omega arith in
     (omega arith, refl, refl, rw z (s .pre .0), backward-none (a .l .now) (a .y .now) (length (a .y .now)), refl, λ e. absurd (true≢false (sym e)))
 
-slice-aggregate-col-sum : tie.Need-slice-aggregate-col-sum Inv-loop μ-loop
-slice-aggregate-col-sum c = sym (c .before .before .before .loop .inv .5)
-
 col-sum-requires : tie.Need-col-sum-requires Inv-loop μ-loop
 col-sum-requires c κs =
     let s = c .before .before .before .before .before .before in
@@ -52,9 +49,6 @@ col-sum-requires c κs =
       (omega arith, facts (c .before .before) .0, rw n (s .pre .0), omega (arith, s .pre .1, n, o .inv .5), omega (arith, s .pre .1, n)),
       λ e. kept-here (s .args .l .now) (o .kept) (length (o .y)) (length (s .args .y .now)) (o .k) (row (c .before .before)) n (r .1) (o .inv .6 e (r .0)),
     )
-
-mul-y : tie.Need-mul-y Inv-loop μ-loop
-mul-y c = omega (arith, facts (c .before .before .before .before), row-is (c .before .before .before .before))
 
 slice-read-y : tie.Need-slice-read-y Inv-loop μ-loop
 slice-read-y c = omega (arith, facts (c .before .before .before .before .before), row-is (c .before .before .before .before .before))
@@ -114,9 +108,9 @@ backward-spec =
     loop-holds
     (λ c. search needs)
     (λ c. search needs)
-    slice-aggregate-col-sum
+    (λ c. sym (c .before .before .before .loop .inv .5))
     col-sum-requires
-    mul-y
+    (λ c. omega (arith, facts (c .before .before .before .before), row-is (c .before .before .before .before)))
     slice-read-y
     sub-y
     mul-y-2

@@ -27,30 +27,6 @@ loop-holds c =
     let a = c .args in
     (omega arith, omega arith, refl, c .pre .1, col-none (a .l .now) (a .y .now) (a .i), kept-none (a .l .now) (a .kept .now) (a .i))
 
-sub-kept : tie.Need-sub-kept Inv-loop μ-loop
-sub-kept c = omega (arith, room c)
-
-mul-kept : tie.Need-mul-kept Inv-loop μ-loop
-mul-kept c = omega (arith, room c)
-
-shared-slice-read-kept : tie.Need-shared-slice-read-kept Inv-loop μ-loop
-shared-slice-read-kept c = omega (arith, room (c .before))
-
-slice-write-kept : tie.Need-slice-write-kept Inv-loop μ-loop
-slice-write-kept c = omega (arith, c .before .before .loop .inv .5 .long)
-
-mul-sum : tie.Need-mul-sum Inv-loop μ-loop
-mul-sum c = omega (arith, room (c .before))
-
-shared-slice-read-sum : tie.Need-shared-slice-read-sum Inv-loop μ-loop
-shared-slice-read-sum c = omega (arith, room (c .before .before))
-
-add-at : tie.Need-add-at Inv-loop μ-loop
-add-at c = omega (arith, room (c .before .before .before))
-
-add-at-2 : tie.Need-add-at-2 Inv-loop μ-loop
-add-at-2 c = omega (arith, room (c .before .before .before))
-
 loop-again : tie.Need-loop-again Inv-loop μ-loop
 loop-again c =
     let a = c .before .before .before .before .before .args in
@@ -62,9 +38,6 @@ loop-again c =
       col-step (a .l .now) (a .y .now) (a .i) (o .j) (o .at) (o .sum) (o .inv .0) (o .inv .3) (o .inv .4),
       kept-more (a .l .now) (a .kept .now) (o .kept) (a .i) (o .j) (o .at) (omega arith) (o .inv .3) (o .inv .5),
     )
-
-same-length : tie.Need-same-length Inv-loop μ-loop
-same-length c = c .before .loop .inv .5 .long
 
 returns : tie.Need-returns Inv-loop μ-loop
 returns c =
@@ -80,19 +53,19 @@ col-dot-spec =
     μ-loop
     (λ c. search needs)
     loop-holds
-    sub-kept
-    mul-kept
-    shared-slice-read-kept
+    (λ c. omega (arith, room c))
+    (λ c. omega (arith, room c))
+    (λ c. omega (arith, room (c .before)))
     (λ c. omega arith)
-    slice-write-kept
-    mul-sum
-    shared-slice-read-sum
+    (λ c. omega (arith, c .before .before .loop .inv .5 .long))
+    (λ c. omega (arith, room (c .before)))
+    (λ c. omega (arith, room (c .before .before)))
     (λ c. search needs)
     (λ c. search needs)
-    add-at
-    add-at-2
+    (λ c. omega (arith, room (c .before .before .before)))
+    (λ c. omega (arith, room (c .before .before .before)))
     (λ c. search needs)
     (λ c. omega arith)
     loop-again
-    same-length
+    (λ c. c .before .loop .inv .5 .long)
     returns)

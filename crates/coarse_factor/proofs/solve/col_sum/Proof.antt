@@ -26,22 +26,10 @@ returns c =
     let sum = kept-sum (a .l .now) (a .y .now) (a .kept .now) 0 (a .i) (length (a .y .now)) (s .pre .1 known) in
     (c .row-dot .ensures ∙ sum, (refl, λ e. absurd (true≢false (sym known ∙ e))))
 
-add-col-dot : tie.Need-add-col-dot
-add-col-dot c = omega (arith, room c)
-
 col-dot-requires : tie.Need-col-dot-requires
 col-dot-requires c κs =
     let s = c .before .before .before .before .before in
     (s .pre .0 .0, ap (λ n. n + s .args .i) (s .pre .0 .1), s .pre .0 .2, s .pre .0 .3, s .pre .0 .4)
-
-sub-kept : tie.Need-sub-kept
-sub-kept c = omega (arith, room (c .before .before .before .before .before))
-
-mul-kept : tie.Need-mul-kept
-mul-kept c = omega (arith, room (c .before .before .before .before .before))
-
-shared-slice-read-kept : tie.Need-shared-slice-read-kept
-shared-slice-read-kept c = omega (arith, room (c .before .before .before .before .before .before))
 
 returns-2 : tie.Need-returns-2
 returns-2 c =
@@ -69,11 +57,11 @@ col-sum-spec =
     (λ c κs. search needs)
     (λ c. search needs)
     returns
-    add-col-dot
+    (λ c. omega (arith, room c))
     col-dot-requires
-    sub-kept
-    mul-kept
-    shared-slice-read-kept
+    (λ c. omega (arith, room (c .before .before .before .before .before)))
+    (λ c. omega (arith, room (c .before .before .before .before .before)))
+    (λ c. omega (arith, room (c .before .before .before .before .before .before)))
     (λ c. search needs)
     (λ c. search needs)
     (λ c. search needs)

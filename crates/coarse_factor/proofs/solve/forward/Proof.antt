@@ -35,38 +35,11 @@ loop-holds c =
     let a = c .before .before .args in
     (omega arith, refl, refl, forward-none (a .l .now) (a .y .now))
 
-add-next : tie.Need-add-next Inv-loop μ-loop
-add-next c = omega (arith, fits c)
-
-add-next-2 : tie.Need-add-next-2 Inv-loop μ-loop
-add-next-2 c = omega (arith, fits c)
-
 two-rows-requires : tie.Need-two-rows-requires Inv-loop μ-loop
 two-rows-requires c κs = (omega (arith, fits (c .before), c .before .before .loop .inv .1), omega (arith, fits (c .before)), omega (arith, fits (c .before)))
 
 put-row-requires : tie.Need-put-row-requires Inv-loop μ-loop
 put-row-requires c κs = (omega (arith, fits (c .before .before .before), c .before .before .before .before .loop .inv .1), omega (arith, fits (c .before .before .before)))
-
-add-sum : tie.Need-add-sum Inv-loop μ-loop
-add-sum c = omega (arith, fits (c .before .before .before .before .before .before))
-
-mul-sum : tie.Need-mul-sum Inv-loop μ-loop
-mul-sum c = omega (arith, fits (c .before .before .before .before .before .before))
-
-shared-slice-read-sum : tie.Need-shared-slice-read-sum Inv-loop μ-loop
-shared-slice-read-sum c = omega (arith, fits (c .before .before .before .before .before .before .before))
-
-mul-sum-2 : tie.Need-mul-sum-2 Inv-loop μ-loop
-mul-sum-2 c = omega (arith, fits (c .before .before .before .before .before .before .before))
-
-slice-read-sum : tie.Need-slice-read-sum Inv-loop μ-loop
-slice-read-sum c = omega (arith, fits (c .before .before .before .before .before .before .before .before))
-
-add-put-row : tie.Need-add-put-row Inv-loop μ-loop
-add-put-row c = omega (arith, fits (c .before .before .before .before .before .before .before .before .before .before))
-
-put-row-requires-2 : tie.Need-put-row-requires-2 Inv-loop μ-loop
-put-row-requires-2 c κs = omega (arith, fits (c .before .before .before .before .before .before .before .before .before .before))
 
 add-start : tie.Need-add-start Inv-loop μ-loop
 add-start c = omega (arith, fits (c .before .before .before .before .before .before .before .before .before .before .before .before .before))
@@ -92,12 +65,6 @@ loop-again c =
       g₂ .ensures ∙ forward-two (a .l .now) (a .y .now) (l .y) (g .last .1 .0) (l .i) (l .start) _ (r .result .a) (r .result .b) (f .1) (l .inv .3) (l .inv .2) refl (r .ensures .0) (r .ensures .1) (g .ensures),
     )
 
-row-dot-requires : tie.Need-row-dot-requires Inv-loop μ-loop
-row-dot-requires c κs = (omega arith, omega (arith, last (c .before .before) (omega arith)))
-
-put-row-requires-3 : tie.Need-put-row-requires-3 Inv-loop μ-loop
-put-row-requires-3 c κs = (omega arith, omega (arith, last (c .before .before .before .before) (omega arith)))
-
 returns : tie.Need-returns Inv-loop μ-loop
 returns c =
     let s = c .before .before .before .before .before .before .before .before .before .before .before in
@@ -119,24 +86,24 @@ forward-spec =
     μ-loop
     loop-holds
     (λ c. search needs)
-    add-next
-    add-next-2
+    (λ c. omega (arith, fits c))
+    (λ c. omega (arith, fits c))
     two-rows-requires
     put-row-requires
-    add-sum
-    mul-sum
-    shared-slice-read-sum
-    mul-sum-2
-    slice-read-sum
-    add-put-row
-    put-row-requires-2
+    (λ c. omega (arith, fits (c .before .before .before .before .before .before)))
+    (λ c. omega (arith, fits (c .before .before .before .before .before .before)))
+    (λ c. omega (arith, fits (c .before .before .before .before .before .before .before)))
+    (λ c. omega (arith, fits (c .before .before .before .before .before .before .before)))
+    (λ c. omega (arith, fits (c .before .before .before .before .before .before .before .before)))
+    (λ c. omega (arith, fits (c .before .before .before .before .before .before .before .before .before .before)))
+    (λ c κs. omega (arith, fits (c .before .before .before .before .before .before .before .before .before .before)))
     add-start
     add-start-2
     add-i
     (λ c. omega arith)
     loop-again
-    row-dot-requires
-    put-row-requires-3
+    (λ c κs. (omega arith, omega (arith, last (c .before .before) (omega arith))))
+    (λ c κs. (omega arith, omega (arith, last (c .before .before .before .before) (omega arith))))
     (λ c. search needs)
     returns
     (λ c. search needs)

@@ -9,9 +9,6 @@ use Rattle.coarse_factor.proofs.stored.inverse_rows.Reads as inverse-ro
 use Rattle.coarse_factor.proofs.stored.move_front.Reads as move-front-reads
 use Rattle.numbers.proofs.zero_floats.Reads as zero-floats-reads
 
-move-front-requires : tie.Need-move-front-requires
-move-front-requires c κs = omega (arith, c .before .before .before .inverse-rows .ensures .long)
-
 mul-zero-floats : tie.Need-mul-zero-floats
 mul-zero-floats c = omega (arith, c .before .before .move-front .ensures .long, c .before .before .before .before .before .before .inverse-rows .ensures .long)
 
@@ -28,7 +25,7 @@ by-inverse-spec =
     tie.close
     (tie.spec
     (λ c κs. search needs)
-    move-front-requires
+    (λ c κs. omega (arith, c .before .before .before .inverse-rows .ensures .long))
     mul-zero-floats
     (λ c. search needs)
     part-zero-floats-start

@@ -34,39 +34,6 @@ last c h =
 loop-holds : tie.Need-loop-holds Inv-loop μ-loop
 loop-holds c = (omega arith, omega arith, products-none (c .before .before .args .c) (c .before .before .args .part .now) (c .before .before .args .work .now))
 
-add-loop : tie.Need-add-loop Inv-loop μ-loop
-add-loop c = omega (arith, c .before .before .before .pre .2)
-
-add-next : tie.Need-add-next Inv-loop μ-loop
-add-next c = omega (arith, room c)
-
-two-rows-requires : tie.Need-two-rows-requires Inv-loop μ-loop
-two-rows-requires c κs = (omega (arith, room (c .before)), omega (arith, room (c .before)), omega (arith, room (c .before)))
-
-add-work : tie.Need-add-work Inv-loop μ-loop
-add-work c = omega (arith, room (c .before .before))
-
-mul-work : tie.Need-mul-work Inv-loop μ-loop
-mul-work c = omega (arith, room (c .before .before))
-
-slice-write-work : tie.Need-slice-write-work Inv-loop μ-loop
-slice-write-work c = omega (arith, room (c .before .before))
-
-add-work-2 : tie.Need-add-work-2 Inv-loop μ-loop
-add-work-2 c = omega (arith, room (c .before .before))
-
-add-work-3 : tie.Need-add-work-3 Inv-loop μ-loop
-add-work-3 c = omega (arith, room (c .before .before))
-
-mul-work-2 : tie.Need-mul-work-2 Inv-loop μ-loop
-mul-work-2 c = omega (arith, room (c .before .before))
-
-slice-write-work-2 : tie.Need-slice-write-work-2 Inv-loop μ-loop
-slice-write-work-2 c = simp length-set (omega (arith, room (c .before .before)))
-
-add-base : tie.Need-add-base Inv-loop μ-loop
-add-base c = omega (arith, room (c .before .before))
-
 loop-again : tie.Need-loop-again Inv-loop μ-loop
 loop-again c =
     let s = c .before .before .before .before .before .before in
@@ -74,18 +41,6 @@ loop-again c =
     let o = c .before .before .before .loop in
     let r = room (c .before .before) in
     (omega (arith, r), omega (arith, o .inv .1, next-row (o .i) (a .c), next-row (o .i + 1) (a .c)), products-two (a .c) (a .part .now) (a .work .now) (o .work) (o .i) (o .base) (c .two-rows .result .a) (c .two-rows .result .b) (r .3) (r .2) (o .inv .1) (o .inv .2) (c .two-rows .ensures .0) (c .two-rows .ensures .1))
-
-row-dot-requires : tie.Need-row-dot-requires Inv-loop μ-loop
-row-dot-requires c κs = (omega (arith, last (c .before .before) (omega arith)), omega (arith, last (c .before .before) (omega arith)))
-
-add-work-4 : tie.Need-add-work-4 Inv-loop μ-loop
-add-work-4 c = omega (arith, last (c .before .before .before) (omega arith))
-
-mul-work-3 : tie.Need-mul-work-3 Inv-loop μ-loop
-mul-work-3 c = omega (arith, last (c .before .before .before) (omega arith))
-
-slice-write-work-3 : tie.Need-slice-write-work-3 Inv-loop μ-loop
-slice-write-work-3 c = omega (arith, last (c .before .before .before) (omega arith))
 
 returns : tie.Need-returns Inv-loop μ-loop
 returns c =
@@ -107,24 +62,24 @@ inverse-rows-spec =
     Inv-loop
     μ-loop
     loop-holds
-    add-loop
-    add-next
-    two-rows-requires
-    add-work
-    mul-work
-    slice-write-work
-    add-work-2
-    add-work-3
-    mul-work-2
-    slice-write-work-2
-    add-base
+    (λ c. omega (arith, c .before .before .before .pre .2))
+    (λ c. omega (arith, room c))
+    (λ c κs. (omega (arith, room (c .before)), omega (arith, room (c .before)), omega (arith, room (c .before))))
+    (λ c. omega (arith, room (c .before .before)))
+    (λ c. omega (arith, room (c .before .before)))
+    (λ c. omega (arith, room (c .before .before)))
+    (λ c. omega (arith, room (c .before .before)))
+    (λ c. omega (arith, room (c .before .before)))
+    (λ c. omega (arith, room (c .before .before)))
+    (λ c. simp length-set (omega (arith, room (c .before .before))))
+    (λ c. omega (arith, room (c .before .before)))
     (λ c. search needs)
     (λ c. omega arith)
     loop-again
-    row-dot-requires
-    add-work-4
-    mul-work-3
-    slice-write-work-3
+    (λ c κs. (omega (arith, last (c .before .before) (omega arith)), omega (arith, last (c .before .before) (omega arith))))
+    (λ c. omega (arith, last (c .before .before .before) (omega arith)))
+    (λ c. omega (arith, last (c .before .before .before) (omega arith)))
+    (λ c. omega (arith, last (c .before .before .before) (omega arith)))
     (λ c. search needs)
     returns
     (λ c. search needs)

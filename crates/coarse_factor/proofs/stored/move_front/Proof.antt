@@ -18,26 +18,8 @@ abbrev μ-loop : tie.MeasureT-loop
 loop-holds : tie.Need-loop-holds Inv-loop μ-loop
 loop-holds c = (omega arith, moved-none (c .args .c) (c .args .work .now))
 
-add-work : tie.Need-add-work Inv-loop μ-loop
-add-work c = omega (arith, c .before .loop .inv .1 .long)
-
-mul-work : tie.Need-mul-work Inv-loop μ-loop
-mul-work c = omega (arith, c .before .loop .inv .1 .long)
-
-slice-read-work : tie.Need-slice-read-work Inv-loop μ-loop
-slice-read-work c = omega (arith, c .before .before .loop .inv .1 .long)
-
-mul-work-2 : tie.Need-mul-work-2 Inv-loop μ-loop
-mul-work-2 c = omega (arith, c .before .before .loop .inv .1 .long)
-
-slice-write-work : tie.Need-slice-write-work Inv-loop μ-loop
-slice-write-work c = omega (arith, c .before .before .loop .inv .1 .long)
-
 loop-again : tie.Need-loop-again Inv-loop μ-loop
 loop-again c = (omega arith, moved-more (c .before .before .before .args .c) (c .before .before .before .args .work .now) (c .before .before .loop .work) (c .before .before .loop .i) (omega arith) (c .before .before .before .pre) (c .before .before .loop .inv .1))
-
-same-length : tie.Need-same-length Inv-loop μ-loop
-same-length c = c .before .loop .inv .1 .long
 
 returns : tie.Need-returns Inv-loop μ-loop
 returns c = let e : c .before .loop .i ≡ c .before .before .args .c = omega arith in rw e at (c .before .loop .inv .1)
@@ -49,13 +31,13 @@ move-front-spec =
     Inv-loop
     μ-loop
     loop-holds
-    add-work
-    mul-work
-    slice-read-work
-    mul-work-2
-    slice-write-work
+    (λ c. omega (arith, c .before .loop .inv .1 .long))
+    (λ c. omega (arith, c .before .loop .inv .1 .long))
+    (λ c. omega (arith, c .before .before .loop .inv .1 .long))
+    (λ c. omega (arith, c .before .before .loop .inv .1 .long))
+    (λ c. omega (arith, c .before .before .loop .inv .1 .long))
     (λ c. search needs)
     (λ c. omega arith)
     loop-again
-    same-length
+    (λ c. c .before .loop .inv .1 .long)
     returns)

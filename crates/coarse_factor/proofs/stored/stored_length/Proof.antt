@@ -8,15 +8,6 @@ use Rattle.coarse_factor.proofs.stored.stored_length.Tie as tie
 use Rattle.coarse_factor.proofs.stored.stored_length.Reads as reads
 use Rattle.coarse_factor.proofs.stored.stored_length.Lts as lts
 
-mul-result : tie.Need-mul-result
-mul-result c = omega (arith, triangle-small (c .before .before .args .c) (omega arith))
-
-mul-result-2 : tie.Need-mul-result-2
-mul-result-2 c = omega (arith, triangle-small (c .before .before .args .c) (omega arith))
-
-mul-result-3 : tie.Need-mul-result-3
-mul-result-3 c = omega (arith, square-small (c .before .before .args .c) (omega arith))
-
 returns : tie.Need-returns
 unfolding coarseLength
 returns c = rw (c .enum-told .given .1)
@@ -35,12 +26,12 @@ stored-length-spec =
     (tie.spec
     (λ c. search needs)
     (λ c. search needs)
-    mul-result
+    (λ c. omega (arith, triangle-small (c .before .before .args .c) (omega arith)))
     (λ c. search needs)
     (λ c. search needs)
-    mul-result-2
+    (λ c. omega (arith, triangle-small (c .before .before .args .c) (omega arith)))
     (λ c. search needs)
-    mul-result-3
+    (λ c. omega (arith, square-small (c .before .before .args .c) (omega arith)))
     returns
     returns-2
     returns-3)

@@ -15,9 +15,6 @@ returns c =
     let a = s .args in
     (λ o. got-none (a .numbers .now) (a .neighbours .now) (a .at) (a .have) (s .pre .0) (s .pre .1) o (c .if1 .left), omega arith)
 
-cast-count : tie.Need-cast-count
-cast-count c = omega (arith, c .shared-slice-known2 .given (c .before .before .before .before .args .at))
-
 returns-2 : tie.Need-returns-2
 unfolding gotOf
 returns-2 c =
@@ -31,9 +28,6 @@ returns-3 c =
     let s = c .before .before .before .before .before .before in
     let a = s .args in
     (λ o. got-short (a .numbers .now) (a .neighbours .now) (a .at) (a .have) (s .pre .0) (s .pre .1) o (c .before .before .before .if1 .taken) (c .before .if2 .left) (c .if3 .taken), omega arith)
-
-copy-ints-requires : tie.Need-copy-ints-requires
-copy-ints-requires c κs = tt
 
 returns-4 : tie.Need-returns-4
 unfolding gotOf
@@ -50,7 +44,7 @@ node-of-spec =
     returns
     (λ c. omega arith)
     (λ c. omega arith)
-    cast-count
+    (λ c. omega (arith, c .shared-slice-known2 .given (c .before .before .before .before .args .at)))
     (λ c. omega arith)
     returns-2
     (λ c. omega arith)
@@ -66,6 +60,6 @@ node-of-spec =
     (λ c. omega arith)
     (λ c. omega arith)
     (λ c. omega arith)
-    copy-ints-requires
+    (λ c κs. tt)
     (λ c. omega arith)
     returns-4)

@@ -28,9 +28,6 @@ node-of-requires c κs =
     let l = c .before .before .loop in
     (l .inv .few, omega (arith, l .inv .same-n, c .before .before .before .before .before .before .pre .1))
 
-same-length : tie.Need-same-length Inv-loop μ-loop
-same-length c = c .before .before .before .before .before .before .loop .inv .same-o ∙ simp length-set
-
 same-length-2 : tie.Need-same-length-2 Inv-loop μ-loop
 same-length-2 c = c .before .before .before .node-of .kept .1 .1 .0 ∙ c .before .before .before .before .before .before .loop .inv .same-n
 
@@ -41,9 +38,6 @@ returns c =
     let l = c .before .before .before .before .before .before .loop in
     let n = c .before .before .before .node-of in
     (noting-bad (a .numbers .now) (a .at) (a .nodes) (set (a .offsets .now) 0 0) (a .neighbours .now) (simp length-set (s .pre .0)) (s .pre .1) (l .offsets) (l .neighbours) (l .i) (l .have) (l .pos) (l .inv) (c .before .before .before .before .before .loop-test .taken) (n .last .1 .1 .0) (n .result) (n .kept .1 .1 .0) (n .ensures .0) (n .ensures .1) (record { cause = n .result .cause; count = 0; next = 0 }) (c .if1 .left) refl (take (a .nodes + 1) (l .offsets)) (take 0 (n .last .1 .1 .0)), omega arith)
-
-cast-offsets : tie.Need-cast-offsets Inv-loop μ-loop
-cast-offsets c = omega (arith, c .before .before .before .node-of .ensures .1)
 
 slice-write-offsets-2 : tie.Need-slice-write-offsets-2 Inv-loop μ-loop
 slice-write-offsets-2 c =
@@ -58,12 +52,6 @@ loop-again c =
     let l = c .before .before .before .before .before .before .loop in
     let n = c .before .before .before .node-of in
     noting-next (a .numbers .now) (a .at) (a .nodes) (set (a .offsets .now) 0 0) (a .neighbours .now) (simp length-set (s .pre .0)) (s .pre .1) (l .offsets) (l .neighbours) (l .i) (l .have) (l .pos) (l .inv) (c .before .before .before .before .before .loop-test .taken) (n .last .1 .1 .0) (n .result) (n .kept .1 .1 .0) (n .ensures .0) (n .ensures .1) (c .if1 .taken)
-
-same-length-3 : tie.Need-same-length-3 Inv-loop μ-loop
-same-length-3 c = c .before .loop .inv .same-o ∙ simp length-set
-
-same-length-4 : tie.Need-same-length-4 Inv-loop μ-loop
-same-length-4 c = c .before .loop .inv .same-n
 
 returns-2 : tie.Need-returns-2 Inv-loop μ-loop
 returns-2 c =
@@ -81,15 +69,15 @@ nodes-of-spec =
     (λ c. search needs)
     loop-holds
     node-of-requires
-    same-length
+    (λ c. c .before .before .before .before .before .before .loop .inv .same-o ∙ simp length-set)
     same-length-2
     returns
     (λ c. search needs)
-    cast-offsets
+    (λ c. omega (arith, c .before .before .before .node-of .ensures .1))
     (λ c. omega arith)
     slice-write-offsets-2
     (λ c. omega arith)
     loop-again
-    same-length-3
-    same-length-4
+    (λ c. c .before .loop .inv .same-o ∙ simp length-set)
+    (λ c. c .before .loop .inv .same-n)
     returns-2)

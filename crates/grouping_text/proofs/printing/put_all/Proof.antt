@@ -21,9 +21,6 @@ loop-holds c =
     let s = c .before .before in
     copy-first (s .args .out .now) (s .args .at) (s .pre) (s .args .bytes .now)
 
-put-requires : tie.Need-put-requires Inv-loop μ-loop
-put-requires c κs = c .before .before .before .loop .inv .within
-
 loop-again : tie.Need-loop-again Inv-loop μ-loop
 loop-again c =
     let s = c .before .before .before .before .before .before .before .before .before in
@@ -31,9 +28,6 @@ loop-again c =
     let l = c .before .before .before .before .before .before .loop in
     let p = c .before .before .put in
     copy-next (a .out .now) (a .at) (s .pre) (a .bytes .now) (l .out) (l .end) (l .i) (l .inv) (omega arith) (p .last .0) (p .result) (p .ensures)
-
-same-length : tie.Need-same-length Inv-loop μ-loop
-same-length c = c .before .loop .inv .same
 
 returns : tie.Need-returns Inv-loop μ-loop
 returns c =
@@ -50,9 +44,9 @@ put-all-spec =
     μ-loop
     loop-holds
     (λ c. search needs)
-    put-requires
+    (λ c κs. c .before .before .before .loop .inv .within)
     (λ c. search needs)
     (λ c. omega arith)
     loop-again
-    same-length
+    (λ c. c .before .loop .inv .same)
     returns)

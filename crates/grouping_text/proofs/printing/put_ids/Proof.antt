@@ -21,12 +21,6 @@ loop-holds c =
     let s = c .before .before in
     list-first (s .args .out .now) (s .args .at) (s .pre) (s .args .ids .now)
 
-cast-put-line : tie.Need-cast-put-line Inv-loop μ-loop
-cast-put-line c = omega (arith, c .shared-slice-known2 .given (c .before .before .before .loop .v))
-
-put-line-requires : tie.Need-put-line-requires Inv-loop μ-loop
-put-line-requires c κs = c .before .before .before .loop .inv .within
-
 loop-again : tie.Need-loop-again Inv-loop μ-loop
 loop-again c =
     let s = c .before .before .before .before .before .before .before .before .before in
@@ -34,9 +28,6 @@ loop-again c =
     let l = c .before .before .before .before .before .before .loop in
     let p = c .before .before .put-line in
     list-next (a .out .now) (a .at) (s .pre) (a .ids .now) (l .out) (l .end) (l .v) (l .inv) (omega arith) (p .last .0) (p .result) (p .ensures)
-
-same-length : tie.Need-same-length Inv-loop μ-loop
-same-length c = c .before .loop .inv .same
 
 returns : tie.Need-returns Inv-loop μ-loop
 returns c =
@@ -54,10 +45,10 @@ put-ids-spec =
     loop-holds
     (λ c. search needs)
     (λ c. search needs)
-    cast-put-line
-    put-line-requires
+    (λ c. omega (arith, c .shared-slice-known2 .given (c .before .before .before .loop .v)))
+    (λ c κs. c .before .before .before .loop .inv .within)
     (λ c. search needs)
     (λ c. omega arith)
     loop-again
-    same-length
+    (λ c. c .before .loop .inv .same)
     returns)

@@ -11,22 +11,10 @@ use Rattle.grouping_text.proofs.reading.close.Reads as close-reads
 use Rattle.grouping_text.proofs.reading.digit.Reads as digit-reads
 use Rattle.grouping_text.proofs.reading.more.Reads as more-reads
 
-digit-requires : tie.Need-digit-requires
-digit-requires c κs = tt
-
-more-requires : tie.Need-more-requires
-more-requires c κs = digit-range (c .before .before .before .before .args .b) (sym (c .before .digit .ensures) ∙ c .if2 .taken)
-
 returns : tie.Need-returns
 returns c =
     let a = c .before .before .before .before .before .args in
     byte-grown (a .reader) (a .numbers .now) (a .b) (c .before .before .before .if1 .taken) (sym (c .before .before .digit .ensures) ∙ c .before .if2 .taken) (c .more .result) (c .more .ensures)
-
-blank-requires : tie.Need-blank-requires
-blank-requires c κs = tt
-
-close-requires : tie.Need-close-requires
-close-requires c κs = tt
 
 returns-2 : tie.Need-returns-2
 returns-2 c =
@@ -45,11 +33,11 @@ pub byte-in-spec : {M : Type 1} → statement M
 byte-in-spec =
     tie.close
     (tie.spec
-    digit-requires
-    more-requires
+    (λ c κs. tt)
+    (λ c κs. digit-range (c .before .before .before .before .args .b) (sym (c .before .digit .ensures) ∙ c .if2 .taken))
     returns
-    blank-requires
-    close-requires
+    (λ c κs. tt)
+    (λ c κs. tt)
     (λ c. search needs)
     returns-2
     returns-3

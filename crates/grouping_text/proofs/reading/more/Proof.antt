@@ -10,9 +10,6 @@ use Rattle.grouping_text.proofs.reading.more.Reads as reads
 use Rattle.grouping_text.proofs.reading.more.Lts as lts
 use Rattle.grouping_text.proofs.reading.wide.Reads as wide-reads
 
-wide-requires : tie.Need-wide-requires
-wide-requires c κs = tt
-
 returns : tie.Need-returns
 returns c =
     let a = c .before .before .args in
@@ -26,4 +23,4 @@ returns-2 c =
     cap-under (a .n * 10 + (c .before .wide .result - 48)) (c .if1 .left) ∙ ap cap s
 
 pub more-spec : {M : Type 1} → statement M
-more-spec = tie.close (tie.spec (λ c. omega arith) wide-requires (λ c. omega arith) (λ c. omega arith) (λ c. omega arith) returns returns-2)
+more-spec = tie.close (tie.spec (λ c. omega arith) (λ c κs. tt) (λ c. omega arith) (λ c. omega arith) (λ c. omega arith) returns returns-2)

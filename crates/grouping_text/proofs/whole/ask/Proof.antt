@@ -16,9 +16,6 @@ returns : tie.Need-returns
 unfolding askedOf
 returns c = let a = c .before .before .before .before .args in (asks-1 (a .numbers .now) (a .whole) (c .if1 .left), (omega arith, omega arith))
 
-cast-nodes : tie.Need-cast-nodes
-cast-nodes c = omega (arith, c .shared-slice-known2 .given 0)
-
 returns-2 : tie.Need-returns-2
 unfolding askedOf
 returns-2 c = let a = c .before .before .before .before .before .before .args in (asks-2 (a .numbers .now) (a .whole) (c .before .before .if1 .taken) (c .if2 .taken), (omega arith, omega arith))
@@ -27,15 +24,6 @@ returns-3 : tie.Need-returns-3
 unfolding askedOf
 returns-3 c = let a = c .before .before .before .before .before .before .before .args in (asks-3 (a .numbers .now) (a .whole) (c .before .before .before .if1 .taken) (c .before .if2 .left) (c .if3 .left), (omega arith, omega arith))
 
-cast-size : tie.Need-cast-size
-cast-size c = omega (arith, c .shared-slice-known3 .given 1)
-
-same-length : tie.Need-same-length
-same-length c = c .before .before .before .before .before .nodes-of .kept .1 .1 .1 .0
-
-same-length-2 : tie.Need-same-length-2
-same-length-2 c = c .before .before .before .before .before .nodes-of .kept .1 .1 .1 .1 .0
-
 returns-4 : tie.Need-returns-4
 returns-4 c =
     let a = c .before .before .before .before .before .before .before .before .before .before .before .before .before .before .before .before .args in
@@ -43,12 +31,6 @@ returns-4 c =
     let o = take (getD (a .numbers .now) 0 0 + 1) (g .last .1 .1 .1 .0) in
     let l = take (g .result .count) (g .last .1 .1 .1 .1 .0) in
     (asks-4 (a .numbers .now) (a .whole) (c .before .before .before .before .before .before .before .before .before .before .before .before .if1 .taken) (c .before .before .before .before .before .before .before .before .before .before .if2 .left) (c .before .before .before .before .before .before .before .before .before .if3 .taken) (g .result) o l (g .ensures .0) (c .if4 .left) (record { cause = g .result .cause; nodes = 0; size = 0; count = 0 }) (take (0 + 1) (g .last .1 .1 .1 .0)) (take 0 (g .last .1 .1 .1 .1 .0)) refl, (omega arith, omega arith))
-
-same-length-3 : tie.Need-same-length-3
-same-length-3 c = c .before .before .before .before .before .before .nodes-of .kept .1 .1 .1 .0
-
-same-length-4 : tie.Need-same-length-4
-same-length-4 c = c .before .before .before .before .before .before .nodes-of .kept .1 .1 .1 .1 .0
 
 returns-5 : tie.Need-returns-5
 unfolding askedOf
@@ -59,12 +41,6 @@ returns-5 c =
     let l = take (g .result .count) (g .last .1 .1 .1 .1 .0) in
     (asks-5 (a .numbers .now) (a .whole) (c .before .before .before .before .before .before .before .before .before .before .before .before .before .if1 .taken) (c .before .before .before .before .before .before .before .before .before .before .before .if2 .left) (c .before .before .before .before .before .before .before .before .before .before .if3 .taken) (g .result) o l (g .ensures .0) (c .before .if4 .taken) (c .if5 .taken), (omega arith, omega arith))
 
-same-length-5 : tie.Need-same-length-5
-same-length-5 c = c .before .before .before .before .before .before .before .nodes-of .kept .1 .1 .1 .0
-
-same-length-6 : tie.Need-same-length-6
-same-length-6 c = c .before .before .before .before .before .before .before .nodes-of .kept .1 .1 .1 .1 .0
-
 returns-6 : tie.Need-returns-6
 unfolding askedOf
 returns-6 c =
@@ -73,12 +49,6 @@ returns-6 c =
     let o = take (getD (a .numbers .now) 0 0 + 1) (g .last .1 .1 .1 .0) in
     let l = take (g .result .count) (g .last .1 .1 .1 .1 .0) in
     (asks-6 (a .numbers .now) (a .whole) (c .before .before .before .before .before .before .before .before .before .before .before .before .before .before .if1 .taken) (c .before .before .before .before .before .before .before .before .before .before .before .before .if2 .left) (c .before .before .before .before .before .before .before .before .before .before .before .if3 .taken) (g .result) o l (g .ensures .0) (c .before .before .if4 .taken) (c .before .if5 .left) (c .if6 .taken), (c .before .before .before .before .before .before .before .before .before .before .before .before .if2 .left, g .ensures .1))
-
-same-length-7 : tie.Need-same-length-7
-same-length-7 c = c .before .before .before .before .before .before .before .nodes-of .kept .1 .1 .1 .0
-
-same-length-8 : tie.Need-same-length-8
-same-length-8 c = c .before .before .before .before .before .before .before .nodes-of .kept .1 .1 .1 .1 .0
 
 returns-7 : tie.Need-returns-7
 unfolding askedOf
@@ -95,21 +65,21 @@ ask-spec =
     (tie.spec
     returns
     (λ c. search needs)
-    cast-nodes
+    (λ c. omega (arith, c .shared-slice-known2 .given 0))
     returns-2
     returns-3
     (λ c. search needs)
-    cast-size
+    (λ c. omega (arith, c .shared-slice-known3 .given 1))
     (λ c κs. search needs)
-    same-length
-    same-length-2
+    (λ c. c .before .before .before .before .before .nodes-of .kept .1 .1 .1 .0)
+    (λ c. c .before .before .before .before .before .nodes-of .kept .1 .1 .1 .1 .0)
     returns-4
-    same-length-3
-    same-length-4
+    (λ c. c .before .before .before .before .before .before .nodes-of .kept .1 .1 .1 .0)
+    (λ c. c .before .before .before .before .before .before .nodes-of .kept .1 .1 .1 .1 .0)
     returns-5
-    same-length-5
-    same-length-6
+    (λ c. c .before .before .before .before .before .before .before .nodes-of .kept .1 .1 .1 .0)
+    (λ c. c .before .before .before .before .before .before .before .nodes-of .kept .1 .1 .1 .1 .0)
     returns-6
-    same-length-7
-    same-length-8
+    (λ c. c .before .before .before .before .before .before .before .nodes-of .kept .1 .1 .1 .0)
+    (λ c. c .before .before .before .before .before .before .before .nodes-of .kept .1 .1 .1 .1 .0)
     returns-7)
