@@ -14,7 +14,8 @@ use Rattle.definitions.specs.Neighbours.{neighboursOf, squaresTowards, normTowa
 use Rattle.adjacency.specs.Collect.{marked, nodesIn}
 use Rattle.adjacency.specs.WellFormed.{WellFormed, Spans}
 use Rattle.adjacency.specs.Lists.{found, weights, listOf, Between, Listed}
-use Rattle.adjacency.specs.Order.{before, sortBy, Below}
+use Rattle.laws.specs.Bounds.{Below}
+use Rattle.adjacency.specs.Order.{before, sortBy}
 use Rattle.adjacency.specs.Strengths.{AllPlain, squaresIn, cleared, weighed, strongOf, measured}
 use Rattle.adjacency.proofs.Laws.{Each}
 use Rattle.adjacency.proofs.Halves.{All, of-all}

@@ -12,7 +12,8 @@ ghost use Rattle.definitions.specs.Matrix.{csr};
 ghost use Rattle.adjacency.specs.Collect.{marked, nodesIn, Inside};
 ghost use Rattle.adjacency.specs.WellFormed.{WellFormed};
 ghost use Rattle.adjacency.specs.Lists.{found, Between, Listed};
-ghost use Rattle.adjacency.specs.Order.{before, sortBy, Below};
+ghost use Rattle.laws.specs.Bounds.{Below};
+ghost use Rattle.adjacency.specs.Order.{before, sortBy};
 ghost use Rattle.adjacency.specs.Strengths.{AllPlain};
 
 // Where the entries of node v start.

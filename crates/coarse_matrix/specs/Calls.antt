@@ -15,7 +15,7 @@ use Rattle.definitions.specs.Coarse.{constantEntry, galerkinEntry, averagedSqua
 use Rattle.definitions.specs.declared.Refusal.the-variants.{TooLarge, NotSquare, BlockSize, NotMultiple, CoarseTooLarge, CoarseListTooShort, SetupMisfit}
 use Rattle.definitions.specs.Setup.{maxCoarse}
 use Rattle.csr32.specs.Rows.{outside}
-use Rattle.coarse_matrix.specs.Scatter.{Walk}
+use Rattle.laws.specs.Bounds.{Compressed}
 
 -- ---- the basis that is constant over a group
 
@@ -77,6 +77,6 @@ galerkinCoarseCall a c ptr idx weights ints floats =
 pub record GalerkinFacts (rows cols c : ℕ) (ptr idx : List ℕ) (count ints floats : ℕ) : Type 0 where
   pub same : rows ≡ cols
   pub small : c ≤ maxCoarse
-  pub walk : Walk rows c ptr idx count
+  pub walk : Compressed rows c ptr idx count
   pub ints-room : 2 * c ≤ ints
   pub floats-room : c * c + c ≤ floats

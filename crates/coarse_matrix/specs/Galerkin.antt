@@ -11,7 +11,7 @@ use Rattle.definitions.specs.Lists.{upTo, keep}
 use Rattle.definitions.specs.Numbers.{_+ᶠ_, _*ᶠ_, zeroᶠ, total}
 use Rattle.definitions.specs.Matrix.{Matrix, Entry, valuesWhere}
 use Rattle.definitions.specs.Coarse.{weightedSum, weightsAt, productTerms}
-use Rattle.coarse_matrix.specs.Scatter.{put}
+use Rattle.laws.specs.Scatter.{put}
 
 -- a value times the weights of a transfer row
 abbrev pub scaled : Float → List Entry → List Entry

@@ -11,7 +11,8 @@ ghost use Rattle.definitions.specs.Lists.{square, padded};
 ghost use Rattle.definitions.specs.Numbers.{zeroᶠ};
 ghost use Rattle.definitions.specs.Coarse.{averagedSquare, galerkinEntry};
 ghost use Rattle.definitions.specs.Matrix.{rowOf, csr, stored};
-ghost use Rattle.coarse_matrix.specs.Scatter.{Walk, Below, scatter};
+ghost use Rattle.laws.specs.Bounds.{Compressed, Below};
+ghost use Rattle.laws.specs.Scatter.{scatter};
 ghost use Rattle.coarse_matrix.specs.Galerkin.{marked, Room, Put, scaled, productPuts, weightPuts, weighedPuts, RowAdded, RowsAdded};
 
 // Column k gets the token, a place in the list of touched columns and a zero, unless it has the token. Returns how many are touched.
@@ -85,7 +86,7 @@ fn add_row(
 ) -> usize
     requires { ⌜ (from ≤ to) × (to ≤ length (now vals)) × (length (now idx) ≡ length (now vals)) × (c ≤ 2048) × (base + c ≤ length (now floats)) ⌝ }
     requires { ⌜ Below n (now idx) ⌝ }
-    requires { ⌜ Walk n c (now tptr) (now tidx) (length (now weights)) ⌝ }
+    requires { ⌜ Compressed n c (now tptr) (now tidx) (length (now weights)) ⌝ }
     requires { ⌜ Room c token (now ints) 0 ⌝ }
     ensures { λ r. ⌜ Put c base token (now (ints .entry)) (now (floats .entry)) 0 (now (ints .exit)) (now (floats .exit)) r (productPuts (rowOf (now (tptr .entry)) (now (tidx .entry)) (now (weights .entry))) (stored (now (idx .entry)) (now (vals .entry)) from to)) ⌝ }
 {
@@ -176,8 +177,8 @@ fn galerkin_row(
     floats: &mut [f64],
 )
     requires { ⌜ (r < n) × (n ≤ 1048576) × (c ≤ 2048) × (2 * c ≤ length (now ints)) × (c * c + c ≤ length (now floats)) ⌝ }
-    requires { ⌜ Walk n n (now ptr) (now idx) (length (now vals)) ⌝ }
-    requires { ⌜ Walk n c (now tptr) (now tidx) (length (now weights)) ⌝ }
+    requires { ⌜ Compressed n n (now ptr) (now idx) (length (now vals)) ⌝ }
+    requires { ⌜ Compressed n c (now tptr) (now tidx) (length (now weights)) ⌝ }
     requires { ⌜ ((j : ℕ) → j < c → getD (now ints) j 0 < suc r) ⌝ }
     ensures { λ _. ⌜ RowAdded (csr n n (now (ptr .entry)) (now (idx .entry)) (now (vals .entry))) (rowOf (now (tptr .entry)) (now (tidx .entry)) (now (weights .entry))) c r (now (ints .entry)) (now (ints .exit)) (now (floats .entry)) (now (floats .exit)) ⌝ }
 {
@@ -219,8 +220,8 @@ fn galerkin_rows(
     floats: &mut [f64],
 )
     requires { ⌜ (n ≤ 1048576) × (c ≤ 2048) × (2 * c ≤ length (now ints)) × (c * c + c ≤ length (now floats)) ⌝ }
-    requires { ⌜ Walk n n (now ptr) (now idx) (length (now vals)) ⌝ }
-    requires { ⌜ Walk n c (now tptr) (now tidx) (length (now weights)) ⌝ }
+    requires { ⌜ Compressed n n (now ptr) (now idx) (length (now vals)) ⌝ }
+    requires { ⌜ Compressed n c (now tptr) (now tidx) (length (now weights)) ⌝ }
     requires { ⌜ RowsAdded (csr n n (now ptr) (now idx) (now vals)) (rowOf (now tptr) (now tidx) (now weights)) c 0 (now ints) (now ints) (now floats) (now floats) ⌝ }
     ensures { λ _. ⌜ RowsAdded (csr n n (now (ptr .entry)) (now (idx .entry)) (now (vals .entry))) (rowOf (now (tptr .entry)) (now (tidx .entry)) (now (weights .entry))) c n (now (ints .entry)) (now (ints .exit)) (now (floats .entry)) (now (floats .exit)) ⌝ }
 {
@@ -245,8 +246,8 @@ fn galerkin_sum(
     floats: &mut [f64],
 )
     requires { ⌜ (n ≤ 1048576) × (c ≤ 2048) × (2 * c ≤ length (now ints)) × (c * c + c ≤ length (now floats)) ⌝ }
-    requires { ⌜ Walk n n (now ptr) (now idx) (length (now vals)) ⌝ }
-    requires { ⌜ Walk n c (now tptr) (now tidx) (length (now weights)) ⌝ }
+    requires { ⌜ Compressed n n (now ptr) (now idx) (length (now vals)) ⌝ }
+    requires { ⌜ Compressed n c (now tptr) (now tidx) (length (now weights)) ⌝ }
     ensures { λ _. ⌜ RowsAdded (csr n n (now (ptr .entry)) (now (idx .entry)) (now (vals .entry))) (rowOf (now (tptr .entry)) (now (tidx .entry)) (now (weights .entry))) c n (now (ints .entry)) (now (ints .exit)) (now (floats .entry)) (now (floats .exit)) ⌝ }
 {
     zero_ints(ints);
@@ -268,8 +269,8 @@ pub(crate) fn galerkin_into(
     floats: &mut [f64],
 )
     requires { ⌜ (n ≤ 1048576) × (c ≤ 2048) × (2 * c ≤ length (now ints)) × (c * c + c ≤ length (now floats)) ⌝ }
-    requires { ⌜ Walk n n (now ptr) (now idx) (length (now vals)) ⌝ }
-    requires { ⌜ Walk n c (now tptr) (now tidx) (length (now weights)) ⌝ }
+    requires { ⌜ Compressed n n (now ptr) (now idx) (length (now vals)) ⌝ }
+    requires { ⌜ Compressed n c (now tptr) (now tidx) (length (now weights)) ⌝ }
     ensures { λ _. ⌜ (now (ints .exit) ≡ replicate (length (now (ints .entry))) 0) × (now (floats .exit) ≡ padded zeroᶠ (length (now (floats .entry))) (averagedSquare c (square c (galerkinEntry (csr n n (now (ptr .entry)) (now (idx .entry)) (now (vals .entry))) (rowOf (now (tptr .entry)) (now (tidx .entry)) (now (weights .entry))))))) ⌝ }
 {
     galerkin_sum(ptr, idx, vals, n, tptr, tidx, weights, c, ints, floats);

@@ -20,7 +20,7 @@ ghost use Rattle.definitions.specs.Answers.{answerOf};
 ghost use Rattle.definitions.specs.declared.Answer.the-variants.{Accepted};
 ghost use Rattle.csr32.specs.Rows.{Rows};
 ghost use Rattle.coarse_matrix.specs.Calls.{constantChecks, constantChecked, constantCoarseCall, ConstantFacts, transferFits, galerkinChecks, galerkinChecked, galerkinCoarseCall, GalerkinFacts};
-ghost use Rattle.coarse_matrix.specs.Scatter.{Walk};
+ghost use Rattle.laws.specs.Bounds.{Compressed};
 
 mod constant;
 mod galerkin;
@@ -138,7 +138,7 @@ pub fn constant_coarse(
 // Whether the transfer is compressed rows with columns below c.
 fn transfer_fits(rows: usize, c: usize, ptr: &[u32], idx: &[u32], count: usize) -> bool
     requires { ⌜ rows ≤ 1048576 ⌝ }
-    ensures { λ r. ⌜ (r ≡ transferFits rows c (now (ptr .entry)) (now (idx .entry)) count) × (r ≡ true → Walk rows c (now (ptr .entry)) (now (idx .entry)) count) ⌝ }
+    ensures { λ r. ⌜ (r ≡ transferFits rows c (now (ptr .entry)) (now (idx .entry)) count) × (r ≡ true → Compressed rows c (now (ptr .entry)) (now (idx .entry)) count) ⌝ }
 {
     if ptr.len() != rows + 1 {
         return false;

@@ -12,9 +12,6 @@ use Rattle.definitions.specs.Estimate.{Estimate, startOf, normalised, rowTerms,
 use Rattle.definitions.specs.declared.Refusal.the-variants.{EstimateFailed}
 
 -- every number of a list is below n
-abbrev pub Below : ℕ → List ℕ → Type 0
-Below n l = (k : ℕ) → k < length l → getD l k 0 < n
-
 -- the vector of a work list
 abbrev pub vectorIn : ℕ → List Float → List Float
 vectorIn rows w = between rows (rows + rows) w

@@ -11,7 +11,8 @@ ghost use Rattle.definitions.specs.Matrix.{csr, stored};
 ghost use Rattle.definitions.specs.Estimate.{image, normalised, rounds as roundsOf};
 ghost use Rattle.definitions.specs.Answers.{estimateAnswer};
 ghost use Rattle.csr32.specs.Rows.{Rows};
-ghost use Rattle.spectral_radius.specs.Power.{Below, vectorIn, imageIn, imageAt, products, outcomeOf, finishedOf};
+ghost use Rattle.laws.specs.Bounds.{Below};
+ghost use Rattle.spectral_radius.specs.Power.{vectorIn, imageIn, imageAt, products, outcomeOf, finishedOf};
 
 fn wide(x: u32) -> usize
     ensures { λ r. ⌜ r ≡ x ⌝ }

@@ -13,7 +13,7 @@ use lib.Dec.{leb}
 use borrow.Author.Tests.{le-leb, lt-leb}
 use Rattle.definitions.specs.Matrix.{Matrix, Entry, maxRows, validOf}
 use Rattle.csr32.specs.Rows.{Rows, rows-of}
-use Rattle.transfer.specs.Touched.{Grouped}
+use Rattle.laws.specs.Bounds.{Grouped}
 use Rattle.definitions.specs.Answers.{transferAnswer, answerOf}
 use Rattle.transfer.specs.Call.{shapeChecked, groupsChecked, transferChecked, smoothedTransferCall, transferInts, transferFloats}
 use Rattle.definitions.specs.declared.TransferAnswer.{TransferAnswer}

@@ -19,7 +19,7 @@ ghost use Rattle.definitions.specs.Matrix.{csr};
 ghost use Rattle.definitions.specs.Answers.{answerOf, transferAnswer};
 ghost use Rattle.definitions.specs.Transfer.{transferOf};
 ghost use Rattle.csr32.specs.Rows.{Rows};
-ghost use Rattle.transfer.specs.Touched.{Grouped};
+ghost use Rattle.laws.specs.Bounds.{Grouped};
 ghost use Rattle.transfer.specs.Weights.{Left};
 ghost use Rattle.transfer.specs.Call.{transferChecked, smoothedTransferCall, transferInts, transferFloats};
 

@@ -11,7 +11,7 @@ ghost use lib.ListN.{length, getD, set};
 ghost use Rattle.definitions.specs.Matrix.{csr};
 ghost use Rattle.definitions.specs.Transfer.{transferRow, transferOf};
 ghost use Rattle.csr32.specs.Rows.{Rows};
-ghost use Rattle.transfer.specs.Touched.{Grouped};
+ghost use Rattle.laws.specs.Bounds.{Grouped};
 ghost use Rattle.transfer.specs.Weights.{Parted, Put, Built};
 
 // Row i: its columns at the front of t, its weights at their places in w; returns how many they are.

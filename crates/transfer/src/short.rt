@@ -10,7 +10,8 @@ ghost use lib.ListN.{length, take};
 ghost use lib.Seq.{slice};
 ghost use Rattle.definitions.specs.Matrix.{stored};
 ghost use Rattle.definitions.specs.Transfer.{coarseColumn};
-ghost use Rattle.transfer.specs.Touched.{Below, Grouped, insertAll, named, Spread, Gathered};
+ghost use Rattle.laws.specs.Bounds.{Below, Grouped};
+ghost use Rattle.transfer.specs.Touched.{insertAll, named, Spread, Gathered};
 ghost use Rattle.transfer.specs.Weights.{smoothing, fresh, accumulated};
 
 // The weight at j is 0 where j is new: where the columns were n and are more now.

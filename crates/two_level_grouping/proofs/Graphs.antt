@@ -36,9 +36,9 @@ use Rattle.csr32.specs.Valid.{valid-keeps}
 use Rattle.adjacency.specs.Within.{neighboursWithin}
 use Rattle.aggregates.specs.Within.{withinCall}
 use Rattle.two_level_grouping.specs.Front.{Front, front-with, front-rows}
-use Rattle.two_level_grouping.specs.Calls.{Grouped, Settled, Ready, idsLeft, listsOf, validThen, noNode}
+use Rattle.two_level_grouping.specs.Calls.{Grouped, Answered, Ready, idsLeft, listsOf, validThen, noNode}
 use Rattle.two_level_grouping.proofs.Fronts.{few-nodes}
-use Rattle.two_level_grouping.proofs.Settling.{accepted-first, refused-first, invalid-kept, valid-settled}
+use Rattle.two_level_grouping.proofs.Answering.{accepted-first, refused-first, invalid-kept, valid-answered}
 use Rattle.two_level_grouping.proofs.Below.{lists-inside}
 use Rattle.two_level_grouping.proofs.Flat.{grouping-passes}
 
@@ -56,14 +56,14 @@ module _ (a : Matrix) (o : Options) where
   -- ---- what is answered and left
 
   module _ (k : TwoLevelAggregation) (ids work : List ℕ) (floats : List Float) where
-    pub none-ends : n ≡ 0 → (r : GroupingAnswer) (ids' work' : List ℕ) (floats' : List Float) → Settled (validThen a noNode) ids work floats r ids' work' floats'
-        → Settled (validThen a (listsOf k a o)) ids work floats r ids' work' floats'
+    pub none-ends : n ≡ 0 → (r : GroupingAnswer) (ids' work' : List ℕ) (floats' : List Float) → Answered (validThen a noNode) ids work floats r ids' work' floats'
+        → Answered (validThen a (listsOf k a o)) ids work floats r ids' work' floats'
     unfolding graphOf require _>>=_
     none-ends h r ids' work' floats' s = let b : ltb 0 n ≡ false = le-ltb 0 n (omega arith) in rw b s
 
     grouped : 0 < n → (after ids' work' : List ℕ) (floats' : List Float) (r : GroupingAnswer) → 1 ≤ o .group → length after ≡ length work
         → withinCall n (o .group) base after ≡ done (graphGrouping (λ v. getD (neighbourLists k a (o .block) n) v []) noAnchor n (o .group))
-        → Grouped n (o .group) base ids after r ids' work' → floats' ≡ replicate (length floats) zeroᶠ → Settled (listsOf k a o) ids work floats r ids' work' floats'
+        → Grouped n (o .group) base ids after r ids' work' → floats' ≡ replicate (length floats) zeroᶠ → Answered (listsOf k a o) ids work floats r ids' work' floats'
     unfolding graphOf require _>>=_ groupingAnswer idsLeft resultLeft workLeft
     grouped h after ids' work' floats' r p la e g ef =
         let b : ltb 0 n ≡ true = lt-ltb 0 n h in
@@ -122,7 +122,7 @@ module _ (a : Matrix) (o : Options) where
       module _ (x : Answer) (ex : x ≡ answerOf within) where
         -- refused: by 1 to 8, and all lists are as they were
         pub unchanged : (r : Refusal) → x ≡ Refused r → (ids : List ℕ) (floats floats1 : List Float) → floats1 ≡ workLeft zeroᶠ within floats
-            → Settled (validThen a (listsOf k a o)) ids work floats (NoGroups r) ids after floats1
+            → Answered (validThen a (listsOf k a o)) ids work floats (NoGroups r) ids after floats1
         unfolding neighboursWithin
         unchanged r e ids floats floats1 ef =
             let v : validOf a ≡ refused r = refused-first _ (validOf a) flat passes-valid r (sym ex ∙ e) in
@@ -174,7 +174,7 @@ module _ (a : Matrix) (o : Options) where
               grouping-passes n base lists list-count rest after stands (o .group) (few-nodes a o front) (omega (arith, few, front-rows a o front .fewEntries)) (front .some) (front .fewest) some
               (lists-inside k a (o .block) n) (omega (arith, few))
 
-          pub grouped-settled : (ids : List ℕ) (floats floats1 : List Float) → floats1 ≡ workLeft zeroᶠ within floats → (r : GroupingAnswer) (ids' work' : List ℕ) → Grouped n (o .group) base ids after r ids' work'
-              → Settled (validThen a (listsOf k a o)) ids work floats r ids' work' floats1
-          grouped-settled ids floats floats1 ef r ids' work' g =
-              valid-settled ids work floats a (listsOf k a o) valid _ _ _ _ (grouped k ids work floats some after ids' work' floats1 r (front .some) after-long grouping-is g (floats-clear floats floats1 ef))
+          pub grouped-answered : (ids : List ℕ) (floats floats1 : List Float) → floats1 ≡ workLeft zeroᶠ within floats → (r : GroupingAnswer) (ids' work' : List ℕ) → Grouped n (o .group) base ids after r ids' work'
+              → Answered (validThen a (listsOf k a o)) ids work floats r ids' work' floats1
+          grouped-answered ids floats floats1 ef r ids' work' g =
+              valid-answered ids work floats a (listsOf k a o) valid _ _ _ _ (grouped k ids work floats some after ids' work' floats1 r (front .some) after-long grouping-is g (floats-clear floats floats1 ef))

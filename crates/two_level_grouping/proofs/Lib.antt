@@ -1,7 +1,7 @@
 pub mod Sizes
 pub mod Fronts
 pub mod Rooms
-pub mod Settling
+pub mod Answering
 pub mod Kept
 pub mod Numbered
 pub mod Below

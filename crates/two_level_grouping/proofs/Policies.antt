@@ -25,8 +25,8 @@ use Rattle.definitions.specs.declared.Refusal.the-variants.{ListTooShort}
 use Rattle.csr32.specs.Calls.{accepted-done, refused-is, goes-on, stops, passed, failed}
 use Rattle.laws.proofs.Tests.{three-true}
 use Rattle.two_level_grouping.specs.Front.{Front, shapeOf, shape-least, front-splits, front-parts, front-with, front-of, front-rows, front-kept}
-use Rattle.two_level_grouping.specs.Calls.{hasRoom, small, passes, sizesFit, aggregateCall, idsLeft, Settled, Ready, numbersOf, listsOf, validThen}
-use Rattle.two_level_grouping.proofs.Settling.{kept, valid-settled}
+use Rattle.two_level_grouping.specs.Calls.{hasRoom, small, passes, sizesFit, aggregateCall, idsLeft, Answered, Ready, numbersOf, listsOf, validThen}
+use Rattle.two_level_grouping.proofs.Answering.{kept, valid-answered}
 
 passes-done : (o : Checked) → passes o ≡ true → o ≡ done tt
 unfolding passes
@@ -53,18 +53,18 @@ module _ (a : Matrix) (o : Options) where
       pub numbers-front : Front a o
       numbers-front = front-with a o valid (y .shape)
 
-      pub numbers-settled : (r : ℕ) (ids' work' : List ℕ) (floats' : List Float) → r ≡ (n + (o .group - 1)) / o .group
+      pub numbers-answered : (r : ℕ) (ids' work' : List ℕ) (floats' : List Float) → r ≡ (n + (o .group - 1)) / o .group
           → ids' ≡ padded 0 (length ids) (tab (λ v. v / o .group) n) → work' ≡ replicate (length work) 0 → floats' ≡ replicate (length floats) zeroᶠ
-          → Settled (validThen a (numbersOf a o)) ids work floats (Groups r) ids' work' floats'
+          → Answered (validThen a (numbersOf a o)) ids work floats (Groups r) ids' work' floats'
       unfolding contiguousGrouping groupingAnswer idsLeft _>>=_ resultLeft workLeft
-      numbers-settled r ids' work' floats' er e1 e2 e3 =
-          valid-settled ids work floats a (numbersOf a o) valid _ _ _ _ (record { answer = rw er; groups = e1; ints = e2; floats = e3 })
+      numbers-answered r ids' work' floats' er e1 e2 e3 =
+          valid-answered ids work floats a (numbersOf a o) valid _ _ _ _ (record { answer = rw er; groups = e1; ints = e2; floats = e3 })
 
     -- ---- the policies
 
     module _ (r : GroupingAnswer) (ids' work' : List ℕ) (floats' : List Float) where
       abbrev Ends : Outcome Grouping → Type 0
-      Ends g = Settled (validThen a g) ids work floats r ids' work' floats'
+      Ends g = Answered (validThen a g) ids work floats r ids' work' floats'
 
       pub contiguous-ends : o .aggregation ≡ Contiguous → Ends (numbersOf a o) → Ends (groupingOf (o .aggregation) a o)
       unfolding groupingOf
@@ -112,19 +112,19 @@ module _ (a : Matrix) (o : Options) where
         unfolding aggregateCall
         left = rw (front-splits a o) (drops (validOf a) _ _ _ (goes-on shape tt _ shaped ∙ goes-on _ tt _ (passed room ListTooShort (fit .2))))
 
-        pub went : (r : GroupingAnswer) (ids' work' : List ℕ) (floats' : List Float) → Settled (validThen a (groupingOf (o .aggregation) a o)) ids work floats r ids' work' floats'
-            → Settled call ids work floats r ids' work' floats'
-        went r ids' work' floats' s = subst (λ c. Settled c ids work floats r ids' work' floats') (sym left) s
+        pub went : (r : GroupingAnswer) (ids' work' : List ℕ) (floats' : List Float) → Answered (validThen a (groupingOf (o .aggregation) a o)) ids work floats r ids' work' floats'
+            → Answered call ids work floats r ids' work' floats'
+        went r ids' work' floats' s = subst (λ c. Answered c ids work floats r ids' work' floats') (sym left) s
 
       -- sizes that do not fit leave a first cause among 1 to 13
       module _ (f : t ≡ false) (x : Answer) (ex : x ≡ answerOf (frontOf a o)) where
-        pub stopped : (r : Refusal) → x ≡ Refused r → Settled call ids work floats (NoGroups r) ids work floats
+        pub stopped : (r : Refusal) → x ≡ Refused r → Answered call ids work floats (NoGroups r) ids work floats
         unfolding aggregateCall
         stopped r e =
             let q : frontOf a o ≡ refused r = refused-is (frontOf a o) r (sym ex ∙ e) in
             kept ids work floats call r (front-kept a o r q) (stops (frontOf a o) r _ q)
 
-        pub short : x ≡ Accepted → Settled call ids work floats (NoGroups ListTooShort) ids work floats
+        pub short : x ≡ Accepted → Answered call ids work floats (NoGroups ListTooShort) ids work floats
         unfolding aggregateCall keepsAll causeOf sizesFit passes
         short e =
             let d : frontOf a o ≡ done tt = accepted-done (frontOf a o) (sym ex ∙ e) in

@@ -57,7 +57,7 @@ pub record Grouped (nodes size base : ℕ) (lent work : List ℕ) (r : GroupingA
   pub zeros : (g : Grouping) → withinCall nodes size base work ≡ done g → length (g .ids) ≡ nodes → work' ≡ replicate (length work) 0
 
 -- what a grouping call answers and leaves: the groups with zeros after them, and work lists of zeros
-pub record Settled (call : Outcome Grouping) (lent work : List ℕ) (wide : List Float) (r : GroupingAnswer) (lent' work' : List ℕ) (wide' : List Float) : Type 0 where
+pub record Answered (call : Outcome Grouping) (lent work : List ℕ) (wide : List Float) (r : GroupingAnswer) (lent' work' : List ℕ) (wide' : List Float) : Type 0 where
   pub answer : r ≡ groupingAnswer call
   pub groups : lent' ≡ idsLeft call lent
   pub ints : work' ≡ workLeft 0 call work

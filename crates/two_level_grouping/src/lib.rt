@@ -16,7 +16,7 @@ ghost use Rattle.definitions.specs.Matrix.{csr};
 ghost use Rattle.definitions.specs.Setup.{frontOf, groupingOf};
 ghost use Rattle.definitions.specs.Answers.{answerOf};
 ghost use Rattle.two_level_grouping.specs.Front.{shapeOf};
-ghost use Rattle.two_level_grouping.specs.Calls.{hasRoom, sizesFit, aggregateCall, Grouped, Settled, Ready, noNode, numbersOf, listsOf, validThen};
+ghost use Rattle.two_level_grouping.specs.Calls.{hasRoom, sizesFit, aggregateCall, Grouped, Answered, Ready, noNode, numbersOf, listsOf, validThen};
 
 // Causes 9 to 12, in this order.
 fn shape(rows: usize, cols: usize, block: u64, group: u64) -> Answer
@@ -153,7 +153,7 @@ fn by_number(
     work_floats: &mut [f64],
 ) -> GroupingAnswer
     requires { ⌜ Ready (csr rows cols (now «row_ptr») (now «col_idx») (now values)) options (length (now ids)) (length (now «work_ints»)) (length (now «work_floats»)) ⌝ }
-    ensures { λ r. ⌜ Settled (validThen (csr rows cols (now («row_ptr» .entry)) (now («col_idx» .entry)) (now (values .entry))) (numbersOf (csr rows cols (now («row_ptr» .entry)) (now («col_idx» .entry)) (now (values .entry))) options)) (now (ids .entry)) (now («work_ints» .entry)) (now («work_floats» .entry)) r (now (ids .exit)) (now («work_ints» .exit)) (now («work_floats» .exit)) ⌝ }
+    ensures { λ r. ⌜ Answered (validThen (csr rows cols (now («row_ptr» .entry)) (now («col_idx» .entry)) (now (values .entry))) (numbersOf (csr rows cols (now («row_ptr» .entry)) (now («col_idx» .entry)) (now (values .entry))) options)) (now (ids .entry)) (now («work_ints» .entry)) (now («work_floats» .entry)) r (now (ids .exit)) (now («work_ints» .exit)) (now («work_floats» .exit)) ⌝ }
 {
     let valid = csr32::validate(rows, cols, row_ptr, col_idx, values);
     match valid {
@@ -179,7 +179,7 @@ fn no_node(
     work_ints: &mut [u32],
     work_floats: &mut [f64],
 ) -> GroupingAnswer
-    ensures { λ r. ⌜ Settled (validThen (csr rows cols (now («row_ptr» .entry)) (now («col_idx» .entry)) (now (values .entry))) noNode) (now (ids .entry)) (now («work_ints» .entry)) (now («work_floats» .entry)) r (now (ids .exit)) (now («work_ints» .exit)) (now («work_floats» .exit)) ⌝ }
+    ensures { λ r. ⌜ Answered (validThen (csr rows cols (now («row_ptr» .entry)) (now («col_idx» .entry)) (now (values .entry))) noNode) (now (ids .entry)) (now («work_ints» .entry)) (now («work_floats» .entry)) r (now (ids .exit)) (now («work_ints» .exit)) (now («work_floats» .exit)) ⌝ }
 {
     let valid = csr32::validate(rows, cols, row_ptr, col_idx, values);
     match valid {
@@ -207,7 +207,7 @@ fn by_graph(
     work_floats: &mut [f64],
 ) -> GroupingAnswer
     requires { ⌜ Ready (csr rows cols (now «row_ptr») (now «col_idx») (now values)) options (length (now ids)) (length (now «work_ints»)) (length (now «work_floats»)) ⌝ }
-    ensures { λ r. ⌜ Settled (validThen (csr rows cols (now («row_ptr» .entry)) (now («col_idx» .entry)) (now (values .entry))) (listsOf aggregation (csr rows cols (now («row_ptr» .entry)) (now («col_idx» .entry)) (now (values .entry))) options)) (now (ids .entry)) (now («work_ints» .entry)) (now («work_floats» .entry)) r (now (ids .exit)) (now («work_ints» .exit)) (now («work_floats» .exit)) ⌝ }
+    ensures { λ r. ⌜ Answered (validThen (csr rows cols (now («row_ptr» .entry)) (now («col_idx» .entry)) (now (values .entry))) (listsOf aggregation (csr rows cols (now («row_ptr» .entry)) (now («col_idx» .entry)) (now (values .entry))) options)) (now (ids .entry)) (now («work_ints» .entry)) (now («work_floats» .entry)) r (now (ids .exit)) (now («work_ints» .exit)) (now («work_floats» .exit)) ⌝ }
 {
     let size = options.block as usize;
     let nodes = rows / size;
@@ -257,7 +257,7 @@ fn by_policy(
     work_floats: &mut [f64],
 ) -> GroupingAnswer
     requires { ⌜ Ready (csr rows cols (now «row_ptr») (now «col_idx») (now values)) options (length (now ids)) (length (now «work_ints»)) (length (now «work_floats»)) ⌝ }
-    ensures { λ r. ⌜ Settled (validThen (csr rows cols (now («row_ptr» .entry)) (now («col_idx» .entry)) (now (values .entry))) (groupingOf (options .aggregation) (csr rows cols (now («row_ptr» .entry)) (now («col_idx» .entry)) (now (values .entry))) options)) (now (ids .entry)) (now («work_ints» .entry)) (now («work_floats» .entry)) r (now (ids .exit)) (now («work_ints» .exit)) (now («work_floats» .exit)) ⌝ }
+    ensures { λ r. ⌜ Answered (validThen (csr rows cols (now («row_ptr» .entry)) (now («col_idx» .entry)) (now (values .entry))) (groupingOf (options .aggregation) (csr rows cols (now («row_ptr» .entry)) (now («col_idx» .entry)) (now (values .entry))) options)) (now (ids .entry)) (now («work_ints» .entry)) (now («work_floats» .entry)) r (now (ids .exit)) (now («work_ints» .exit)) (now («work_floats» .exit)) ⌝ }
 {
     let aggregation = options.aggregation;
     match aggregation {
@@ -311,7 +311,7 @@ pub fn aggregate(
     work_ints: &mut [u32],
     work_floats: &mut [f64],
 ) -> GroupingAnswer
-    ensures { λ r. ⌜ Settled (aggregateCall (csr rows cols (now («row_ptr» .entry)) (now («col_idx» .entry)) (now (values .entry))) options (length (now (ids .entry))) (length (now («work_ints» .entry))) (length (now («work_floats» .entry)))) (now (ids .entry)) (now («work_ints» .entry)) (now («work_floats» .entry)) r (now (ids .exit)) (now («work_ints» .exit)) (now («work_floats» .exit)) ⌝ }
+    ensures { λ r. ⌜ Answered (aggregateCall (csr rows cols (now («row_ptr» .entry)) (now («col_idx» .entry)) (now (values .entry))) options (length (now (ids .entry))) (length (now («work_ints» .entry))) (length (now («work_floats» .entry)))) (now (ids .entry)) (now («work_ints» .entry)) (now («work_floats» .entry)) r (now (ids .exit)) (now («work_ints» .exit)) (now («work_floats» .exit)) ⌝ }
 {
     if sizes_fit(
         rows,

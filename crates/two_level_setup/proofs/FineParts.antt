@@ -32,7 +32,7 @@ use Rattle.laws.proofs.GroupIds.{ids-length, ids-below, count-few}
 use Rattle.laws.proofs.SetupLists.{factors-length}
 use Rattle.csr32.specs.Calls.{goes-on, stops, passed, refused-is}
 use Rattle.two_level_grouping.specs.Front.{Front, front-rows, rows-whole}
-use Rattle.two_level_grouping.specs.Calls.{hasRoom, aggregateCall, idsLeft, Settled}
+use Rattle.two_level_grouping.specs.Calls.{hasRoom, aggregateCall, idsLeft, Answered}
 use Rattle.two_level_setup.specs.Stages.{Parts, optionsOf, started, partsAnswer, grouped, fineOf}
 use Rattle.two_level_setup.specs.Fit.{Fit, Bounds, Counted}
 use Rattle.two_level_setup.specs.Contracts.{roomIn, Holds, Leaves, Begun}
@@ -151,7 +151,7 @@ module _ (a : Matrix) (o : Options) (ints : List ℕ) (floats : List Float) (wor
     has-factors (refused r) e = ([], cc)
 
     module _ (accepted : x ≡ Accepted) (z : GroupingAnswer) (ints1 workInts1 : List ℕ) (workFloats1 : List Float)
-        (s : Settled (aggregateCall a o (length ints) (length workInts) (length workFloats)) ints workInts workFloats z ints1 workInts1 workFloats1) where
+        (s : Answered (aggregateCall a o (length ints) (length workInts) (length workFloats)) ints workInts workFloats z ints1 workInts1 workFloats1) where
       abbrev factors : (l : List Float) × (factorsOf a (o .block) ≡ done l)
       factors = has-factors (factorsOf a (o .block)) (sym accepted ∙ ex ∙ ap answerOf blocks-pass)
 

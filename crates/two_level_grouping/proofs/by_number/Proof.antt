@@ -1,6 +1,6 @@
 -- Validate's refusal, or the groups of a valid matrix.
-use Rattle.two_level_grouping.proofs.Policies.{numbers-front, numbers-settled}
-use Rattle.two_level_grouping.proofs.Settling.{invalid-settled}
+use Rattle.two_level_grouping.proofs.Policies.{numbers-front, numbers-answered}
+use Rattle.two_level_grouping.proofs.Answering.{invalid-answered}
 use Rattle.two_level_grouping.proofs.Fronts.{few-nodes}
 use Rattle.definitions.specs.Matrix.{csr}
 use Rattle.two_level_grouping.specs.Calls.{numbersOf}
@@ -21,7 +21,7 @@ returns : tie.Need-returns
 returns c =
     let a = c .before .before .before .before .before .before .before .before .before .before .args in
     let m = csr (a .rows) (a .cols) (a .row-ptr .now) (a .col-idx .now) (a .values .now) in
-    invalid-settled (a .ids .now) (a .work-ints .now) (a .work-floats .now) m (c .before .before .before .validate .result) (c .before .before .before .validate .ensures) (numbersOf m (a .options)) _ (c .before .valid .given .1)
+    invalid-answered (a .ids .now) (a .work-ints .now) (a .work-floats .now) m (c .before .before .before .validate .result) (c .before .before .before .validate .ensures) (numbersOf m (a .options)) _ (c .before .valid .given .1)
 
 returns-2 : tie.Need-returns-2
 returns-2 c =
@@ -32,7 +32,7 @@ returns-2 c =
     let k = c .before .before .before .before .before .before .before .before .before .before .contiguous in
     let zi = c .before .before .before .before .before .before .zero-ints in
     let zf = c .before .before .zero-floats in
-    numbers-settled m (a .options) (a .ids .now) (a .work-ints .now) (a .work-floats .now) (s .pre) (v .result) (v .ensures) (c .before .before .before .before .before .before .before .before .before .before .before .before .enum-told .given .1) (k .result) (k .last .1 .1 .0) (zi .last .0) (zf .last .0) (k .ensures .0) (k .ensures .1) (zi .ensures) (zf .ensures)
+    numbers-answered m (a .options) (a .ids .now) (a .work-ints .now) (a .work-floats .now) (s .pre) (v .result) (v .ensures) (c .before .before .before .before .before .before .before .before .before .before .before .before .enum-told .given .1) (k .result) (k .last .1 .1 .0) (zi .last .0) (zf .last .0) (k .ensures .0) (k .ensures .1) (zi .ensures) (zf .ensures)
 
 pub by-number-spec : {M : Type 1} → statement M
 by-number-spec =

@@ -18,7 +18,7 @@ use Rattle.definitions.specs.declared.Refusal.{Refusal}
 use Rattle.definitions.specs.declared.Refusal.the-variants.{NoNode}
 use Rattle.csr32.specs.Calls.{accepted-done, refused-is, goes-on, stops, keeps-refused, result-kept, work-kept}
 use Rattle.csr32.specs.Valid.{valid-keeps}
-use Rattle.two_level_grouping.specs.Calls.{idsLeft, Settled, validThen, noNode}
+use Rattle.two_level_grouping.specs.Calls.{idsLeft, Answered, validThen, noNode}
 
 -- ---- what the answer of a call says of its first check, where that is the only one that can fail
 
@@ -36,7 +36,7 @@ module _ {A : Type 0} (next : Unit {0} → Outcome A) where
 -- ---- what is left
 
 module _ (ids work : List ℕ) (floats : List Float) where
-  pub kept : (call : Outcome Grouping) (r : Refusal) → keepsAll r ≡ true → call ≡ refused r → Settled call ids work floats (NoGroups r) ids work floats
+  pub kept : (call : Outcome Grouping) (r : Refusal) → keepsAll r ≡ true → call ≡ refused r → Answered call ids work floats (NoGroups r) ids work floats
   unfolding groupingAnswer idsLeft
   kept call r k e = record {
     answer = rw e;
@@ -46,20 +46,20 @@ module _ (ids work : List ℕ) (floats : List Float) where
   }
 
   module _ (a : Matrix) (g : Outcome Grouping) where
-    pub invalid-kept : (r : Refusal) → validOf a ≡ refused r → Settled (validThen a g) ids work floats (NoGroups r) ids work floats
+    pub invalid-kept : (r : Refusal) → validOf a ≡ refused r → Answered (validThen a g) ids work floats (NoGroups r) ids work floats
     invalid-kept r v = kept (validThen a g) r (keeps-refused (validOf a) r (valid-keeps a) v) (stops (validOf a) r (λ _. g) v)
 
-    pub valid-settled : validOf a ≡ done tt → (r : GroupingAnswer) (ids' work' : List ℕ) (floats' : List Float) → Settled g ids work floats r ids' work' floats'
-        → Settled (validThen a g) ids work floats r ids' work' floats'
-    valid-settled v r ids' work' floats' s = subst (λ c. Settled c ids work floats r ids' work' floats') (sym (goes-on (validOf a) tt (λ _. g) v)) s
+    pub valid-answered : validOf a ≡ done tt → (r : GroupingAnswer) (ids' work' : List ℕ) (floats' : List Float) → Answered g ids work floats r ids' work' floats'
+        → Answered (validThen a g) ids work floats r ids' work' floats'
+    valid-answered v r ids' work' floats' s = subst (λ c. Answered c ids work floats r ids' work' floats') (sym (goes-on (validOf a) tt (λ _. g) v)) s
 
   -- by validate's answer
   module _ (a : Matrix) (x : Answer) (ex : x ≡ answerOf (validOf a)) where
-    pub invalid-settled : (g : Outcome Grouping) (r : Refusal) → x ≡ Refused r → Settled (validThen a g) ids work floats (NoGroups r) ids work floats
-    invalid-settled g r e = invalid-kept a g r (refused-is (validOf a) r (sym ex ∙ e))
+    pub invalid-answered : (g : Outcome Grouping) (r : Refusal) → x ≡ Refused r → Answered (validThen a g) ids work floats (NoGroups r) ids work floats
+    invalid-answered g r e = invalid-kept a g r (refused-is (validOf a) r (sym ex ∙ e))
 
-    pub no-node-settled : x ≡ Accepted → (ids' work' : List ℕ) (floats' : List Float) → ids' ≡ replicate (length ids) 0 → work' ≡ replicate (length work) 0 → floats' ≡ replicate (length floats) zeroᶠ
-        → Settled (validThen a noNode) ids work floats (NoGroups NoNode) ids' work' floats'
+    pub no-node-answered : x ≡ Accepted → (ids' work' : List ℕ) (floats' : List Float) → ids' ≡ replicate (length ids) 0 → work' ≡ replicate (length work) 0 → floats' ≡ replicate (length floats) zeroᶠ
+        → Answered (validThen a noNode) ids work floats (NoGroups NoNode) ids' work' floats'
     unfolding groupingAnswer idsLeft _>>=_ resultLeft workLeft keepsAll causeOf
-    no-node-settled e ids' work' floats' e1 e2 e3 =
-        valid-settled a noNode (accepted-done (validOf a) (sym ex ∙ e)) _ _ _ _ (record { answer = refl; groups = e1; ints = e2; floats = e3 })
+    no-node-answered e ids' work' floats' e1 e2 e3 =
+        valid-answered a noNode (accepted-done (validOf a) (sym ex ∙ e)) _ _ _ _ (record { answer = refl; groups = e1; ints = e2; floats = e3 })
