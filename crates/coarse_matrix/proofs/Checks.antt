@@ -13,7 +13,7 @@ use Rattle.definitions.specs.Lists.{square, padded, falls}
 use Rattle.definitions.specs.Numbers.{zeroᶠ}
 use Rattle.definitions.specs.Refusal.{Outcome, refused, done, Checked, require, _>>=_, resultLeft, workLeft}
 use Rattle.definitions.specs.Answers.{answerOf}
-use Rattle.definitions.specs.Matrix.{Matrix, csr, maxRows, validOf, rowOf}
+use Rattle.definitions.specs.Matrix.{Matrix, csr, maxRows, structureOf, rowOf}
 use Rattle.definitions.specs.Block.{maxBlock}
 use Rattle.definitions.specs.Transfer.{coarseColumn}
 use Rattle.definitions.specs.Coarse.{constantEntry, galerkinEntry, averagedSquare}
@@ -133,7 +133,7 @@ module _ (a : Matrix) (size : ℕ) (ids : List ℕ) (groups lent : ℕ) where
   many-groups h = rw (lt-leb groups maxRows h)
 
   -- the matrix, and then the checks over sizes and ids
-  pub few-groups : groups ≤ maxRows → constantChecked a size ids groups lent ≡ (validOf a >>= (λ _. constantChecks (a .rows) (a .cols) size ids groups lent))
+  pub few-groups : groups ≤ maxRows → constantChecked a size ids groups lent ≡ (structureOf a >>= (λ _. constantChecks (a .rows) (a .cols) size ids groups lent))
   unfolding constantChecked require _>>=_
   few-groups h = rw (le-leb groups maxRows h)
 
@@ -230,7 +230,7 @@ module _ (rows cols c : ℕ) (ptr idx : List ℕ) (count ints floats : ℕ) wher
 
 -- ---- the whole call
 
-pub galerkin-checked : (a : Matrix) (c : ℕ) (ptr idx : List ℕ) (count ints floats : ℕ) → galerkinChecked a c ptr idx count ints floats ≡ (validOf a >>= (λ _. galerkinChecks (a .rows) (a .cols) c ptr idx count ints floats))
+pub galerkin-checked : (a : Matrix) (c : ℕ) (ptr idx : List ℕ) (count ints floats : ℕ) → galerkinChecked a c ptr idx count ints floats ≡ (structureOf a >>= (λ _. galerkinChecks (a .rows) (a .cols) c ptr idx count ints floats))
 unfolding galerkinChecked
 galerkin-checked a c ptr idx count ints floats = refl
 

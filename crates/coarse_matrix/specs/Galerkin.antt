@@ -35,6 +35,9 @@ pub record Marks : Type 0 where
   pub floats : List Float
   pub count : ℕ
 
+abbrev pub marks : List ℕ → List Float → ℕ → Marks
+marks ints floats count = record { ints = ints; floats = floats; count = count }
+
 -- the column k stamped, listed and its number set to zero, unless it has the stamp
 unfoldable pub marked : ℕ → ℕ → ℕ → ℕ → Marks → Marks
 marked c base token k s = elim (eqb (getD (s .ints) k 0) token) [

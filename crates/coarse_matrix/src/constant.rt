@@ -73,7 +73,8 @@ fn add_matrix(
     requires { ⌜ Compressed n n (now ptr) (now idx) (length (now vals)) ⌝ }
     requires { ⌜ Grouped size (now ids) n c ⌝ }
     requires { ⌜ c * c ≤ length (now coarse) ⌝ }
-    ensures { λ _. ⌜ now (coarse .exit) ≡ scattered (rowPuts (coarseColumn size (now (ids .entry))) c (rowOf (now (ptr .entry)) (now (idx .entry)) (now (vals .entry)))) n (now (coarse .entry)) ⌝ }
+    ensures { λ _. ⌜ (let row = rowOf (now (ptr .entry)) (now (idx .entry)) (now (vals .entry)) in
+        now (coarse .exit) ≡ scattered (rowPuts (coarseColumn size (now (ids .entry))) c row) n (now (coarse .entry))) ⌝ }
 {
     for r in 0..n {
         let at = coarse_of(ids, size, r);
@@ -97,7 +98,8 @@ pub(crate) fn constant_into(
     requires { ⌜ Compressed n n (now ptr) (now idx) (length (now vals)) ⌝ }
     requires { ⌜ Grouped size (now ids) n c ⌝ }
     requires { ⌜ c * c ≤ length (now coarse) ⌝ }
-    ensures { λ _. ⌜ now (coarse .exit) ≡ padded zeroᶠ (length (now (coarse .entry))) (averagedSquare c (square c (constantEntry (csr n n (now (ptr .entry)) (now (idx .entry)) (now (vals .entry))) (coarseColumn size (now (ids .entry)))))) ⌝ }
+    ensures { λ _. ⌜ (let a = csr n n (now (ptr .entry)) (now (idx .entry)) (now (vals .entry)) in
+        now (coarse .exit) ≡ padded zeroᶠ (length (now (coarse .entry))) (averagedSquare c (square c (constantEntry a (coarseColumn size (now (ids .entry))))))) ⌝ }
 {
     zero_floats(coarse);
     let from = 0;

@@ -45,7 +45,8 @@ pub(crate) fn accumulate(
     requires { ⌜ Grouped size (now ids) cols (length (now w)) ⌝ }
     requires { ⌜ Spread (take count (now t)) (length (now w)) ⌝ }
     ensures { λ r. ⌜ Gathered (now (t .exit)) r (insertAll (named (coarseColumn size (now (ids .entry))) (slice from to (now (idx .entry)))) (take count (now (t .entry)))) ⌝ }
-    ensures { λ _. ⌜ now (w .exit) ≡ accumulated (take count (now (t .entry))) (smoothing (coarseColumn size (now (ids .entry))) damping inv (stored (now (idx .entry)) (now (vals .entry)) from to)) (now (w .entry)) ⌝ }
+    ensures { λ _. ⌜ (let entries = stored (now (idx .entry)) (now (vals .entry)) from to in
+        now (w .exit) ≡ accumulated (take count (now (t .entry))) (smoothing (coarseColumn size (now (ids .entry))) damping inv entries) (now (w .entry))) ⌝ }
 {
     let mut n = count;
     let mut near: usize = 0;
