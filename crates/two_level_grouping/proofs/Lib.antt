@@ -1,5 +1,6 @@
 pub mod Sizes
 pub mod Fronts
+pub mod Asking
 pub mod Rooms
 pub mod Answering
 pub mod Kept

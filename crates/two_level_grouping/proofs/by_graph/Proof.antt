@@ -1,4 +1,4 @@
--- Only 1 to 8 can refuse the first stage; else the lists stand where the second reads them.
+-- Only the causes of the matrix can refuse the first stage; else the lists stand where the second reads them.
 use mathlib.Core.Path.{refl}
 use Prim.Native.Nat.{_<_}
 use native.Mathlib.Omega.{arith}
