@@ -1,6 +1,6 @@
 -- The entries stored from one position up to another, as a loop walks them: what is left at its head, and what is passed behind it.
 use Prim.Native.Nat.{ℕ, zero, suc, _+_, _-_, _≤_, _<_}
-use mathlib.Core.Path.{_≡_, refl, _∙_}
+use mathlib.Core.Path.{_≡_, _∙_}
 use mathlib.Core.Bool.{Bool, true, false}
 use mathlib.Core.List.{List, [], _∷_, _++_, zipWith, append-nil}
 use native.Mathlib.Omega.{arith}

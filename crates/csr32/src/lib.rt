@@ -1,4 +1,4 @@
-// A sparse matrix in compressed rows: the causes 1 to 8 that every call on a matrix checks first, and its diagonal.
+// A sparse matrix in compressed rows: the causes 1 to 8, of which whoever walks a matrix checks 1 to 7 first, and its diagonal.
 use definitions::Answer;
 use definitions::MAX_ENTRIES;
 use definitions::MAX_ROWS;
@@ -222,7 +222,8 @@ fn fill_diagonal(
     requires { ⌜ Rows (csr rows rows (now «row_ptr») (now «col_idx») (now values)) ⌝ }
     requires { ⌜ rows ≤ length (now diagonal) ⌝ }
     ensures { λ r. ⌜ r ≡ answerOf (diagonalOf (csr rows rows (now («row_ptr» .entry)) (now («col_idx» .entry)) (now (values .entry)))) ⌝ }
-    ensures { λ _. ⌜ now (diagonal .exit) ≡ resultLeft zeroᶠ (diagonalOf (csr rows rows (now («row_ptr» .entry)) (now («col_idx» .entry)) (now (values .entry)))) (now (diagonal .entry)) ⌝ }
+    ensures { λ _. ⌜ (let a = csr rows rows (now («row_ptr» .entry)) (now («col_idx» .entry)) (now (values .entry)) in
+        now (diagonal .exit) ≡ resultLeft zeroᶠ (diagonalOf a) (now (diagonal .entry))) ⌝ }
 {
     let mut i: usize = 0;
     while i < rows {

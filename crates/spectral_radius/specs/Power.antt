@@ -1,8 +1,8 @@
 -- The estimate's steps over one work list: the inverse roots in its first `rows` numbers, the vector in the next, its image in those after it.
-use Prim.Native.Nat.{ℕ, _+_, _<_}
+use Prim.Native.Nat.{ℕ, _+_}
 use mathlib.Core.Bool.{Bool, true, false}
 use mathlib.Core.List.{List, map}
-use lib.ListN.{length, getD}
+use lib.ListN.{getD}
 use lib.Ieee.{Float, nan}
 use Rattle.definitions.specs.Lists.{between}
 use Rattle.definitions.specs.Numbers.{_*ᶠ_, zeroᶠ, total, above}

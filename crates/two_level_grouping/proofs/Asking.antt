@@ -1,7 +1,7 @@
 -- What the checks before the grouping leave: the matrix's rows, and what 9 to 12 leave.
 use mathlib.Core.Path.{_≡_, ap, sym, _∙_}
 use mathlib.Core.Bool.{true}
-use Rattle.definitions.specs.Refusal.{refused, done, _>>=_, keepsAll}
+use Rattle.definitions.specs.Refusal.{refused, done, keepsAll}
 use Rattle.definitions.specs.Matrix.{Matrix}
 use Rattle.definitions.specs.Setup.{frontOf}
 use Rattle.definitions.specs.Answers.{answerOf}
