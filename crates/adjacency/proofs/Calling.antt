@@ -11,7 +11,7 @@ use lib.ListN.{length, getD, replicate}
 use lib.Ieee.{Float}
 use Rattle.definitions.specs.Lists.{padded}
 use Rattle.definitions.specs.Numbers.{zeroᶠ}
-use Rattle.definitions.specs.Matrix.{Matrix, csr, validOf}
+use Rattle.definitions.specs.Matrix.{Matrix, csr}
 use Rattle.definitions.specs.Neighbours.{flatNeighbours}
 use Rattle.definitions.specs.Block.{maxBlock}
 use Rattle.definitions.specs.Refusal.{Outcome, refused, done, Checked, require, _>>=_, keepsAll, resultLeft, workLeft, causeOf}
@@ -22,12 +22,13 @@ use Rattle.definitions.specs.declared.Answer.{Answer}
 use Rattle.definitions.specs.declared.Answer.the-variants.{Accepted, Refused}
 use Rattle.definitions.specs.declared.TwoLevelAggregation.{TwoLevelAggregation}
 use Rattle.csr32.specs.Calls.{accepted-done, refused-is, Keeps, keeps-require, keeps-then, keeps-refused, goes-on, stops, result-kept, work-kept}
-use Rattle.csr32.specs.Rows.{Rows}
-use Rattle.csr32.specs.Valid.{accepted-rows, square-rows, valid-goes, valid-stops, valid-kept}
+use Rattle.csr32.specs.Rows.{Rows, Real}
+use Rattle.csr32.specs.Valid.{square-rows}
 use Rattle.laws.proofs.Tests.{both-true}
 use Rattle.adjacency.specs.Fits.{four, enough, fitsOf}
 use Rattle.adjacency.specs.WellFormed.{WellFormed}
-use Rattle.adjacency.specs.Within.{neighboursWithin}
+use Rattle.adjacency.specs.Within.{compares, readOf, neighboursWithin}
+use Rattle.adjacency.proofs.Reading.{read-rows, read-real, read-keeps}
 use Rattle.adjacency.proofs.Fitting.{enough-are}
 
 -- ---- the checks over sizes, as one step of the call
@@ -53,8 +54,8 @@ unfolding four keepsAll causeOf
 fits-keeps p q r s = keeps-then _ _ (keeps-require p _ refl) (λ _. keeps-then _ _ (keeps-require q _ refl) (λ _. keeps-then _ _ (keeps-require r _ refl) (λ _. keeps-require s _ refl)))
 
 -- the facts that the loops need
-formed-of : (rows size : ℕ) (ptr cols : List ℕ) (vals : List Float) → Rows (csr rows rows ptr cols vals) → 1 ≤ size → rows % size ≡ 0 → WellFormed (rows / size) size ptr cols vals
-formed-of rows size ptr cols vals w h m =
+formed-of : (strong : Bool) (rows size : ℕ) (ptr cols : List ℕ) (vals : List Float) → Rows (csr rows rows ptr cols vals) → (strong ≡ true → Real vals) → 1 ≤ size → rows % size ≡ 0 → WellFormed strong (rows / size) size ptr cols vals
+formed-of strong rows size ptr cols vals w f h m =
     let e : rows / size * size ≡ rows = omega (arith, div-add-mod' rows size, m) in
     let n : rows / size ≤ rows = div-le-self rows size in
     record {
@@ -66,7 +67,7 @@ formed-of rows size ptr cols vals w h m =
       rises = λ i k. w .rises i (rw e at k);
       within = λ i k. let k' : i ≤ rows = rw e at k in omega (arith, w .ends i (omega arith), w .same);
       inside = λ k i. div-lt-iff-lt-mul {k = size} {x = getD cols k 0} {y = rows / size} (omega arith) .1 (rw e (w .within k i));
-      real = w .real;
+      real = f;
     }
 
 module _ (g : TwoLevelAggregation) (rows cols : ℕ) (ptr idx : List ℕ) (vals : List Float) (size base : ℕ) (ints : List ℕ) (floats : List Float) where
@@ -87,18 +88,21 @@ module _ (g : TwoLevelAggregation) (rows cols : ℕ) (ptr idx : List ℕ) (vals 
   unfolding answerOf
   kept r k e = (rw e, (sym (result-kept 0 ints r k call e), sym (work-kept zeroᶠ floats r k call e)))
 
-  module _ (x : Answer) (ex : x ≡ answerOf (validOf a)) where
+  module _ (x : Answer) (ex : x ≡ answerOf (readOf g a)) where
     pub not-valid : (r : Refusal) → x ≡ Refused r → Left (Refused r) ints floats
     unfolding neighboursWithin
-    not-valid r e = kept r (valid-kept a r (sym ex ∙ e)) (valid-stops a _ r (sym ex ∙ e))
+    not-valid r e = let s : readOf g a ≡ refused r = refused-is (readOf g a) r (sym ex ∙ e) in kept r (keeps-refused (readOf g a) r (read-keeps g a) s) (stops (readOf g a) r _ s)
 
     module _ (e : x ≡ Accepted) where
+      read : readOf g a ≡ done tt
+      read = accepted-done (readOf g a) (sym ex ∙ e)
+
       call-is : call ≡ (fit >>= λ _. done (replicate base 0 ++ flatNeighbours g a size (rows / size)))
       unfolding neighboursWithin fitsOf enough
-      call-is = valid-goes a _ (sym ex ∙ e) ∙ four-then (eqb cols rows) (leb 1 size && leb size maxBlock) (eqb (rows % size) 0) (enough (rows / size) (length vals) base (length ints) (length floats)) (replicate base 0 ++ flatNeighbours g a size (rows / size))
+      call-is = goes-on (readOf g a) tt _ read ∙ four-then (eqb cols rows) (leb 1 size && leb size maxBlock) (eqb (rows % size) 0) (enough (rows / size) (length vals) base (length ints) (length floats)) (replicate base 0 ++ flatNeighbours g a size (rows / size))
 
       pub small : (rows ≤ 1048576) × (length vals ≤ 16777216)
-      small = let w = accepted-rows a (sym ex ∙ e) in (w .fewRows, w .fewEntries)
+      small = let w = read-rows g a read in (w .fewRows, w .fewEntries)
 
       module _ (y : Answer) (ey : y ≡ answerOf fit) where
         pub not-fitting : (r : Refusal) → y ≡ Refused r → Left (Refused r) ints floats
@@ -128,10 +132,10 @@ module _ (g : TwoLevelAggregation) (rows cols : ℕ) (ptr idx : List ℕ) (vals 
           size-high = leb-true size 8 (both-true (leb 1 size) (leb size 8) (tests .0 .1) .1)
 
           walks : Rows (csr rows rows ptr idx vals)
-          walks = square-rows rows cols ptr idx vals square (accepted-rows a (sym ex ∙ e))
+          walks = square-rows rows cols ptr idx vals square (read-rows g a read)
 
-          pub formed : WellFormed (rows / size) size ptr idx vals
-          formed = formed-of rows size ptr idx vals walks size-low divides
+          pub formed : WellFormed (compares g) (rows / size) size ptr idx vals
+          formed = formed-of (compares g) rows size ptr idx vals walks (read-real g a read) size-low divides
 
           pub rooms : (2 * (rows / size) ≤ base) × ((base + rows / size + 1 + length idx ≤ length ints) × (3 * (rows / size) ≤ length floats))
           rooms = let t = enough-are (rows / size) (length vals) base (length ints) (length floats) (tests .1 .1) in (t .0, (omega (arith, t .1 .0, walks .same), t .1 .1))

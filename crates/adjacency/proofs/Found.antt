@@ -10,7 +10,8 @@ use lib.ListN.{length, getD, set, take, length-take, length-drop, length-set, le
 use lib.Seq.{getD-take, getD-drop, slice, length-slice, getD-set-same, getD-set-other}
 use Rattle.definitions.specs.Lists.{upTo, any}
 use Rattle.laws.proofs.Kept.{keep-length}
-use Rattle.adjacency.specs.Order.{insertBy, sortBy, Weak, Below}
+use Rattle.laws.specs.Bounds.{Below}
+use Rattle.adjacency.specs.Order.{insertBy, sortBy, Weak}
 use Rattle.adjacency.specs.Collect.{gather, marked, nodesIn, Inside, others}
 use Rattle.adjacency.proofs.Halves.{All}
 use Rattle.adjacency.proofs.Laws.{by-case, Each, insert-here, insert-on}

@@ -87,7 +87,7 @@ between-put {nodes = nodes} {v = v} {work = work} i x work' b h e = record {
   even = b .even;
 }
 
-module _ {nodes size : ℕ} {ptr cols : List ℕ} {vals : List Float} (w : WellFormed nodes size ptr cols vals) where
+module _ {kind : Bool} {nodes size : ℕ} {ptr cols : List ℕ} {vals : List Float} (w : WellFormed kind nodes size ptr cols vals) where
   abbrev a : Matrix
   a = csr (nodes * size) (nodes * size) ptr cols vals
 

@@ -8,6 +8,7 @@ pub mod Plain
 pub mod Weak
 pub mod Sorting
 pub mod Measures
+pub mod Reading
 pub mod Rows
 pub mod Parts
 pub mod Merges

@@ -14,7 +14,8 @@ use Rattle.definitions.specs.Neighbours.{neighboursOf, squaresTowards, normTowa
 use Rattle.adjacency.specs.Collect.{marked, nodesIn}
 use Rattle.adjacency.specs.WellFormed.{WellFormed, Spans}
 use Rattle.adjacency.specs.Lists.{found, weights, listOf, Between, Listed}
-use Rattle.adjacency.specs.Order.{before, sortBy, Below}
+use Rattle.laws.specs.Bounds.{Below}
+use Rattle.adjacency.specs.Order.{before, sortBy}
 use Rattle.adjacency.specs.Strengths.{AllPlain, squaresIn, cleared, weighed, strongOf, measured}
 use Rattle.adjacency.proofs.Laws.{Each}
 use Rattle.adjacency.proofs.Halves.{All, of-all}
@@ -37,7 +38,7 @@ even-before : (s : List Float) → ((u : ℕ) → getD s u zeroᶠ ≡ zeroᶠ) 
 unfolding before lt eq ofBits
 even-before s e x y = rw (e x, e y)
 
-module _ {nodes size : ℕ} {ptr cols : List ℕ} {vals : List Float} (w : WellFormed nodes size ptr cols vals) where
+module _ {kind : Bool} {nodes size : ℕ} {ptr cols : List ℕ} {vals : List Float} (w : WellFormed kind nodes size ptr cols vals) where
   abbrev a : Matrix
   a = csr (nodes * size) (nodes * size) ptr cols vals
 
@@ -71,10 +72,10 @@ module _ {nodes size : ℕ} {ptr cols : List ℕ} {vals : List Float} (w : WellF
       weights-length true = length-measured nodes v (s .node) g l₂ ∙ length₂
       weights-length false = refl
 
-      pub weights-plain : (strong : Bool) → AllPlain l → AllPlain (weights strong nodes size v from to cols vals g l)
+      pub weights-plain : (strong : Bool) → strong ≡ kind → AllPlain l → AllPlain (weights strong nodes size v from to cols vals g l)
       unfolding weights
-      weights-plain true p = plain-measured nodes v (s .node) g l₂ ga (omega (arith, length₂)) (plain-weighed nodes size (stored cols vals from to) l₁ (span-towards w s) n₁ (span-finite w s) (plain-cleared g l p))
-      weights-plain false p = p
+      weights-plain true q p = plain-measured nodes v (s .node) g l₂ ga (omega (arith, length₂)) (plain-weighed nodes size (stored cols vals from to) l₁ (span-towards w s) n₁ (span-finite w s (sym q)) (plain-cleared g l p))
+      weights-plain false q p = p
 
       -- the norms stay
       pub weights-norms : (strong : Bool) (u : ℕ) → u < nodes → getD (weights strong nodes size v from to cols vals g l) (nodes + u) nan ≡ getD l (nodes + u) nan
@@ -127,20 +128,20 @@ module _ {nodes size : ℕ} {ptr cols : List ℕ} {vals : List Float} (w : WellF
             let b = stamps-below nodes v (take nodes ints) ws mark-length (s .node) mark-below ws-all k i in
             rw (← getD-take nodes ints' k 0 h, e) (omega (arith, b))
 
-        pub list-is : (strong : Bool) → 3 * nodes ≤ length l → AllPlain l
+        pub list-is : (strong : Bool) → strong ≡ kind → 3 * nodes ≤ length l → AllPlain l
             → (strong ≡ true → (u : ℕ) → u < nodes → getD l (nodes + u) nan ≡ normTowards a size u u) → (strong ≡ false → (u : ℕ) → getD l (2 * nodes + u) zeroᶠ ≡ zeroᶠ)
             → sortBy (before (drop (2 * nodes) (weights strong nodes size v from to cols vals g l))) g ≡ listOf strong a size nodes v
         unfolding listOf weights
-        list-is true long p norms even =
+        list-is true k long p norms even =
             let l' = weights true nodes size v from to cols vals g l in
             let d = drop (2 * nodes) l' in
-            let q = plain-drop (2 * nodes) l' (weights-plain g l g-all long true p) in
+            let q = plain-drop (2 * nodes) l' (weights-plain g l g-all long true k p) in
             let e : sortBy ltb g ≡ neighboursOf a size nodes v = found-ascending nodes v (take nodes ints) ws mark-length (s .node) mark-below ws-all ltb (λ x y. refl) ∙ neighbours-are w s in
             let each : Each (λ u. getD d u zeroᶠ ≡ strength a size v u) (neighboursOf a size nodes v) = rw e at (each-sort (λ u. getD d u zeroᶠ ≡ strength a size v u) ltb g (weights-each g l g-all long (norms refl))) in
             found-sorted nodes v (take nodes ints) ws mark-length (s .node) mark-below ws-all (before d) (weak-before d q) (before-apart d q)
             ∙ ap (sortBy (before d)) (neighbours-are w s)
             ∙ sym (strong-is a size nodes v d each)
-        list-is false long p norms even =
+        list-is false k long p norms even =
             found-ascending nodes v (take nodes ints) ws mark-length (s .node) mark-below ws-all (before (drop (2 * nodes) (weights false nodes size v from to cols vals g l)))
             (even-before (drop (2 * nodes) (weights false nodes size v from to cols vals g l)) (λ u. zero-at u))
             ∙ neighbours-are w s
@@ -149,8 +150,8 @@ module _ {nodes size : ℕ} {ptr cols : List ℕ} {vals : List Float} (w : WellF
             zero-at u = getD-drop (2 * nodes) (weights false nodes size v from to cols vals g l) u zeroᶠ ∙ even refl u
 
 -- ---- the calls of `node_list`, in their order
-module _ {nodes size : ℕ} {ptr cols : List ℕ} {vals : List Float} (w : WellFormed nodes size ptr cols vals) {v from to : ℕ} (s : Spans nodes size v ptr from to)
-    {strong : Bool} {ints : List ℕ} {l : List Float} (b : Between strong (csr (nodes * size) (nodes * size) ptr cols vals) size nodes v ints l)
+module _ {strong : Bool} {nodes size : ℕ} {ptr cols : List ℕ} {vals : List Float} (w : WellFormed strong nodes size ptr cols vals) {v from to : ℕ} (s : Spans nodes size v ptr from to)
+    {ints : List ℕ} {l : List Float} (b : Between strong (csr (nodes * size) (nodes * size) ptr cols vals) size nodes v ints l)
     (at end : ℕ) (lists lists₁ : List ℕ) (h : at + (to - from) ≤ length lists)
     (e : end ≡ at + length (found nodes size v from to cols ints)) (q : take end lists₁ ≡ take at lists ++ found nodes size v from to cols ints) where
   part-is : take (end - at) (drop at lists₁) ≡ found nodes size v from to cols ints
@@ -173,7 +174,7 @@ module _ {nodes size : ℕ} {ptr cols : List ℕ} {vals : List Float} (w : WellF
     long-after = omega (arith, ap length m', weights-length w s (found nodes size v from to cols ints) l found-in (b .space) strong, b .space)
 
     pub plain-after : AllPlain l'
-    plain-after = rw m' (weights-plain w s (found nodes size v from to cols ints) l found-in (b .space) strong (b .plains))
+    plain-after = rw m' (weights-plain w s (found nodes size v from to cols ints) l found-in (b .space) strong refl (b .plains))
 
     pub node-listed : (lists₂ ints₁ ints₂ : List ℕ) → take nodes ints₁ ≡ marked (v + 1) (set (take nodes ints) v (v + 1)) (nodesIn size from to cols)
         → take end lists₂ ≡ take at lists₁ ++ sortBy (before (drop (2 * nodes) l')) (take (end - at) (drop at lists₁)) → take nodes ints₂ ≡ take nodes ints₁ → length ints₂ ≡ length ints
@@ -182,7 +183,7 @@ module _ {nodes size : ℕ} {ptr cols : List ℕ} {vals : List Float} (w : WellF
     node-listed lists₂ ints₁ ints₂ p r t u =
         let a = csr (nodes * size) (nodes * size) ptr cols vals in
         let g = found nodes size v from to cols ints in
-        let is : sortBy (before (drop (2 * nodes) l')) g ≡ listOf strong a size nodes v = rw m' (list-is w s ints l (b .stamps) (b .room) strong (b .space) (b .plains) (b .norms) (b .even)) in
+        let is : sortBy (before (drop (2 * nodes) l')) g ≡ listOf strong a size nodes v = rw m' (list-is w s ints l (b .stamps) (b .room) strong refl (b .space) (b .plains) (b .norms) (b .even)) in
         record {
           next = record {
             stamps = λ k i. after k i;

@@ -37,7 +37,7 @@ pub record Norming (a : Matrix) (size nodes : ℕ) (l₀ l : List Float) (v : �
   pub same : length l ≡ length l₀
   pub sofar : Normed a size nodes v l
 
-module _ {nodes size : ℕ} {ptr cols : List ℕ} {vals : List Float} (w : WellFormed nodes size ptr cols vals) where
+module _ {nodes size : ℕ} {ptr cols : List ℕ} {vals : List Float} (w : WellFormed true nodes size ptr cols vals) where
   abbrev a : Matrix
   a = csr (nodes * size) (nodes * size) ptr cols vals
 
@@ -48,7 +48,7 @@ module _ {nodes size : ℕ} {ptr cols : List ℕ} {vals : List Float} (w : WellF
 
     pub plain-norm : (u : ℕ) → plain (normTowards a size v u) ≡ true
     unfolding total
-    plain-norm u = rw (← norm-is u) (plain-root (total (squaresIn size u (stored cols vals from to))) (plain-total (squaresIn size u (stored cols vals from to)) zeroᶠ plain-zero (plain-squares size u (stored cols vals from to) (span-finite w s))))
+    plain-norm u = rw (← norm-is u) (plain-root (total (squaresIn size u (stored cols vals from to))) (plain-total (squaresIn size u (stored cols vals from to)) zeroᶠ plain-zero (plain-squares size u (stored cols vals from to) (span-finite w s refl))))
 
   -- every node has its span
   pub plain-own : (v : ℕ) → v < nodes → plain (normTowards a size v v) ≡ true

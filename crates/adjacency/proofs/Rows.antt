@@ -1,6 +1,6 @@
 -- A node's entries stand together in the lists of the matrix.
 use mathlib.Core.Path.{_≡_, refl, ap, sym, _∙_}
-use mathlib.Core.Bool.{not, _&&_}
+use mathlib.Core.Bool.{Bool, true, not, _&&_}
 use mathlib.Core.List.{List, [], _∷_, _++_, map, flatMap, zipWith}
 use Prim.Native.Nat.{ℕ, zero, suc, _+_, _-_, _*_, _≤_, _<_, _/_}
 use native.Mathlib.Omega.{arith}
@@ -15,6 +15,7 @@ use Rattle.definitions.specs.Matrix.{Entry, csr, stored, rowOf, entriesOf}
 use Rattle.definitions.specs.Links.{nodeEntries}
 use Rattle.definitions.specs.Neighbours.{neighboursOf}
 use Rattle.adjacency.specs.Collect.{nodesIn, others}
+use Rattle.csr32.specs.Rows.{Real}
 use Rattle.adjacency.specs.WellFormed.{WellFormed, Spans}
 use Rattle.adjacency.proofs.Ascending.{asc, upTo-asc, keep-same}
 use Rattle.adjacency.proofs.Weighing.{stored-cons, stored-none}
@@ -46,7 +47,7 @@ next-row v size = rw (add-one v) (suc-mul v size)
 pub row-fits : (v nodes size : ℕ) → v < nodes → v * size + size ≤ nodes * size
 row-fits v nodes size h = let p : suc v * size ≤ nodes * size = mul-le-mul-right size h in rw (← suc-mul v size) p
 
-module _ {nodes size : ℕ} {ptr cols : List ℕ} {vals : List Float} (w : WellFormed nodes size ptr cols vals) where
+module _ {strong : Bool} {nodes size : ℕ} {ptr cols : List ℕ} {vals : List Float} (w : WellFormed strong nodes size ptr cols vals) where
   rise : (i k e : ℕ) → e ≡ i + k → e ≤ nodes * size → getD ptr i 0 ≤ getD ptr e 0
   rise i zero e q h = let z : e ≡ i = omega arith in rw z (omega arith)
   rise i (suc k) zero q h = absurd (omega arith)
@@ -59,12 +60,15 @@ module _ {nodes size : ℕ} {ptr cols : List ℕ} {vals : List Float} (w : WellF
       rw (← x, rows-stored b (suc m) k (suc p) e (omega arith) (omega arith) h)
       (stored-join cols vals (getD ptr p 0) (getD ptr (suc p) 0) (getD ptr e 0) (w .rises p (omega arith)) (rise (suc p) k e (omega arith) h) (w .within e h) (w .both))
 
-  towards : (k j e : ℕ) → e ≡ k + j → e ≤ length cols → Towards nodes size (stored cols vals k e) × Finite (stored cols vals k e)
-  towards k zero e q h = rw (stored-none cols vals k e (omega arith)) (tt, tt)
-  towards k (suc j) e q h =
+  towards : (k j e : ℕ) → e ≡ k + j → e ≤ length cols → Towards nodes size (stored cols vals k e)
+  towards k zero e q h = rw (stored-none cols vals k e (omega arith)) tt
+  towards k (suc j) e q h = rw (stored-cons cols vals k e (omega arith) h (omega (arith, w .both))) (w .inside k (omega arith), towards (k + 1) j e (omega arith) h)
+
+  finites : Real vals → (k j e : ℕ) → e ≡ k + j → e ≤ length cols → Finite (stored cols vals k e)
+  finites f k zero e q h = rw (stored-none cols vals k e (omega arith)) tt
+  finites f k (suc j) e q h =
       let i : k < length vals = omega (arith, w .both) in
-      let r = towards (k + 1) j e (omega arith) h in
-      rw (stored-cons cols vals k e (omega arith) h (omega (arith, w .both))) ((w .inside k (omega arith), r .0), (w .real k i, r .1))
+      rw (stored-cons cols vals k e (omega arith) h (omega (arith, w .both))) (f k i, finites f (k + 1) j e (omega arith) h)
 
   any-map : (u : ℕ) (l : List Entry) → any (λ e. eqb (e .col / size) u) l ≡ any (λ x. eqb x u) (map (λ c. c / size) (map (λ (e : Entry). e .col) l))
   unfolding any
@@ -102,10 +106,10 @@ module _ {nodes size : ℕ} {ptr cols : List ℕ} {vals : List Float} (w : WellF
         ∙ rw (s .first, e2)
 
     pub span-towards : Towards nodes size (stored cols vals from to)
-    span-towards = towards from (to - from) to (omega (arith, span-rises)) span-within .0
+    span-towards = towards from (to - from) to (omega (arith, span-rises)) span-within
 
-    pub span-finite : Finite (stored cols vals from to)
-    span-finite = towards from (to - from) to (omega (arith, span-rises)) span-within .1
+    pub span-finite : strong ≡ true → Finite (stored cols vals from to)
+    span-finite e = finites (w .real e) from (to - from) to (omega (arith, span-rises)) span-within
 
     -- Graph's neighbours are those that its columns name
     pub neighbours-are : others nodes v (nodesIn size from to cols) ≡ neighboursOf (csr (nodes * size) (nodes * size) ptr cols vals) size nodes v

@@ -15,7 +15,7 @@ use Rattle.definitions.specs.Matrix.{Matrix, Entry, stored, rowOf, entriesOf, v
 use Rattle.definitions.specs.Refusal.{done}
 use Rattle.definitions.specs.Links.{nodeEntries}
 use Rattle.definitions.specs.Neighbours.{neighboursOf, strongNeighboursOf, squaresTowards, normTowards, strength}
-use Rattle.csr32.specs.Rows.{rows-of}
+use Rattle.csr32.specs.Rows.{valid-real}
 use Rattle.adjacency.specs.Order.{insertBy, sortBy}
 use Rattle.adjacency.specs.Strengths.{plain, squaresIn}
 use Rattle.adjacency.proofs.Laws.{by-case, Each, insert-here, insert-on}
@@ -87,5 +87,5 @@ plain-sum a size v u f = let es = flatMap (λ i. entriesOf a (v * size + i)) (up
 -- THEOREM: no strength of a valid matrix is NaN, -0 or below zero
 pub strength-plain : (a : Matrix) → validOf a ≡ done tt → (size v u : ℕ) → plain (strength a size v u) ≡ true
 strength-plain a e size v u =
-    let r : Real (a .values) = each-real (a .values) (rows-of a e .real) in
+    let r : Real (a .values) = each-real (a .values) (valid-real a e) in
     rw (strength-is a size v u) (plain-strong (total (squaresTowards a size v u)) (normTowards a size v v) (normTowards a size u u) (plain-sum a size v u (finite-rows a r (v * size) (upTo size))))

@@ -1,14 +1,14 @@
--- What the checks leave of a matrix: nodes · size rows, compressed, with columns inside and finite values.
+-- What the checks leave of a matrix: nodes · size rows, compressed, with columns inside, and finite values where strengths are compared.
 use mathlib.Core.Path.{_≡_}
-use mathlib.Core.Bool.{true}
+use mathlib.Core.Bool.{Bool, true}
 use mathlib.Core.List.{List}
 use Prim.Native.Nat.{ℕ, suc, _+_, _*_, _^_, _≤_, _<_}
 use lib.ListN.{length, getD}
-use lib.Ieee.{Float, nan}
-use lib.Ieee.Scale.{finite}
+use lib.Ieee.{Float}
+use Rattle.csr32.specs.Rows.{Real}
 use Rattle.adjacency.specs.Collect.{Inside}
 
-pub record WellFormed (nodes size : ℕ) (ptr cols : List ℕ) (vals : List Float) : Type 0 where
+pub record WellFormed (strong : Bool) (nodes size : ℕ) (ptr cols : List ℕ) (vals : List Float) : Type 0 where
   pub some : 0 < size
   pub few : nodes < 2 ^ 31
   pub short : length cols < 2 ^ 31
@@ -17,7 +17,7 @@ pub record WellFormed (nodes size : ℕ) (ptr cols : List ℕ) (vals : List Floa
   pub rises : (i : ℕ) → i < nodes * size → getD ptr i 0 ≤ getD ptr (suc i) 0
   pub within : (i : ℕ) → i ≤ nodes * size → getD ptr i 0 ≤ length cols
   pub inside : Inside nodes size cols
-  pub real : (k : ℕ) → k < length vals → finite (getD vals k nan) ≡ true
+  pub real : strong ≡ true → Real vals
 
 -- the entries of node v are those from `from` up to `to`
 pub record Spans (nodes size v : ℕ) (ptr : List ℕ) (from to : ℕ) : Type 0 where

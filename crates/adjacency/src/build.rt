@@ -12,6 +12,7 @@ ghost use Rattle.definitions.specs.Matrix.{csr};
 ghost use Rattle.definitions.specs.Neighbours.{flatNeighbours};
 ghost use Rattle.adjacency.specs.Flat.{flatOf};
 ghost use Rattle.adjacency.specs.WellFormed.{WellFormed};
+ghost use Rattle.adjacency.specs.Within.{compares};
 ghost use Rattle.adjacency.specs.Lists.{Between, listOf};
 
 // Clears the stamps and the floats, and makes the diagonal norms if strengths are wanted.
@@ -26,9 +27,10 @@ fn ready(
     floats: &mut [f64],
     table: &root::StartTable,
 )
-    requires { ⌜ WellFormed nodes size (now «row_ptr») (now «col_idx») (now values) ⌝ }
+    requires { ⌜ WellFormed strong nodes size (now «row_ptr») (now «col_idx») (now values) ⌝ }
     requires { ⌜ (2 * nodes ≤ length (now work)) × (3 * nodes ≤ length (now floats)) ⌝ }
-    ensures { λ _. ⌜ Between strong (csr (nodes * size) (nodes * size) (now («row_ptr» .entry)) (now («col_idx» .entry)) (now (values .entry))) size nodes 0 (now (work .exit)) (now (floats .exit)) ⌝ }
+    ensures { λ _. ⌜ (let a = csr (nodes * size) (nodes * size) (now («row_ptr» .entry)) (now («col_idx» .entry)) (now (values .entry)) in
+        Between strong a size nodes 0 (now (work .exit)) (now (floats .exit))) ⌝ }
 {
     numbers::zero_ints(&mut work[..nodes]);
     numbers::zero_floats(floats);
@@ -50,9 +52,10 @@ fn linked(
     floats: &mut [f64],
     table: &root::StartTable,
 )
-    requires { ⌜ WellFormed nodes size (now «row_ptr») (now «col_idx») (now values) ⌝ }
+    requires { ⌜ WellFormed strong nodes size (now «row_ptr») (now «col_idx») (now values) ⌝ }
     requires { ⌜ (2 * nodes ≤ base) × ((base + nodes + 1 + length (now «col_idx») ≤ length (now work)) × (3 * nodes ≤ length (now floats))) ⌝ }
-    ensures { λ _. ⌜ now (work .exit) ≡ padded 0 (length (now (work .entry))) (replicate base 0 ++ flatOf (listOf strong (csr (nodes * size) (nodes * size) (now («row_ptr» .entry)) (now («col_idx» .entry)) (now (values .entry))) size nodes) nodes) ⌝ }
+    ensures { λ _. ⌜ (let a = csr (nodes * size) (nodes * size) (now («row_ptr» .entry)) (now («col_idx» .entry)) (now (values .entry)) in
+        now (work .exit) ≡ padded 0 (length (now (work .entry))) (replicate base 0 ++ flatOf (listOf strong a size nodes) nodes)) ⌝ }
 {
     ready(
         strong,
@@ -94,9 +97,10 @@ fn fill(
     floats: &mut [f64],
     table: &root::StartTable,
 )
-    requires { ⌜ WellFormed nodes size (now «row_ptr») (now «col_idx») (now values) ⌝ }
+    requires { ⌜ WellFormed (compares aggregation) nodes size (now «row_ptr») (now «col_idx») (now values) ⌝ }
     requires { ⌜ (2 * nodes ≤ base) × ((base + nodes + 1 + length (now «col_idx») ≤ length (now work)) × (3 * nodes ≤ length (now floats))) ⌝ }
-    ensures { λ _. ⌜ now (work .exit) ≡ padded 0 (length (now (work .entry))) (replicate base 0 ++ flatNeighbours aggregation (csr (nodes * size) (nodes * size) (now («row_ptr» .entry)) (now («col_idx» .entry)) (now (values .entry))) size nodes) ⌝ }
+    ensures { λ _. ⌜ (let a = csr (nodes * size) (nodes * size) (now («row_ptr» .entry)) (now («col_idx» .entry)) (now (values .entry)) in
+        now (work .exit) ≡ padded 0 (length (now (work .entry))) (replicate base 0 ++ flatNeighbours aggregation a size nodes)) ⌝ }
 {
     match aggregation {
         TwoLevelAggregation::Contiguous => numbers::zero_ints(work),
@@ -139,10 +143,11 @@ pub(crate) fn build(
     work_ints: &mut [u32],
     work_floats: &mut [f64],
 )
-    requires { ⌜ WellFormed nodes «block_size» (now «row_ptr») (now «col_idx») (now values) ⌝ }
+    requires { ⌜ WellFormed (compares aggregation) nodes «block_size» (now «row_ptr») (now «col_idx») (now values) ⌝ }
     requires { ⌜ (2 * nodes ≤ base) × ((base + nodes + 1 + length (now «col_idx») ≤ length (now «work_ints»)) × (3 * nodes ≤ length (now «work_floats»))) ⌝ }
     requires { ⌜ «block_size» ≤ 8 ⌝ }
-    ensures { λ _. ⌜ now («work_ints» .exit) ≡ padded 0 (length (now («work_ints» .entry))) (replicate base 0 ++ flatNeighbours aggregation (csr (nodes * «block_size») (nodes * «block_size») (now («row_ptr» .entry)) (now («col_idx» .entry)) (now (values .entry))) «block_size» nodes) ⌝ }
+    ensures { λ _. ⌜ (let a = csr (nodes * «block_size») (nodes * «block_size») (now («row_ptr» .entry)) (now («col_idx» .entry)) (now (values .entry)) in
+        now («work_ints» .exit) ≡ padded 0 (length (now («work_ints» .entry))) (replicate base 0 ++ flatNeighbours aggregation a «block_size» nodes)) ⌝ }
     ensures { λ _. ⌜ now («work_floats» .exit) ≡ replicate (length (now («work_floats» .entry))) zeroᶠ ⌝ }
 {
     let size = block_size as u32;

@@ -29,10 +29,11 @@ pub(crate) fn all_lists(
     floats: &mut [f64],
     table: &root::StartTable,
 ) -> usize
-    requires { ⌜ WellFormed nodes size (now «row_ptr») (now «col_idx») (now values) ⌝ }
+    requires { ⌜ WellFormed strong nodes size (now «row_ptr») (now «col_idx») (now values) ⌝ }
     requires { ⌜ Between strong (csr (nodes * size) (nodes * size) (now «row_ptr») (now «col_idx») (now values)) size nodes 0 (now work) (now floats) ⌝ }
     requires { ⌜ (2 * nodes ≤ base) × (base + nodes + 1 + length (now «col_idx») ≤ length (now work)) ⌝ }
-    ensures { λ r. ⌜ Lined (listOf strong (csr (nodes * size) (nodes * size) (now («row_ptr» .entry)) (now («col_idx» .entry)) (now (values .entry))) size nodes) nodes nodes r (drop base (now (work .exit))) ⌝ }
+    ensures { λ r. ⌜ (let a = csr (nodes * size) (nodes * size) (now («row_ptr» .entry)) (now («col_idx» .entry)) (now (values .entry)) in
+        Lined (listOf strong a size nodes) nodes nodes r (drop base (now (work .exit)))) ⌝ }
 {
     let first = nodes + 1;
     put(work, base, 0);

@@ -20,7 +20,25 @@ ghost use Rattle.definitions.specs.Answers.{answerOf};
 ghost use Rattle.definitions.specs.Matrix.{csr};
 ghost use Rattle.definitions.specs.Numbers.{zeroᶠ};
 ghost use Rattle.definitions.specs.Refusal.{resultLeft, workLeft};
-ghost use Rattle.adjacency.specs.Within.{neighboursWithin};
+ghost use Rattle.adjacency.specs.Within.{readOf, neighboursWithin};
+
+// The causes 1 to 7, and 8 where strengths are compared: the other policies look at no value.
+pub fn readable(
+    aggregation: TwoLevelAggregation,
+    rows: usize,
+    cols: usize,
+    row_ptr: &[u32],
+    col_idx: &[u32],
+    values: &[f64],
+) -> Answer
+    ensures { λ r. ⌜ r ≡ answerOf (readOf aggregation (csr rows cols (now («row_ptr» .entry)) (now («col_idx» .entry)) (now (values .entry)))) ⌝ }
+{
+    match aggregation {
+        TwoLevelAggregation::Contiguous => csr32::structure(rows, cols, row_ptr, col_idx, values),
+        TwoLevelAggregation::Graph => csr32::structure(rows, cols, row_ptr, col_idx, values),
+        TwoLevelAggregation::StrongGraph => csr32::validate(rows, cols, row_ptr, col_idx, values),
+    }
+}
 
 // Puts the offsets of the lists, nodes + 1 many, at work_ints[base..], and behind them the lists end to end.
 pub fn neighbours(
@@ -35,11 +53,12 @@ pub fn neighbours(
     work_ints: &mut [u32],
     work_floats: &mut [f64],
 ) -> Answer
-    ensures { λ r. ⌜ r ≡ answerOf (neighboursWithin aggregation (csr rows cols (now («row_ptr» .entry)) (now («col_idx» .entry)) (now (values .entry))) «block_size» base (length (now («work_ints» .entry))) (length (now («work_floats» .entry)))) ⌝ }
-    ensures { λ _. ⌜ now («work_ints» .exit) ≡ resultLeft 0 (neighboursWithin aggregation (csr rows cols (now («row_ptr» .entry)) (now («col_idx» .entry)) (now (values .entry))) «block_size» base (length (now («work_ints» .entry))) (length (now («work_floats» .entry)))) (now («work_ints» .entry)) ⌝ }
-    ensures { λ _. ⌜ now («work_floats» .exit) ≡ workLeft zeroᶠ (neighboursWithin aggregation (csr rows cols (now («row_ptr» .entry)) (now («col_idx» .entry)) (now (values .entry))) «block_size» base (length (now («work_ints» .entry))) (length (now («work_floats» .entry)))) (now («work_floats» .entry)) ⌝ }
+    ensures { λ r. ⌜ (let a = csr rows cols (now («row_ptr» .entry)) (now («col_idx» .entry)) (now (values .entry)) in
+        let call = neighboursWithin aggregation a «block_size» base (length (now («work_ints» .entry))) (length (now («work_floats» .entry))) in
+        (r ≡ answerOf call)
+        × ((now («work_ints» .exit) ≡ resultLeft 0 call (now («work_ints» .entry))) × (now («work_floats» .exit) ≡ workLeft zeroᶠ call (now («work_floats» .entry))))) ⌝ }
 {
-    let valid = csr32::validate(rows, cols, row_ptr, col_idx, values);
+    let valid = readable(aggregation, rows, cols, row_ptr, col_idx, values);
     match valid {
         Answer::Refused(cause) => Answer::Refused(cause),
         Answer::Accepted => {

@@ -29,7 +29,8 @@ pub(crate) fn collect(
     requires { ⌜ nodes ≤ base ⌝ }
     requires { ⌜ Inside nodes size (now «col_idx») ⌝ }
     ensures { λ r. ⌜ r ≡ at + length (gather stamp (take nodes (now (work .entry))) (nodesIn size from to (now («col_idx» .entry)))) ⌝ }
-    ensures { λ r. ⌜ take r (drop base (now (work .exit))) ≡ take at (drop base (now (work .entry))) ++ gather stamp (take nodes (now (work .entry))) (nodesIn size from to (now («col_idx» .entry))) ⌝ }
+    ensures { λ r. ⌜ (let names = nodesIn size from to (now («col_idx» .entry)) in
+        take r (drop base (now (work .exit))) ≡ take at (drop base (now (work .entry))) ++ gather stamp (take nodes (now (work .entry))) names) ⌝ }
     ensures { λ _. ⌜ take nodes (now (work .exit)) ≡ marked stamp (take nodes (now (work .entry))) (nodesIn size from to (now («col_idx» .entry))) ⌝ }
 {
     let mut end = at;

@@ -12,7 +12,8 @@ ghost use Rattle.definitions.specs.Matrix.{csr};
 ghost use Rattle.adjacency.specs.Collect.{marked, nodesIn, Inside};
 ghost use Rattle.adjacency.specs.WellFormed.{WellFormed};
 ghost use Rattle.adjacency.specs.Lists.{found, Between, Listed};
-ghost use Rattle.adjacency.specs.Order.{before, sortBy, Below};
+ghost use Rattle.laws.specs.Bounds.{Below};
+ghost use Rattle.adjacency.specs.Order.{before, sortBy};
 ghost use Rattle.adjacency.specs.Strengths.{AllPlain};
 
 // Where the entries of node v start.
@@ -54,7 +55,8 @@ fn arrange(floats: &[f64], nodes: usize, base: usize, work: &mut [u32], at: usiz
     requires { ⌜ (at ≤ end) × ((base + end ≤ length (now work)) × ((end - at ≤ nodes) × ((2 * nodes ≤ base) × (3 * nodes ≤ length (now floats))))) ⌝ }
     requires { ⌜ AllPlain (now floats) ⌝ }
     requires { ⌜ Below nodes (between at end (drop base (now work))) ⌝ }
-    ensures { λ _. ⌜ take end (drop base (now (work .exit))) ≡ take at (drop base (now (work .entry))) ++ sortBy (before (drop (2 * nodes) (now (floats .entry)))) (between at end (drop base (now (work .entry)))) ⌝ }
+    ensures { λ _. ⌜ (let lists = drop base (now (work .entry)) in
+        take end (drop base (now (work .exit))) ≡ take at lists ++ sortBy (before (drop (2 * nodes) (now (floats .entry)))) (between at end lists)) ⌝ }
     ensures { λ _. ⌜ take nodes (now (work .exit)) ≡ take nodes (now (work .entry)) ⌝ }
 {
     let strong = 2 * nodes;
@@ -78,10 +80,11 @@ pub(crate) fn node_list(
     at: usize,
     table: &root::StartTable,
 ) -> usize
-    requires { ⌜ WellFormed nodes size (now «row_ptr») (now «col_idx») (now values) ⌝ }
+    requires { ⌜ WellFormed strong nodes size (now «row_ptr») (now «col_idx») (now values) ⌝ }
     requires { ⌜ Between strong (csr (nodes * size) (nodes * size) (now «row_ptr») (now «col_idx») (now values)) size nodes v (now work) (now floats) ⌝ }
     requires { ⌜ (v < nodes) × ((2 * nodes ≤ base) × (base + at + (getD (now «row_ptr») ((v + 1) * size) 0 - getD (now «row_ptr») (v * size) 0) ≤ length (now work))) ⌝ }
-    ensures { λ r. ⌜ Listed strong (csr (nodes * size) (nodes * size) (now («row_ptr» .entry)) (now («col_idx» .entry)) (now (values .entry))) size nodes v at (at + r) (drop base (now (work .entry))) (drop base (now (work .exit))) (now (work .exit)) (now (floats .exit)) ⌝ }
+    ensures { λ r. ⌜ (let a = csr (nodes * size) (nodes * size) (now («row_ptr» .entry)) (now («col_idx» .entry)) (now (values .entry)) in
+        Listed strong a size nodes v at (at + r) (drop base (now (work .entry))) (drop base (now (work .exit))) (now (work .exit)) (now (floats .exit))) ⌝ }
 {
     let from = start(row_ptr, v, size);
     let to = start(row_ptr, v + 1, size);

@@ -4,6 +4,7 @@ use super::sums::own;
 use super::words::wide;
 use root::root_by;
 ghost use mathlib.Core.Path.{_≡_};
+ghost use mathlib.Core.Bool.{true};
 ghost use Prim.Native.Nat.{_*_, _<_, _≤_};
 ghost use lib.ListN.{length};
 ghost use Rattle.definitions.specs.Matrix.{csr};
@@ -22,7 +23,7 @@ fn norm(
     nodes: usize,
     table: &root::StartTable,
 ) -> f64
-    requires { ⌜ WellFormed nodes size (now «row_ptr») (now «col_idx») (now values) ⌝ }
+    requires { ⌜ WellFormed true nodes size (now «row_ptr») (now «col_idx») (now values) ⌝ }
     requires { ⌜ v < nodes ⌝ }
     ensures { λ r. ⌜ r ≡ normTowards (csr (nodes * size) (nodes * size) (now («row_ptr» .entry)) (now («col_idx» .entry)) (now (values .entry))) size v v ⌝ }
 {
@@ -40,7 +41,7 @@ pub(crate) fn norms(
     floats: &mut [f64],
     table: &root::StartTable,
 )
-    requires { ⌜ WellFormed nodes size (now «row_ptr») (now «col_idx») (now values) ⌝ }
+    requires { ⌜ WellFormed true nodes size (now «row_ptr») (now «col_idx») (now values) ⌝ }
     requires { ⌜ 3 * nodes ≤ length (now floats) ⌝ }
     requires { ⌜ AllPlain (now floats) ⌝ }
     ensures { λ _. ⌜ Normed (csr (nodes * size) (nodes * size) (now («row_ptr» .entry)) (now («col_idx» .entry)) (now (values .entry))) size nodes nodes (now (floats .exit)) ⌝ }

@@ -8,7 +8,7 @@ ghost use Prim.Native.Nat.{_*_, _<_, _≤_};
 ghost use lib.ListN.{length};
 ghost use Rattle.adjacency.specs.Collect.{Inside};
 ghost use Rattle.adjacency.specs.Lists.{weights};
-ghost use Rattle.adjacency.specs.Order.{Below};
+ghost use Rattle.laws.specs.Bounds.{Below};
 ghost use Rattle.adjacency.specs.Strengths.{strongOf, measured};
 
 // From the sum of squares towards a node, and both nodes' diagonal norms: undivided where the divisor is zero or not finite.

@@ -7,7 +7,7 @@ ghost use lib.ListN.{length};
 ghost use Rattle.definitions.specs.Matrix.{stored};
 ghost use Rattle.definitions.specs.Numbers.{total};
 ghost use Rattle.adjacency.specs.Collect.{Inside};
-ghost use Rattle.adjacency.specs.Order.{Below};
+ghost use Rattle.laws.specs.Bounds.{Below};
 ghost use Rattle.adjacency.specs.Strengths.{cleared, weighed, squaresIn};
 
 // Sets the sums of the listed nodes to zero.

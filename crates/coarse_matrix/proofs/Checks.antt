@@ -13,7 +13,7 @@ use Rattle.definitions.specs.Lists.{square, padded, falls}
 use Rattle.definitions.specs.Numbers.{zeroᶠ}
 use Rattle.definitions.specs.Refusal.{Outcome, refused, done, Checked, require, _>>=_, resultLeft, workLeft}
 use Rattle.definitions.specs.Answers.{answerOf}
-use Rattle.definitions.specs.Matrix.{Matrix, csr, maxRows, validOf, rowOf}
+use Rattle.definitions.specs.Matrix.{Matrix, csr, maxRows, structureOf, rowOf}
 use Rattle.definitions.specs.Block.{maxBlock}
 use Rattle.definitions.specs.Transfer.{coarseColumn}
 use Rattle.definitions.specs.Coarse.{constantEntry, galerkinEntry, averagedSquare}
@@ -24,7 +24,7 @@ use Rattle.definitions.specs.declared.Answer.the-variants.{Accepted, Refused}
 use Rattle.definitions.specs.Setup.{maxCoarse}
 use Rattle.csr32.specs.Rows.{outside, none-any, no-falls, no-falls-to, Rows}
 use Rattle.causes.proofs.Left.{checks-stop, checks-pass, accept-left, refuse-left, work-refused as refused-work}
-use Rattle.coarse_matrix.specs.Scatter.{Walk, Grouped}
+use Rattle.laws.specs.Bounds.{Compressed, Grouped}
 use Rattle.coarse_matrix.specs.Calls.{constantChecks, constantChecked, constantCoarseCall, ConstantFacts, transferFits, galerkinChecks, galerkinChecked, galerkinCoarseCall, GalerkinFacts}
 
 -- a refusal says nothing of an accepted call
@@ -110,7 +110,7 @@ module _ (rows cols size : ℕ) (ids : List ℕ) (groups lent : ℕ) where
 
 -- ---- what an accepted call has
 
-pub walk-of : (rows cols : ℕ) (ptr idx : List ℕ) (vals : List Float) → rows ≡ cols → Rows (csr rows cols ptr idx vals) → Walk rows rows ptr idx (length vals)
+pub walk-of : (rows cols : ℕ) (ptr idx : List ℕ) (vals : List Float) → rows ≡ cols → Rows (csr rows cols ptr idx vals) → Compressed rows rows ptr idx (length vals)
 walk-of rows cols ptr idx vals e r =
     record { long = r .long; rises = r .rises; ends = r .ends; same = r .same; within = λ k h. rw e (r .within k h) }
 
@@ -133,7 +133,7 @@ module _ (a : Matrix) (size : ℕ) (ids : List ℕ) (groups lent : ℕ) where
   many-groups h = rw (lt-leb groups maxRows h)
 
   -- the matrix, and then the checks over sizes and ids
-  pub few-groups : groups ≤ maxRows → constantChecked a size ids groups lent ≡ (validOf a >>= (λ _. constantChecks (a .rows) (a .cols) size ids groups lent))
+  pub few-groups : groups ≤ maxRows → constantChecked a size ids groups lent ≡ (structureOf a >>= (λ _. constantChecks (a .rows) (a .cols) size ids groups lent))
   unfolding constantChecked require _>>=_
   few-groups h = rw (le-leb groups maxRows h)
 
@@ -184,7 +184,7 @@ module _ (rows c : ℕ) (ptr idx : List ℕ) (count : ℕ) where
             unfolding transferFits
             fits-below h = rw (eq-eqb (length ptr) (rows + 1) e1, eq-eqb (length idx) count e2, eq-eqb (getD ptr 0 1) 0 (first-same ptr rows e1 ∙ e3), eq-eqb (getD ptr rows 0) count e4, e5, h)
 
-            pub fits-all : outside c idx ≡ false → (true ≡ transferFits rows c ptr idx count) × Walk rows c ptr idx count
+            pub fits-all : outside c idx ≡ false → (true ≡ transferFits rows c ptr idx count) × Compressed rows c ptr idx count
             unfolding transferFits
             fits-all h = (
               rw (eq-eqb (length ptr) (rows + 1) e1, eq-eqb (length idx) count e2, eq-eqb (getD ptr 0 1) 0 (first-same ptr rows e1 ∙ e3), eq-eqb (getD ptr rows 0) count e4, e5, h),
@@ -224,13 +224,13 @@ module _ (rows cols c : ℕ) (ptr idx : List ℕ) (count ints floats : ℕ) wher
           unfolding galerkinChecks require _>>=_ answerOf
           smoothed-misfit h = rw (eq-eqb rows cols e1, le-leb c maxCoarse e2, le-leb (2 * c) ints e3, le-leb (c * c + c) floats e4, h)
 
-          pub smoothed-passed : transferFits rows c ptr idx count ≡ true → Walk rows c ptr idx count → (Accepted ≡ answerOf (galerkinChecks rows cols c ptr idx count ints floats)) × GalerkinFacts rows cols c ptr idx count ints floats
+          pub smoothed-passed : transferFits rows c ptr idx count ≡ true → Compressed rows c ptr idx count → (Accepted ≡ answerOf (galerkinChecks rows cols c ptr idx count ints floats)) × GalerkinFacts rows cols c ptr idx count ints floats
           unfolding galerkinChecks require _>>=_ answerOf
           smoothed-passed h w = (rw (eq-eqb rows cols e1, le-leb c maxCoarse e2, le-leb (2 * c) ints e3, le-leb (c * c + c) floats e4, h), record { same = e1; small = e2; walk = w; ints-room = e3; floats-room = e4 })
 
 -- ---- the whole call
 
-pub galerkin-checked : (a : Matrix) (c : ℕ) (ptr idx : List ℕ) (count ints floats : ℕ) → galerkinChecked a c ptr idx count ints floats ≡ (validOf a >>= (λ _. galerkinChecks (a .rows) (a .cols) c ptr idx count ints floats))
+pub galerkin-checked : (a : Matrix) (c : ℕ) (ptr idx : List ℕ) (count ints floats : ℕ) → galerkinChecked a c ptr idx count ints floats ≡ (structureOf a >>= (λ _. galerkinChecks (a .rows) (a .cols) c ptr idx count ints floats))
 unfolding galerkinChecked
 galerkin-checked a c ptr idx count ints floats = refl
 

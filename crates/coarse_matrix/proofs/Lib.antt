@@ -1,4 +1,3 @@
-pub mod Scattered
 pub mod Squares
 pub mod Checks
 pub mod Marking

@@ -17,7 +17,7 @@ use Rattle.definitions.specs.Matrix.{Entry, stored, rowOf}
 use Rattle.csr32.proofs.Stored.{stored-none, stored-more, where-hit, where-miss, where-none, where-append}
 use Rattle.laws.proofs.Growing.{flatMap-snoc}
 use Rattle.laws.proofs.Kept.{keep-append}
-use Rattle.coarse_matrix.specs.Scatter.{put, bump}
+use Rattle.laws.specs.Scatter.{put, bump}
 use Rattle.coarse_matrix.specs.Galerkin.{Marks, marked, others, Room, Told, Seen, Put, mark, putAt, scaled, productPuts}
 
 -- ---- the numbers put at a column, one entry more

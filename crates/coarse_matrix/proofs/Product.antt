@@ -21,9 +21,9 @@ use Rattle.averaging.proofs.Laws.{average-fits}
 use Rattle.averaging.proofs.Places.{place}
 use Rattle.csr32.proofs.Stored.{where-append, where-hit, where-miss, where-none}
 use Rattle.laws.proofs.Growing.{flatMap-snoc, upTo-snoc, rows-none}
-use Rattle.coarse_matrix.specs.Scatter.{put, scatter}
+use Rattle.laws.specs.Scatter.{put, scatter}
 use Rattle.coarse_matrix.specs.Galerkin.{scaled, productPuts, putAt, mark, Room, Told, Seen, Put, weightPuts, weighedPuts, rowTerms, RowAdded, RowsAdded}
-use Rattle.coarse_matrix.proofs.Scattered.{plus, scatter-at, length-scatter}
+use Rattle.laws.proofs.Scattering.{plus, scatter-at, length-scatter}
 use Rattle.coarse_matrix.proofs.Squares.{All, all-of, at-row, off-row}
 use Rattle.coarse_matrix.proofs.Marking.{others-all}
 use Rattle.coarse_matrix.proofs.Weighing.{listed-below}

@@ -22,8 +22,10 @@ use Rattle.definitions.specs.Matrix.{Entry, valuesWhere, rowOf, entriesOf, csr,
 use Rattle.definitions.specs.Coarse.{constantTerms, constantEntry, averagedSquare}
 use Rattle.csr32.proofs.Stored.{where-hit, where-miss, where-none}
 use Rattle.laws.proofs.Kept.{flatMap-keep}
-use Rattle.coarse_matrix.specs.Scatter.{put, bump, scatter, scattered, moved, rowPuts, Walk}
-use Rattle.coarse_matrix.proofs.Scattered.{length-scattered, scattered-at, putsAt, rows-step}
+use Rattle.laws.specs.Bounds.{Compressed}
+use Rattle.laws.specs.Scatter.{put, bump, scatter, scattered}
+use Rattle.coarse_matrix.specs.Scatter.{moved, rowPuts}
+use Rattle.laws.proofs.Scattering.{length-scattered, scattered-at, putsAt, rows-step}
 
 -- ---- what holds of every element
 
@@ -160,7 +162,7 @@ module _ (idx : List ℕ) (vals : List Float) (g : ℕ → ℕ) (to : ℕ) where
 pub row-fits : (x c : ℕ) → x < c → x * c + c ≤ c * c
 row-fits x c h = omega (arith, mul-le-mul-right c h)
 
-pub row-stored : {n w m : ℕ} {ptr idx : List ℕ} (i from to : ℕ) → Walk n w ptr idx m → i < n → from ≡ getD ptr i 0 → to ≡ getD ptr (i + 1) 0 → (from ≤ to) × (to ≤ m)
+pub row-stored : {n w m : ℕ} {ptr idx : List ℕ} (i from to : ℕ) → Compressed n w ptr idx m → i < n → from ≡ getD ptr i 0 → to ≡ getD ptr (i + 1) 0 → (from ≤ to) × (to ≤ m)
 row-stored i from to h l ef et =
     let e = rw add-one at et in
     (omega (arith, h .rises i l, e), omega (arith, h .ends (suc i) (omega arith), e))

@@ -14,9 +14,10 @@ use Rattle.definitions.specs.Matrix.{Entry, stored}
 use Rattle.averaging.proofs.Places.{place}
 use Rattle.csr32.proofs.Stored.{stored-none, stored-more, where-miss, where-none}
 use Rattle.laws.proofs.Growing.{flatMap-snoc}
-use Rattle.coarse_matrix.specs.Scatter.{put, bump, scatter, Below}
+use Rattle.laws.specs.Bounds.{Below}
+use Rattle.laws.specs.Scatter.{put, bump, scatter}
 use Rattle.coarse_matrix.specs.Galerkin.{weightPuts, weighedPuts, putAt}
-use Rattle.coarse_matrix.proofs.Scattered.{scatter-at}
+use Rattle.laws.proofs.Scattering.{scatter-at}
 use Rattle.coarse_matrix.proofs.Squares.{All, all-of, all-stored}
 
 pub scatter-append : (xs ys : List Entry) (l : List Float) → scatter (xs ++ ys) l ≡ scatter ys (scatter xs l)

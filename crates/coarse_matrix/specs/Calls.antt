@@ -8,14 +8,14 @@ use lib.ListN.{length, getD}
 use lib.Ieee.{Float}
 use Rattle.definitions.specs.Lists.{square, falls}
 use Rattle.definitions.specs.Refusal.{Outcome, done, Checked, require, _>>=_}
-use Rattle.definitions.specs.Matrix.{Matrix, maxRows, validOf, rowOf}
+use Rattle.definitions.specs.Matrix.{Matrix, maxRows, structureOf, rowOf}
 use Rattle.definitions.specs.Block.{maxBlock}
 use Rattle.definitions.specs.Transfer.{coarseColumn}
 use Rattle.definitions.specs.Coarse.{constantEntry, galerkinEntry, averagedSquare}
 use Rattle.definitions.specs.declared.Refusal.the-variants.{TooLarge, NotSquare, BlockSize, NotMultiple, CoarseTooLarge, CoarseListTooShort, SetupMisfit}
 use Rattle.definitions.specs.Setup.{maxCoarse}
 use Rattle.csr32.specs.Rows.{outside}
-use Rattle.coarse_matrix.specs.Scatter.{Walk}
+use Rattle.laws.specs.Bounds.{Compressed}
 
 -- ---- the basis that is constant over a group
 
@@ -29,11 +29,11 @@ constantChecks rows cols size ids groups lent = do
   _ ← require (leb (groups * size * (groups * size)) lent) (CoarseListTooShort (groups * size))
   require (eqb (length ids) (rows / size) && not (outside groups ids)) SetupMisfit
 
--- 1 for the groups as for rows, 1 to 8, and all of these
+-- 1 for the groups as for rows, 1 to 7, and all of these
 unfoldable pub constantChecked : Matrix → ℕ → List ℕ → ℕ → ℕ → Checked
 constantChecked a size ids groups lent = do
   _ ← require (leb groups maxRows) TooLarge
-  _ ← validOf a
+  _ ← structureOf a
   constantChecks (a .rows) (a .cols) size ids groups lent
 
 unfoldable pub constantCoarseCall : Matrix → ℕ → List ℕ → ℕ → ℕ → Outcome (List Float)
@@ -65,9 +65,9 @@ galerkinChecks rows cols c ptr idx count ints floats = do
   _ ← require (leb (2 * c) ints && leb (c * c + c) floats) (CoarseListTooShort c)
   require (transferFits rows c ptr idx count) SetupMisfit
 
--- 1 to 8, and these
+-- 1 to 7, and these
 unfoldable pub galerkinChecked : Matrix → ℕ → List ℕ → List ℕ → ℕ → ℕ → ℕ → Checked
-galerkinChecked a c ptr idx count ints floats = validOf a >>= (λ _. galerkinChecks (a .rows) (a .cols) c ptr idx count ints floats)
+galerkinChecked a c ptr idx count ints floats = structureOf a >>= (λ _. galerkinChecks (a .rows) (a .cols) c ptr idx count ints floats)
 
 unfoldable pub galerkinCoarseCall : Matrix → ℕ → List ℕ → List ℕ → List Float → ℕ → ℕ → Outcome (List Float)
 galerkinCoarseCall a c ptr idx weights ints floats =
@@ -77,6 +77,6 @@ galerkinCoarseCall a c ptr idx weights ints floats =
 pub record GalerkinFacts (rows cols c : ℕ) (ptr idx : List ℕ) (count ints floats : ℕ) : Type 0 where
   pub same : rows ≡ cols
   pub small : c ≤ maxCoarse
-  pub walk : Walk rows c ptr idx count
+  pub walk : Compressed rows c ptr idx count
   pub ints-room : 2 * c ≤ ints
   pub floats-room : c * c + c ≤ floats

@@ -11,7 +11,7 @@ use Rattle.definitions.specs.Lists.{upTo, keep}
 use Rattle.definitions.specs.Numbers.{_+ᶠ_, _*ᶠ_, zeroᶠ, total}
 use Rattle.definitions.specs.Matrix.{Matrix, Entry, valuesWhere}
 use Rattle.definitions.specs.Coarse.{weightedSum, weightsAt, productTerms}
-use Rattle.coarse_matrix.specs.Scatter.{put}
+use Rattle.laws.specs.Scatter.{put}
 
 -- a value times the weights of a transfer row
 abbrev pub scaled : Float → List Entry → List Entry
@@ -34,6 +34,9 @@ pub record Marks : Type 0 where
   pub ints : List ℕ
   pub floats : List Float
   pub count : ℕ
+
+abbrev pub marks : List ℕ → List Float → ℕ → Marks
+marks ints floats count = record { ints = ints; floats = floats; count = count }
 
 -- the column k stamped, listed and its number set to zero, unless it has the stamp
 unfoldable pub marked : ℕ → ℕ → ℕ → ℕ → Marks → Marks

@@ -9,7 +9,9 @@ ghost use Rattle.definitions.specs.Numbers.{zeroᶠ};
 ghost use Rattle.definitions.specs.Transfer.{coarseColumn};
 ghost use Rattle.definitions.specs.Matrix.{rowOf, csr, stored};
 ghost use Rattle.definitions.specs.Coarse.{constantEntry, averagedSquare};
-ghost use Rattle.coarse_matrix.specs.Scatter.{put, bump, scattered, Grouped, scatter, moved, rowPuts, Walk, Below};
+ghost use Rattle.laws.specs.Bounds.{Grouped, Compressed, Below};
+ghost use Rattle.laws.specs.Scatter.{put, bump, scattered, scatter};
+ghost use Rattle.coarse_matrix.specs.Scatter.{moved, rowPuts};
 
 pub(crate) fn wide(x: u32) -> usize
     ensures { λ r. ⌜ r ≡ x ⌝ }
@@ -68,10 +70,11 @@ fn add_matrix(
     c: usize,
     coarse: &mut [f64],
 )
-    requires { ⌜ Walk n n (now ptr) (now idx) (length (now vals)) ⌝ }
+    requires { ⌜ Compressed n n (now ptr) (now idx) (length (now vals)) ⌝ }
     requires { ⌜ Grouped size (now ids) n c ⌝ }
     requires { ⌜ c * c ≤ length (now coarse) ⌝ }
-    ensures { λ _. ⌜ now (coarse .exit) ≡ scattered (rowPuts (coarseColumn size (now (ids .entry))) c (rowOf (now (ptr .entry)) (now (idx .entry)) (now (vals .entry)))) n (now (coarse .entry)) ⌝ }
+    ensures { λ _. ⌜ (let row = rowOf (now (ptr .entry)) (now (idx .entry)) (now (vals .entry)) in
+        now (coarse .exit) ≡ scattered (rowPuts (coarseColumn size (now (ids .entry))) c row) n (now (coarse .entry))) ⌝ }
 {
     for r in 0..n {
         let at = coarse_of(ids, size, r);
@@ -92,10 +95,11 @@ pub(crate) fn constant_into(
     c: usize,
     coarse: &mut [f64],
 )
-    requires { ⌜ Walk n n (now ptr) (now idx) (length (now vals)) ⌝ }
+    requires { ⌜ Compressed n n (now ptr) (now idx) (length (now vals)) ⌝ }
     requires { ⌜ Grouped size (now ids) n c ⌝ }
     requires { ⌜ c * c ≤ length (now coarse) ⌝ }
-    ensures { λ _. ⌜ now (coarse .exit) ≡ padded zeroᶠ (length (now (coarse .entry))) (averagedSquare c (square c (constantEntry (csr n n (now (ptr .entry)) (now (idx .entry)) (now (vals .entry))) (coarseColumn size (now (ids .entry)))))) ⌝ }
+    ensures { λ _. ⌜ (let a = csr n n (now (ptr .entry)) (now (idx .entry)) (now (vals .entry)) in
+        now (coarse .exit) ≡ padded zeroᶠ (length (now (coarse .entry))) (averagedSquare c (square c (constantEntry a (coarseColumn size (now (ids .entry))))))) ⌝ }
 {
     zero_floats(coarse);
     let from = 0;

@@ -11,8 +11,9 @@ ghost use Rattle.definitions.specs.Lists.{square, padded};
 ghost use Rattle.definitions.specs.Numbers.{zeroᶠ};
 ghost use Rattle.definitions.specs.Coarse.{averagedSquare, galerkinEntry};
 ghost use Rattle.definitions.specs.Matrix.{rowOf, csr, stored};
-ghost use Rattle.coarse_matrix.specs.Scatter.{Walk, Below, scatter};
-ghost use Rattle.coarse_matrix.specs.Galerkin.{marked, Room, Put, scaled, productPuts, weightPuts, weighedPuts, RowAdded, RowsAdded};
+ghost use Rattle.laws.specs.Bounds.{Compressed, Below};
+ghost use Rattle.laws.specs.Scatter.{scatter};
+ghost use Rattle.coarse_matrix.specs.Galerkin.{marks, marked, Room, Put, scaled, productPuts, weightPuts, weighedPuts, RowAdded, RowsAdded};
 
 // Column k gets the token, a place in the list of touched columns and a zero, unless it has the token. Returns how many are touched.
 fn mark(
@@ -25,7 +26,7 @@ fn mark(
     k: usize,
 ) -> usize
     requires { ⌜ (k < c) × (c ≤ 2048) × (2 * c ≤ length (now ints)) × (base + c ≤ length (now floats)) × ((getD (now ints) k 0 ≡ token → ⊥) → count < c) ⌝ }
-    ensures { λ r. ⌜ record { ints = now (ints .exit); floats = now (floats .exit); count = r } ≡ marked c base token k (record { ints = now (ints .entry); floats = now (floats .entry); count = count }) ⌝ }
+    ensures { λ r. ⌜ marks (now (ints .exit)) (now (floats .exit)) r ≡ marked c base token k (marks (now (ints .entry)) (now (floats .entry)) count) ⌝ }
 {
     let stamp = ints[k];
     if stamp == token {
@@ -54,7 +55,8 @@ fn add_products(
     requires { ⌜ (from ≤ to) × (to ≤ length (now weights)) × (length (now idx) ≡ length (now weights)) × (c ≤ 2048) × (base + c ≤ length (now floats)) ⌝ }
     requires { ⌜ Below c (now idx) ⌝ }
     requires { ⌜ Room c token (now ints) count ⌝ }
-    ensures { λ r. ⌜ Put c base token (now (ints .entry)) (now (floats .entry)) count (now (ints .exit)) (now (floats .exit)) r (scaled value (stored (now (idx .entry)) (now (weights .entry)) from to)) ⌝ }
+    ensures { λ r. ⌜ (let entries = stored (now (idx .entry)) (now (weights .entry)) from to in
+        Put c base token (now (ints .entry)) (now (floats .entry)) count (now (ints .exit)) (now (floats .exit)) r (scaled value entries)) ⌝ }
 {
     let mut n = count;
     let mut q = from;
@@ -85,9 +87,11 @@ fn add_row(
 ) -> usize
     requires { ⌜ (from ≤ to) × (to ≤ length (now vals)) × (length (now idx) ≡ length (now vals)) × (c ≤ 2048) × (base + c ≤ length (now floats)) ⌝ }
     requires { ⌜ Below n (now idx) ⌝ }
-    requires { ⌜ Walk n c (now tptr) (now tidx) (length (now weights)) ⌝ }
+    requires { ⌜ Compressed n c (now tptr) (now tidx) (length (now weights)) ⌝ }
     requires { ⌜ Room c token (now ints) 0 ⌝ }
-    ensures { λ r. ⌜ Put c base token (now (ints .entry)) (now (floats .entry)) 0 (now (ints .exit)) (now (floats .exit)) r (productPuts (rowOf (now (tptr .entry)) (now (tidx .entry)) (now (weights .entry))) (stored (now (idx .entry)) (now (vals .entry)) from to)) ⌝ }
+    ensures { λ r. ⌜ (let transfer = rowOf (now (tptr .entry)) (now (tidx .entry)) (now (weights .entry)) in
+        let entries = stored (now (idx .entry)) (now (vals .entry)) from to in
+        Put c base token (now (ints .entry)) (now (floats .entry)) 0 (now (ints .exit)) (now (floats .exit)) r (productPuts transfer entries)) ⌝ }
 {
     let mut count = 0;
     let mut p = from;
@@ -148,10 +152,12 @@ fn weigh_row(
     base: usize,
     floats: &mut [f64],
 )
-    requires { ⌜ (from ≤ to) × (to ≤ length (now weights)) × (length (now tidx) ≡ length (now weights)) × (base ≡ c * c) × (base + c ≤ length (now floats)) × (c + count ≤ length (now ints)) ⌝ }
+    requires { ⌜ ((from ≤ to) × (to ≤ length (now weights)) × (length (now tidx) ≡ length (now weights))
+        × (base ≡ c * c) × (base + c ≤ length (now floats)) × (c + count ≤ length (now ints))) ⌝ }
     requires { ⌜ Below c (now tidx) ⌝ }
     requires { ⌜ ((t : ℕ) → t < count → getD (now ints) (c + t) 0 < c) ⌝ }
-    ensures { λ _. ⌜ now (floats .exit) ≡ scatter (weighedPuts c base (now (floats .entry)) (take count (drop c (now (ints .entry)))) (stored (now (tidx .entry)) (now (weights .entry)) from to)) (now (floats .entry)) ⌝ }
+    ensures { λ _. ⌜ (let entries = stored (now (tidx .entry)) (now (weights .entry)) from to in
+        now (floats .exit) ≡ scatter (weighedPuts c base (now (floats .entry)) (take count (drop c (now (ints .entry)))) entries) (now (floats .entry))) ⌝ }
 {
     let mut q = from;
     while q < to {
@@ -176,10 +182,12 @@ fn galerkin_row(
     floats: &mut [f64],
 )
     requires { ⌜ (r < n) × (n ≤ 1048576) × (c ≤ 2048) × (2 * c ≤ length (now ints)) × (c * c + c ≤ length (now floats)) ⌝ }
-    requires { ⌜ Walk n n (now ptr) (now idx) (length (now vals)) ⌝ }
-    requires { ⌜ Walk n c (now tptr) (now tidx) (length (now weights)) ⌝ }
+    requires { ⌜ Compressed n n (now ptr) (now idx) (length (now vals)) ⌝ }
+    requires { ⌜ Compressed n c (now tptr) (now tidx) (length (now weights)) ⌝ }
     requires { ⌜ ((j : ℕ) → j < c → getD (now ints) j 0 < suc r) ⌝ }
-    ensures { λ _. ⌜ RowAdded (csr n n (now (ptr .entry)) (now (idx .entry)) (now (vals .entry))) (rowOf (now (tptr .entry)) (now (tidx .entry)) (now (weights .entry))) c r (now (ints .entry)) (now (ints .exit)) (now (floats .entry)) (now (floats .exit)) ⌝ }
+    ensures { λ _. ⌜ (let a = csr n n (now (ptr .entry)) (now (idx .entry)) (now (vals .entry)) in
+        let transfer = rowOf (now (tptr .entry)) (now (tidx .entry)) (now (weights .entry)) in
+        RowAdded a transfer c r (now (ints .entry)) (now (ints .exit)) (now (floats .entry)) (now (floats .exit))) ⌝ }
 {
     let base = c * c;
     let from = wide(ptr[r]);
@@ -219,10 +227,12 @@ fn galerkin_rows(
     floats: &mut [f64],
 )
     requires { ⌜ (n ≤ 1048576) × (c ≤ 2048) × (2 * c ≤ length (now ints)) × (c * c + c ≤ length (now floats)) ⌝ }
-    requires { ⌜ Walk n n (now ptr) (now idx) (length (now vals)) ⌝ }
-    requires { ⌜ Walk n c (now tptr) (now tidx) (length (now weights)) ⌝ }
+    requires { ⌜ Compressed n n (now ptr) (now idx) (length (now vals)) ⌝ }
+    requires { ⌜ Compressed n c (now tptr) (now tidx) (length (now weights)) ⌝ }
     requires { ⌜ RowsAdded (csr n n (now ptr) (now idx) (now vals)) (rowOf (now tptr) (now tidx) (now weights)) c 0 (now ints) (now ints) (now floats) (now floats) ⌝ }
-    ensures { λ _. ⌜ RowsAdded (csr n n (now (ptr .entry)) (now (idx .entry)) (now (vals .entry))) (rowOf (now (tptr .entry)) (now (tidx .entry)) (now (weights .entry))) c n (now (ints .entry)) (now (ints .exit)) (now (floats .entry)) (now (floats .exit)) ⌝ }
+    ensures { λ _. ⌜ (let a = csr n n (now (ptr .entry)) (now (idx .entry)) (now (vals .entry)) in
+        let transfer = rowOf (now (tptr .entry)) (now (tidx .entry)) (now (weights .entry)) in
+        RowsAdded a transfer c n (now (ints .entry)) (now (ints .exit)) (now (floats .entry)) (now (floats .exit))) ⌝ }
 {
     let mut r = 0;
     while r < n {
@@ -245,9 +255,11 @@ fn galerkin_sum(
     floats: &mut [f64],
 )
     requires { ⌜ (n ≤ 1048576) × (c ≤ 2048) × (2 * c ≤ length (now ints)) × (c * c + c ≤ length (now floats)) ⌝ }
-    requires { ⌜ Walk n n (now ptr) (now idx) (length (now vals)) ⌝ }
-    requires { ⌜ Walk n c (now tptr) (now tidx) (length (now weights)) ⌝ }
-    ensures { λ _. ⌜ RowsAdded (csr n n (now (ptr .entry)) (now (idx .entry)) (now (vals .entry))) (rowOf (now (tptr .entry)) (now (tidx .entry)) (now (weights .entry))) c n (now (ints .entry)) (now (ints .exit)) (now (floats .entry)) (now (floats .exit)) ⌝ }
+    requires { ⌜ Compressed n n (now ptr) (now idx) (length (now vals)) ⌝ }
+    requires { ⌜ Compressed n c (now tptr) (now tidx) (length (now weights)) ⌝ }
+    ensures { λ _. ⌜ (let a = csr n n (now (ptr .entry)) (now (idx .entry)) (now (vals .entry)) in
+        let transfer = rowOf (now (tptr .entry)) (now (tidx .entry)) (now (weights .entry)) in
+        RowsAdded a transfer c n (now (ints .entry)) (now (ints .exit)) (now (floats .entry)) (now (floats .exit))) ⌝ }
 {
     zero_ints(ints);
     zero_floats(floats);
@@ -268,9 +280,12 @@ pub(crate) fn galerkin_into(
     floats: &mut [f64],
 )
     requires { ⌜ (n ≤ 1048576) × (c ≤ 2048) × (2 * c ≤ length (now ints)) × (c * c + c ≤ length (now floats)) ⌝ }
-    requires { ⌜ Walk n n (now ptr) (now idx) (length (now vals)) ⌝ }
-    requires { ⌜ Walk n c (now tptr) (now tidx) (length (now weights)) ⌝ }
-    ensures { λ _. ⌜ (now (ints .exit) ≡ replicate (length (now (ints .entry))) 0) × (now (floats .exit) ≡ padded zeroᶠ (length (now (floats .entry))) (averagedSquare c (square c (galerkinEntry (csr n n (now (ptr .entry)) (now (idx .entry)) (now (vals .entry))) (rowOf (now (tptr .entry)) (now (tidx .entry)) (now (weights .entry))))))) ⌝ }
+    requires { ⌜ Compressed n n (now ptr) (now idx) (length (now vals)) ⌝ }
+    requires { ⌜ Compressed n c (now tptr) (now tidx) (length (now weights)) ⌝ }
+    ensures { λ _. ⌜ (let a = csr n n (now (ptr .entry)) (now (idx .entry)) (now (vals .entry)) in
+        let transfer = rowOf (now (tptr .entry)) (now (tidx .entry)) (now (weights .entry)) in
+        (now (ints .exit) ≡ replicate (length (now (ints .entry))) 0)
+        × (now (floats .exit) ≡ padded zeroᶠ (length (now (floats .entry))) (averagedSquare c (square c (galerkinEntry a transfer))))) ⌝ }
 {
     galerkin_sum(ptr, idx, vals, n, tptr, tidx, weights, c, ints, floats);
     average(c, floats);

@@ -3,7 +3,7 @@ use causes::leave_floats;
 use causes::leave_ints;
 use csr32::column_outside;
 use csr32::pointer_falls;
-use csr32::validate;
+use csr32::structure;
 use definitions::Answer;
 use definitions::MAX_BLOCK;
 use definitions::MAX_COARSE;
@@ -20,7 +20,7 @@ ghost use Rattle.definitions.specs.Answers.{answerOf};
 ghost use Rattle.definitions.specs.declared.Answer.the-variants.{Accepted};
 ghost use Rattle.csr32.specs.Rows.{Rows};
 ghost use Rattle.coarse_matrix.specs.Calls.{constantChecks, constantChecked, constantCoarseCall, ConstantFacts, transferFits, galerkinChecks, galerkinChecked, galerkinCoarseCall, GalerkinFacts};
-ghost use Rattle.coarse_matrix.specs.Scatter.{Walk};
+ghost use Rattle.laws.specs.Bounds.{Compressed};
 
 mod constant;
 mod galerkin;
@@ -77,13 +77,14 @@ fn constant_check(
     groups: usize,
     lent: usize,
 ) -> Answer
-    ensures { λ r. ⌜ (r ≡ answerOf (constantChecked (csr rows cols (now («row_ptr» .entry)) (now («col_idx» .entry)) (now (values .entry))) size (now (ids .entry)) groups lent)) × (r ≡ Accepted → Rows (csr rows cols (now («row_ptr» .entry)) (now («col_idx» .entry)) (now (values .entry))) × ConstantFacts rows cols size (now (ids .entry)) groups lent) ⌝ }
+    ensures { λ r. ⌜ (let a = csr rows cols (now («row_ptr» .entry)) (now («col_idx» .entry)) (now (values .entry)) in
+        (r ≡ answerOf (constantChecked a size (now (ids .entry)) groups lent)) × (r ≡ Accepted → Rows a × ConstantFacts rows cols size (now (ids .entry)) groups lent)) ⌝ }
 {
     if MAX_ROWS < groups {
         return Answer::Refused(Refusal::TooLarge);
     }
-    let valid = validate(rows, cols, row_ptr, col_idx, values);
-    match valid {
+    let structured = structure(rows, cols, row_ptr, col_idx, values);
+    match structured {
         Answer::Refused(cause) => Answer::Refused(cause),
         Answer::Accepted => constant_checks(rows, cols, size, ids, groups, lent),
     }
@@ -101,7 +102,9 @@ pub fn constant_coarse(
     groups: usize,
     coarse: &mut [f64],
 ) -> Answer
-    ensures { λ r. ⌜ (r ≡ answerOf (constantCoarseCall (csr rows cols (now («row_ptr» .entry)) (now («col_idx» .entry)) (now (values .entry))) «block_size» (now (ids .entry)) groups (length (now (coarse .entry))))) × (now (coarse .exit) ≡ resultLeft zeroᶠ (constantCoarseCall (csr rows cols (now («row_ptr» .entry)) (now («col_idx» .entry)) (now (values .entry))) «block_size» (now (ids .entry)) groups (length (now (coarse .entry)))) (now (coarse .entry))) ⌝ }
+    ensures { λ r. ⌜ (let a = csr rows cols (now («row_ptr» .entry)) (now («col_idx» .entry)) (now (values .entry)) in
+        let call = constantCoarseCall a «block_size» (now (ids .entry)) groups (length (now (coarse .entry))) in
+        (r ≡ answerOf call) × (now (coarse .exit) ≡ resultLeft zeroᶠ call (now (coarse .entry)))) ⌝ }
 {
     let checked = constant_check(
         rows,
@@ -138,7 +141,7 @@ pub fn constant_coarse(
 // Whether the transfer is compressed rows with columns below c.
 fn transfer_fits(rows: usize, c: usize, ptr: &[u32], idx: &[u32], count: usize) -> bool
     requires { ⌜ rows ≤ 1048576 ⌝ }
-    ensures { λ r. ⌜ (r ≡ transferFits rows c (now (ptr .entry)) (now (idx .entry)) count) × (r ≡ true → Walk rows c (now (ptr .entry)) (now (idx .entry)) count) ⌝ }
+    ensures { λ r. ⌜ (r ≡ transferFits rows c (now (ptr .entry)) (now (idx .entry)) count) × (r ≡ true → Compressed rows c (now (ptr .entry)) (now (idx .entry)) count) ⌝ }
 {
     if ptr.len() != rows + 1 {
         return false;
@@ -175,7 +178,8 @@ fn galerkin_checks(
     floats: usize,
 ) -> Answer
     requires { ⌜ rows ≤ 1048576 ⌝ }
-    ensures { λ r. ⌜ (r ≡ answerOf (galerkinChecks rows cols c (now (ptr .entry)) (now (idx .entry)) count ints floats)) × (r ≡ Accepted → GalerkinFacts rows cols c (now (ptr .entry)) (now (idx .entry)) count ints floats) ⌝ }
+    ensures { λ r. ⌜ ((r ≡ answerOf (galerkinChecks rows cols c (now (ptr .entry)) (now (idx .entry)) count ints floats))
+        × (r ≡ Accepted → GalerkinFacts rows cols c (now (ptr .entry)) (now (idx .entry)) count ints floats)) ⌝ }
 {
     if rows != cols {
         return Answer::Refused(Refusal::NotSquare);
@@ -209,10 +213,12 @@ fn galerkin_check(
     ints: usize,
     floats: usize,
 ) -> Answer
-    ensures { λ r. ⌜ (r ≡ answerOf (galerkinChecked (csr rows cols (now («row_ptr» .entry)) (now («col_idx» .entry)) (now (values .entry))) c (now (ptr .entry)) (now (idx .entry)) count ints floats)) × (r ≡ Accepted → Rows (csr rows cols (now («row_ptr» .entry)) (now («col_idx» .entry)) (now (values .entry))) × GalerkinFacts rows cols c (now (ptr .entry)) (now (idx .entry)) count ints floats) ⌝ }
+    ensures { λ r. ⌜ (let a = csr rows cols (now («row_ptr» .entry)) (now («col_idx» .entry)) (now (values .entry)) in
+        (r ≡ answerOf (galerkinChecked a c (now (ptr .entry)) (now (idx .entry)) count ints floats))
+        × (r ≡ Accepted → Rows a × GalerkinFacts rows cols c (now (ptr .entry)) (now (idx .entry)) count ints floats)) ⌝ }
 {
-    let valid = validate(rows, cols, row_ptr, col_idx, values);
-    match valid {
+    let structured = structure(rows, cols, row_ptr, col_idx, values);
+    match structured {
         Answer::Refused(cause) => Answer::Refused(cause),
         Answer::Accepted => galerkin_checks(rows, cols, c, ptr, idx, count, ints, floats),
     }
@@ -232,7 +238,9 @@ pub fn galerkin_coarse(
     ints: &mut [u32],
     floats: &mut [f64],
 ) -> Answer
-    ensures { λ r. ⌜ (r ≡ answerOf (galerkinCoarseCall (csr rows cols (now («row_ptr» .entry)) (now («col_idx» .entry)) (now (values .entry))) c (now («transfer_ptr» .entry)) (now («transfer_idx» .entry)) (now (weights .entry)) (length (now (ints .entry))) (length (now (floats .entry))))) × (now (ints .exit) ≡ workLeft 0 (galerkinCoarseCall (csr rows cols (now («row_ptr» .entry)) (now («col_idx» .entry)) (now (values .entry))) c (now («transfer_ptr» .entry)) (now («transfer_idx» .entry)) (now (weights .entry)) (length (now (ints .entry))) (length (now (floats .entry)))) (now (ints .entry))) × (now (floats .exit) ≡ resultLeft zeroᶠ (galerkinCoarseCall (csr rows cols (now («row_ptr» .entry)) (now («col_idx» .entry)) (now (values .entry))) c (now («transfer_ptr» .entry)) (now («transfer_idx» .entry)) (now (weights .entry)) (length (now (ints .entry))) (length (now (floats .entry)))) (now (floats .entry))) ⌝ }
+    ensures { λ r. ⌜ (let a = csr rows cols (now («row_ptr» .entry)) (now («col_idx» .entry)) (now (values .entry)) in
+        let call = galerkinCoarseCall a c (now («transfer_ptr» .entry)) (now («transfer_idx» .entry)) (now (weights .entry)) (length (now (ints .entry))) (length (now (floats .entry))) in
+        (r ≡ answerOf call) × (now (ints .exit) ≡ workLeft 0 call (now (ints .entry))) × (now (floats .exit) ≡ resultLeft zeroᶠ call (now (floats .entry)))) ⌝ }
 {
     let checked = galerkin_check(
         rows,

@@ -1,4 +1,4 @@
--- The checks of validate, one law for a check that passes and one for a check that fails: `search causes` goes through them in their order.
+-- The checks of a matrix, one law for a check that passes and one for a check that fails: `search causes` goes through them in their order.
 use mathlib.Core.Path.{_≡_, refl, ap, sym, _∙_}
 use mathlib.Core.Bool.{Bool, true, false, not, _&&_}
 use mathlib.Core.List.{List, [], _∷_}
@@ -6,16 +6,17 @@ use Prim.Native.Nat.{ℕ, _+_, _<_, _≤_}
 use native.Mathlib.Omega.{arith}
 use lib.Dec.{leb, eqb}
 use lib.ListN.{length, getD}
-use lib.Ieee.Scale.{finite}
 use borrow.Author.Tests.{le-leb, lt-leb, eq-eqb, ne-eqb}
 use Rattle.definitions.specs.Refusal.{Checked, require, _>>=_}
 use Rattle.definitions.specs.Lists.{any, falls}
-use Rattle.definitions.specs.Matrix.{Matrix, validOf, maxRows, maxEntries}
+use Rattle.definitions.specs.Matrix.{Matrix, structureOf, validOf, maxRows, maxEntries}
 use Rattle.definitions.specs.Answers.{answerOf}
 use Rattle.definitions.specs.declared.Refusal.{Refusal}
 use Rattle.definitions.specs.declared.Refusal.the-variants.{PointerFalls, ColumnOutside, ValueNotFinite}
 use Rattle.definitions.specs.declared.Answer.{Answer}
 use Rattle.definitions.specs.declared.Answer.the-variants.{Accepted, Refused}
+use Rattle.csr32.specs.Calls.{accepted-done, refused-is, goes-on, stops}
+use Rattle.csr32.specs.Rows.{unreal}
 
 module _ (r : Refusal) (next : Unit {0} → Checked) (x : Answer) where
   passes : (b : Bool) → b ≡ true → x ≡ answerOf (next tt) → x ≡ answerOf (require b r >>= next)
@@ -97,12 +98,27 @@ pub ruleset causes = (
 
 -- the checks that scan a list, once those before them have passed
 abbrev pub scansOf : Matrix → Checked
-scansOf a =
-    require (not (falls (a .rowPtr))) PointerFalls
-    >>= (λ _. require (not (any (λ c. leb (a .cols) c) (a .colIdx))) ColumnOutside >>= (λ _. require (not (any (λ v. not (finite v)) (a .values))) ValueNotFinite))
+scansOf a = require (not (falls (a .rowPtr))) PointerFalls >>= (λ _. require (not (any (λ c. leb (a .cols) c) (a .colIdx))) ColumnOutside)
 
 pub shape-passed : (a : Matrix) (x : Answer) (last : ℕ) → a .rows ≤ maxRows → a .cols ≤ maxRows → length (a .values) ≤ maxEntries
     → length (a .rowPtr) ≡ a .rows + 1 → length (a .colIdx) ≡ length (a .values) → getD (a .rowPtr) 0 0 ≡ 0 → last ≡ getD (a .rowPtr) (a .rows) 0 → last ≡ length (a .values)
-    → x ≡ answerOf (scansOf a) → x ≡ answerOf (validOf a)
-unfolding validOf
+    → x ≡ answerOf (scansOf a) → x ≡ answerOf (structureOf a)
+unfolding structureOf
 shape-passed a x last l1 l2 l3 h2 h3 h4 e5 h5 k = search causes depth 14
+
+-- 8, behind those
+module _ (a : Matrix) (x : Answer) (e : x ≡ answerOf (structureOf a)) where
+  pub structure-fails : (r : Refusal) → x ≡ Refused r → Refused r ≡ answerOf (validOf a)
+  unfolding validOf answerOf
+  structure-fails r h = rw (stops (structureOf a) r _ (refused-is (structureOf a) r (sym e ∙ h)))
+
+  module _ (h : x ≡ Accepted) (t : Bool) (f : t ≡ unreal (a .values)) where
+    passes-structure : answerOf (validOf a) ≡ answerOf (require (not (unreal (a .values))) ValueNotFinite)
+    unfolding validOf
+    passes-structure = ap answerOf (goes-on (structureOf a) tt _ (accepted-done (structureOf a) (sym e ∙ h)))
+
+    pub values-fail : t ≡ true → Refused ValueNotFinite ≡ answerOf (validOf a)
+    values-fail g = ends-fails ValueNotFinite (unreal (a .values)) t f g ∙ sym passes-structure
+
+    pub values-pass : t ≡ false → Accepted ≡ answerOf (validOf a)
+    values-pass g = ends-not ValueNotFinite (unreal (a .values)) t f g ∙ sym passes-structure

@@ -1,6 +1,6 @@
 -- The entries stored from one position up to another, as a loop walks them: what is left at its head, and what is passed behind it.
 use Prim.Native.Nat.{ℕ, zero, suc, _+_, _-_, _≤_, _<_}
-use mathlib.Core.Path.{_≡_, refl, _∙_}
+use mathlib.Core.Path.{_≡_, _∙_}
 use mathlib.Core.Bool.{Bool, true, false}
 use mathlib.Core.List.{List, [], _∷_, _++_, zipWith, append-nil}
 use native.Mathlib.Omega.{arith}
@@ -8,9 +8,9 @@ use native.Mathlib.Numerals.{add-one}
 use lib.ListN.{length, getD}
 use lib.Seq.{slice-empty, slice-cons}
 use lib.Ieee.{Float, nan}
-use Rattle.definitions.specs.Lists.{keep}
 use Rattle.definitions.specs.Matrix.{Matrix, Entry, stored, valuesWhere}
 use Rattle.csr32.specs.Rows.{Rows}
+pub use Rattle.laws.proofs.Kept.{where-hit, where-miss, where-none, where-append}
 
 -- the entry at position k
 abbrev pub entryAt : List ℕ → List Float → ℕ → Entry
@@ -50,29 +50,6 @@ pub row-fits : (a : Matrix) → Rows a → (i from to : ℕ) → i < a .rows →
 row-fits a w i from to h e f =
     let g : to ≡ getD (a .rowPtr) (suc i) 0 = f ∙ rw add-one in
     (omega (arith, w .rises i h), omega (arith, w .ends (suc i) (omega arith)), w .same)
-
--- ---- the numbers of entries whose column passes a test
-
-module _ (p : ℕ → Bool) (e : Entry) (es : List Entry) where
-  pub where-hit : p (e .col) ≡ true → valuesWhere p (e ∷ es) ≡ e .value ∷ valuesWhere p es
-  unfolding valuesWhere keep
-  where-hit h = rw (h, keep)
-
-  pub where-miss : p (e .col) ≡ false → valuesWhere p (e ∷ es) ≡ valuesWhere p es
-  unfolding valuesWhere keep
-  where-miss h = rw (h, keep)
-
-pub where-none : (p : ℕ → Bool) → valuesWhere p [] ≡ []
-unfolding valuesWhere keep
-where-none p = refl
-
-pub where-append : (p : ℕ → Bool) (xs ys : List Entry) → valuesWhere p (xs ++ ys) ≡ valuesWhere p xs ++ valuesWhere p ys
-where-append p [] ys = rw (where-none p)
-where-append p (e ∷ xs) ys = step (p (e .col)) refl (where-append p xs ys)
-  where
-    step : (b : Bool) → p (e .col) ≡ b → valuesWhere p (xs ++ ys) ≡ valuesWhere p xs ++ valuesWhere p ys → valuesWhere p (e ∷ (xs ++ ys)) ≡ valuesWhere p (e ∷ xs) ++ valuesWhere p ys
-    step true k ih = where-hit p e (xs ++ ys) k ∙ rw (ih, where-hit p e xs k)
-    step false k ih = where-miss p e (xs ++ ys) k ∙ rw (ih, where-miss p e xs k)
 
 -- ---- the numbers that the entries from a up to k store at columns that pass
 

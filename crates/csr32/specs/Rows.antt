@@ -1,4 +1,4 @@
--- What causes 1 to 8 leave of compressed rows, for every loop that walks them.
+-- What causes 1 to 7 leave of compressed rows, for every loop that walks them, and 8 of their values.
 use Prim.Native.Nat.{ℕ, zero, suc, _+_, _-_, _≤_, _<_}
 use mathlib.Core.Path.{_≡_, refl}
 use mathlib.Core.Bool.{Bool, true, false, not, _&&_, _||_}
@@ -10,9 +10,9 @@ use lib.Ieee.{Float, nan}
 use lib.Ieee.Scale.{finite}
 use borrow.Author.Tests.{leb-true, leb-false, ltb-false, eqb-true, not-true, not-false}
 use Rattle.definitions.specs.Lists.{any, falls}
-use Rattle.definitions.specs.Refusal.{done, Checked, require, _>>=_}
+use Rattle.definitions.specs.Refusal.{refused, done, Checked, require, _>>=_}
 use Rattle.definitions.specs.declared.Refusal.{Refusal}
-use Rattle.definitions.specs.Matrix.{Matrix, validOf, maxRows, maxEntries}
+use Rattle.definitions.specs.Matrix.{Matrix, structureOf, validOf, maxRows, maxEntries}
 
 -- some column is not below cols
 abbrev pub outside : ℕ → List ℕ → Bool
@@ -33,7 +33,10 @@ pub record Rows (a : Matrix) : Type 0 where
   pub rises : (i : ℕ) → i < a .rows → getD (a .rowPtr) i 0 ≤ getD (a .rowPtr) (suc i) 0
   pub ends : (i : ℕ) → i < suc (a .rows) → getD (a .rowPtr) i 0 ≤ length (a .values)
   pub within : (k : ℕ) → k < length (a .colIdx) → getD (a .colIdx) k 0 < a .cols
-  pub real : (k : ℕ) → k < length (a .values) → finite (getD (a .values) k nan) ≡ true
+
+-- every value is finite
+abbrev pub Real : List Float → Type 0
+Real vals = (k : ℕ) → k < length vals → finite (getD vals k nan) ≡ true
 
 -- ---- what a test over a whole list says of its elements
 
@@ -94,10 +97,10 @@ first-same : (p : List ℕ) (n : ℕ) → length p ≡ n + 1 → getD p 0 1 ≡ 
 first-same [] n l e = absurd (omega arith)
 first-same (x ∷ p) n l e = e
 
--- THE LAW OF A VALID MATRIX
-pub rows-of : (a : Matrix) → validOf a ≡ done tt → Rows a
-unfolding validOf
-rows-of a e =
+-- THE LAW OF A MATRIX WHOSE STRUCTURE IS ACCEPTED
+pub structure-rows : (a : Matrix) → structureOf a ≡ done tt → Rows a
+unfolding structureOf
+structure-rows a e =
     let p1 = both _ _ _ e in
     let small = three (leb (a .rows) maxRows) (leb (a .cols) maxRows) (leb (length (a .values)) maxEntries) (p1 .0) in
     let p2 = both _ _ _ (p1 .1) in
@@ -105,8 +108,7 @@ rows-of a e =
     let p4 = both _ _ _ (p3 .1) in
     let p5 = both _ _ _ (p4 .1) in
     let p6 = both _ _ _ (p5 .1) in
-    let p7 = both _ _ _ (p6 .1) in
-    let p8 = once _ _ (p7 .1) in
+    let p7 = once _ _ (p6 .1) in
     let long : length (a .rowPtr) ≡ a .rows + 1 = eqb-true _ _ (p2 .0) in
     let last : getD (a .rowPtr) (a .rows) 0 ≡ length (a .values) = eqb-true _ _ (p5 .0) in
     let rising : falls (a .rowPtr) ≡ false = not-true _ (p6 .0) in
@@ -120,6 +122,23 @@ rows-of a e =
       last = last;
       rises = λ i h. no-falls (a .rowPtr) rising i (omega arith);
       ends = λ i h. let q : i + (a .rows - i) ≡ a .rows = omega arith in rw (← last) (rw q at (no-falls-to (a .rowPtr) rising (a .rows - i) i (omega arith)));
-      within = λ k h. leb-false _ _ (none-any _ 0 (a .colIdx) (not-true _ (p7 .0)) k h);
-      real = λ k h. not-false _ (none-any _ nan (a .values) (not-true _ p8) k h);
+      within = λ k h. leb-false _ _ (none-any _ 0 (a .colIdx) (not-true _ p7) k h);
     }
+
+-- and of one that is valid
+valid-parts : (o : Checked) (b : Bool) (r : Refusal) → (o >>= (λ _. require b r)) ≡ done tt → (o ≡ done tt) × (b ≡ true)
+unfolding _>>=_ require
+valid-parts (done tt) true r e = (refl, refl)
+valid-parts (done tt) false r e = (refl, cc)
+valid-parts (refused q) b r e = (cc, cc)
+
+pub valid-structure : (a : Matrix) → validOf a ≡ done tt → structureOf a ≡ done tt
+unfolding validOf
+valid-structure a e = valid-parts _ _ _ e .0
+
+pub valid-real : (a : Matrix) → validOf a ≡ done tt → Real (a .values)
+unfolding validOf
+valid-real a e k h = not-false _ (none-any _ nan (a .values) (not-true _ (valid-parts _ _ _ e .1)) k h)
+
+pub rows-of : (a : Matrix) → validOf a ≡ done tt → Rows a
+rows-of a e = structure-rows a (valid-structure a e)

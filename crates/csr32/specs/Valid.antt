@@ -1,16 +1,16 @@
--- What validate's answer says to a call that checks a matrix first.
+-- What the answers of validate and structure say to a call that checks a matrix first.
 use Prim.Native.Nat.{ℕ}
 use mathlib.Core.Path.{_≡_, refl, subst}
 use mathlib.Core.List.{List}
 use lib.Ieee.{Float}
 use mathlib.Core.Bool.{true}
 use Rattle.definitions.specs.Refusal.{Outcome, refused, _>>=_, keepsAll, causeOf}
-use Rattle.definitions.specs.Matrix.{Matrix, csr, validOf}
+use Rattle.definitions.specs.Matrix.{Matrix, csr, structureOf, validOf}
 use Rattle.definitions.specs.Answers.{answerOf}
 use Rattle.definitions.specs.declared.Refusal.{Refusal}
 use Rattle.definitions.specs.declared.Answer.the-variants.{Accepted, Refused}
 use Rattle.csr32.specs.Calls.{accepted-done, refused-is, Keeps, keeps-require, keeps-then, keeps-refused, goes-on, stops}
-use Rattle.csr32.specs.Rows.{Rows, rows-of}
+use Rattle.csr32.specs.Rows.{Rows, structure-rows, rows-of}
 
 -- an accepted matrix has the facts of Rows
 pub accepted-rows : (a : Matrix) → answerOf (validOf a) ≡ Accepted → Rows a
@@ -21,17 +21,20 @@ pub square-rows : (rows cols : ℕ) (ptr idx : List ℕ) (vals : List Float) →
 square-rows rows cols ptr idx vals e w = subst (λ (n : ℕ). Rows (csr rows n ptr idx vals)) e w
 
 -- causes 1 to 8 leave all lists as they were
+pub structure-keeps : (a : Matrix) → Keeps (structureOf a)
+unfolding structureOf keepsAll causeOf
+structure-keeps a =
+    keeps-then _ _ (keeps-require _ _ refl) (λ _.
+    keeps-then _ _ (keeps-require _ _ refl) (λ _.
+    keeps-then _ _ (keeps-require _ _ refl) (λ _.
+    keeps-then _ _ (keeps-require _ _ refl) (λ _.
+    keeps-then _ _ (keeps-require _ _ refl) (λ _.
+    keeps-then _ _ (keeps-require _ _ refl) (λ _.
+    keeps-require _ _ refl))))))
+
 pub valid-keeps : (a : Matrix) → Keeps (validOf a)
 unfolding validOf keepsAll causeOf
-valid-keeps a =
-    keeps-then _ _ (keeps-require _ _ refl) (λ _.
-    keeps-then _ _ (keeps-require _ _ refl) (λ _.
-    keeps-then _ _ (keeps-require _ _ refl) (λ _.
-    keeps-then _ _ (keeps-require _ _ refl) (λ _.
-    keeps-then _ _ (keeps-require _ _ refl) (λ _.
-    keeps-then _ _ (keeps-require _ _ refl) (λ _.
-    keeps-then _ _ (keeps-require _ _ refl) (λ _.
-    keeps-require _ _ refl)))))))
+valid-keeps a = keeps-then _ _ (structure-keeps a) (λ _. keeps-require _ _ refl)
 
 pub valid-kept : (a : Matrix) (r : Refusal) → answerOf (validOf a) ≡ Refused r → keepsAll r ≡ true
 valid-kept a r e = keeps-refused (validOf a) r (valid-keeps a) (refused-is (validOf a) r e)
@@ -43,3 +46,18 @@ module _ {B : Type 0} (a : Matrix) (next : Unit {0} → Outcome B) where
 
   pub valid-stops : (r : Refusal) → answerOf (validOf a) ≡ Refused r → (validOf a >>= next) ≡ refused r
   valid-stops r e = stops (validOf a) r next (refused-is (validOf a) r e)
+
+-- ---- the same where causes 1 to 7 alone were asked
+
+pub structured-rows : (a : Matrix) → answerOf (structureOf a) ≡ Accepted → Rows a
+structured-rows a e = structure-rows a (accepted-done (structureOf a) e)
+
+pub structure-kept : (a : Matrix) (r : Refusal) → answerOf (structureOf a) ≡ Refused r → keepsAll r ≡ true
+structure-kept a r e = keeps-refused (structureOf a) r (structure-keeps a) (refused-is (structureOf a) r e)
+
+module _ {B : Type 0} (a : Matrix) (next : Unit {0} → Outcome B) where
+  pub structure-goes : answerOf (structureOf a) ≡ Accepted → (structureOf a >>= next) ≡ next tt
+  structure-goes e = goes-on (structureOf a) tt next (accepted-done (structureOf a) e)
+
+  pub structure-stops : (r : Refusal) → answerOf (structureOf a) ≡ Refused r → (structureOf a >>= next) ≡ refused r
+  structure-stops r e = stops (structureOf a) r next (refused-is (structureOf a) r e)

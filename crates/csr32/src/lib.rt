@@ -1,4 +1,4 @@
-// A sparse matrix in compressed rows: the causes 1 to 8 that every call on a matrix checks first, and its diagonal.
+// A sparse matrix in compressed rows: the causes 1 to 8, of which whoever walks a matrix checks 1 to 7 first, and its diagonal.
 use definitions::Answer;
 use definitions::MAX_ENTRIES;
 use definitions::MAX_ROWS;
@@ -10,7 +10,7 @@ ghost use lib.ListN.{length};
 ghost use Rattle.definitions.specs.Lists.{falls};
 ghost use Rattle.definitions.specs.Numbers.{zeroᶠ, total};
 ghost use Rattle.definitions.specs.Refusal.{resultLeft};
-ghost use Rattle.definitions.specs.Matrix.{csr, maxRows, maxEntries, validOf, stored as storedFrom, valuesWhere};
+ghost use Rattle.definitions.specs.Matrix.{csr, maxRows, maxEntries, structureOf, validOf, stored as storedFrom, valuesWhere};
 ghost use Rattle.definitions.specs.Diagonal.{diagonalOf, diagonalCall, diagonalLeft};
 ghost use Rattle.definitions.specs.Answers.{answerOf};
 ghost use Rattle.csr32.specs.Rows.{Rows, outside, unreal};
@@ -93,15 +93,15 @@ fn value_not_finite(values: &[f64]) -> bool
     found
 }
 
-// The causes 1 to 8, in this order.
-pub fn validate(
+// The causes 1 to 7, in this order: what loops over the entries need. The values are counted and not read.
+pub fn structure(
     rows: usize,
     cols: usize,
     row_ptr: &[u32],
     col_idx: &[u32],
     values: &[f64],
 ) -> Answer
-    ensures { λ r. ⌜ r ≡ answerOf (validOf (csr rows cols (now («row_ptr» .entry)) (now («col_idx» .entry)) (now (values .entry)))) ⌝ }
+    ensures { λ r. ⌜ r ≡ answerOf (structureOf (csr rows cols (now («row_ptr» .entry)) (now («col_idx» .entry)) (now (values .entry)))) ⌝ }
 {
     if MAX_ROWS < rows {
         return Answer::Refused(Refusal::TooLarge);
@@ -130,10 +130,29 @@ pub fn validate(
     if column_outside(col_idx, cols) {
         return Answer::Refused(Refusal::ColumnOutside);
     }
-    if value_not_finite(values) {
-        return Answer::Refused(Refusal::ValueNotFinite);
-    }
     Answer::Accepted
+}
+
+// The causes 1 to 8, in this order.
+pub fn validate(
+    rows: usize,
+    cols: usize,
+    row_ptr: &[u32],
+    col_idx: &[u32],
+    values: &[f64],
+) -> Answer
+    ensures { λ r. ⌜ r ≡ answerOf (validOf (csr rows cols (now («row_ptr» .entry)) (now («col_idx» .entry)) (now (values .entry)))) ⌝ }
+{
+    let structured = structure(rows, cols, row_ptr, col_idx, values);
+    match structured {
+        Answer::Refused(cause) => Answer::Refused(cause),
+        Answer::Accepted => {
+            if value_not_finite(values) {
+                return Answer::Refused(Refusal::ValueNotFinite);
+            }
+            Answer::Accepted
+        }
+    }
 }
 
 // The numbers stored at one column: whether there are any, and their sum.
@@ -203,7 +222,8 @@ fn fill_diagonal(
     requires { ⌜ Rows (csr rows rows (now «row_ptr») (now «col_idx») (now values)) ⌝ }
     requires { ⌜ rows ≤ length (now diagonal) ⌝ }
     ensures { λ r. ⌜ r ≡ answerOf (diagonalOf (csr rows rows (now («row_ptr» .entry)) (now («col_idx» .entry)) (now (values .entry)))) ⌝ }
-    ensures { λ _. ⌜ now (diagonal .exit) ≡ resultLeft zeroᶠ (diagonalOf (csr rows rows (now («row_ptr» .entry)) (now («col_idx» .entry)) (now (values .entry)))) (now (diagonal .entry)) ⌝ }
+    ensures { λ _. ⌜ (let a = csr rows rows (now («row_ptr» .entry)) (now («col_idx» .entry)) (now (values .entry)) in
+        now (diagonal .exit) ≡ resultLeft zeroᶠ (diagonalOf a) (now (diagonal .entry))) ⌝ }
 {
     let mut i: usize = 0;
     while i < rows {

@@ -1,11 +1,12 @@
 -- The elements of a list that pass a test, one by one and end to end.
-use Prim.Native.Nat.{suc, _≤_}
+use Prim.Native.Nat.{ℕ, suc, _≤_}
 use mathlib.Core.Path.{_≡_, refl, ap}
 use mathlib.Core.Bool.{Bool, true, false}
-use mathlib.Core.List.{List, [], _∷_, _++_, map, flatMap}
+use mathlib.Core.List.{List, [], _∷_, _++_, map, flatMap, map-append}
 use native.Mathlib.Omega.{arith}
 use lib.ListN.{length}
 use Rattle.definitions.specs.Lists.{keep}
+use Rattle.definitions.specs.Matrix.{Entry, valuesWhere}
 
 module _ {A : Type 0} (p : A → Bool) where
   pub keep-nil : keep p [] ≡ []
@@ -51,3 +52,22 @@ pub flatMap-one : {A B : Type 0} (f : A → B) (xs : List A) → flatMap (λ x. 
 unfolding flatMap
 flatMap-one f [] = refl
 flatMap-one f (x ∷ xs) = ap (λ l. f x ∷ l) (flatMap-one f xs)
+
+-- ---- the numbers of entries whose column passes a test
+
+module _ (p : ℕ → Bool) (e : Entry) (es : List Entry) where
+  pub where-hit : p (e .col) ≡ true → valuesWhere p (e ∷ es) ≡ e .value ∷ valuesWhere p es
+  unfolding valuesWhere keep
+  where-hit h = rw (h, keep)
+
+  pub where-miss : p (e .col) ≡ false → valuesWhere p (e ∷ es) ≡ valuesWhere p es
+  unfolding valuesWhere keep
+  where-miss h = rw (h, keep)
+
+pub where-none : (p : ℕ → Bool) → valuesWhere p [] ≡ []
+unfolding valuesWhere keep
+where-none p = refl
+
+pub where-append : (p : ℕ → Bool) (xs ys : List Entry) → valuesWhere p (xs ++ ys) ≡ valuesWhere p xs ++ valuesWhere p ys
+unfolding valuesWhere
+where-append p xs ys = rw (keep-append (λ e. p (e .col)) xs ys) (map-append (λ e. e .value) (keep (λ e. p (e .col)) xs) (keep (λ e. p (e .col)) ys))

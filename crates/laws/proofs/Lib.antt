@@ -11,11 +11,13 @@ pub mod RootExamples
 -- numbers that are the same but for a zero's sign, and what operations keep of that
 pub mod Same
 pub mod Near
--- tests of two parts; lists, what grows by one, what passes a test, compressed rows, counts
+-- tests of two parts; lists, what grows by one, what passes a test, what loops that add leave, coarse columns, compressed rows, counts
 pub mod Tests
 pub mod Lists
 pub mod Growing
 pub mod Kept
+pub mod Scattering
+pub mod CoarseColumns
 pub mod Csr
 pub mod Counting
 -- chains of stages; the factor: what its entries are, for the coarse matrix and for the blocks, that they are finite, and examples

@@ -13,7 +13,7 @@ use lib.Ieee.Fits.{and-l, and-r, up-pos}
 use lib.Ieee.Positive.{positive}
 use Rattle.definitions.specs.Numbers.{_*ᶠ_, rootᶠ, zeroᶠ, oneᶠ, symmetryTol, pivotTol, larger, largest, total, usable, above}
 use Rattle.definitions.specs.Refusal.{Outcome, refused, done, require, _>>=_, numberOf, causeOf}
-use Rattle.definitions.specs.Matrix.{Matrix, storedAt, validOf}
+use Rattle.definitions.specs.Matrix.{Matrix, storedAt, structureOf, validOf}
 use Rattle.definitions.specs.Factor.{rest, belowDiagonal, factorRows}
 use Rattle.definitions.specs.Block.{maxBlock, blockCount, widthOf, blockOf, inBlock, topOf, skewed, blockFactor, factorsFrom, factorsOf}
 use Rattle.definitions.specs.Diagonal.{diagonalFrom, diagonalOf}
@@ -61,17 +61,20 @@ clear-test false r f h k = h
 
 -- ---- the checks
 
-valid-clear : (a : Matrix) → Clear (validOf a)
-unfolding validOf numberOf causeOf
-valid-clear a =
+structure-clear : (a : Matrix) → Clear (structureOf a)
+unfolding structureOf numberOf causeOf
+structure-clear a =
     clear-test _ TooLarge _ tt (λ _.
     clear-test _ RowListLength _ tt (λ _.
     clear-test _ ColumnListLength _ tt (λ _.
     clear-test _ FirstPointer _ tt (λ _.
     clear-test _ LastPointer _ tt (λ _.
     clear-test _ PointerFalls _ tt (λ _.
-    clear-test _ ColumnOutside _ tt (λ _.
-    clear-require _ ValueNotFinite tt)))))))
+    clear-require _ ColumnOutside tt))))))
+
+valid-clear : (a : Matrix) → Clear (validOf a)
+unfolding validOf numberOf causeOf
+valid-clear a = clear-bind (structureOf a) _ (structure-clear a) (λ _ _. clear-require _ ValueNotFinite tt)
 
 front-clear : (a : Matrix) (o : Options) → Clear (frontOf a o)
 unfolding frontOf numberOf causeOf

@@ -1,3 +1,5 @@
 -- Words that contracts of more than one crate cite.
+pub mod Bounds
 pub mod Every
+pub mod Scatter
 pub mod WholeRoot

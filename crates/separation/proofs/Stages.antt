@@ -10,7 +10,7 @@ use lib.Ieee.{Float}
 use lib.Ieee.Fits.{and-l, and-r}
 use Rattle.definitions.specs.Lists.{any, falls}
 use Rattle.definitions.specs.Refusal.{Outcome, done, require, _>>=_}
-use Rattle.definitions.specs.Matrix.{Matrix, maxRows, maxEntries, validOf}
+use Rattle.definitions.specs.Matrix.{Matrix, maxRows, maxEntries, structureOf, validOf}
 use Rattle.definitions.specs.Block.{maxBlock, factorsOf}
 use Rattle.definitions.specs.Groups.{Grouping, maxGroup}
 use Rattle.definitions.specs.Coarse.{averagedSquare, coarseFactor}
@@ -39,20 +39,21 @@ pub record Sound (a : Matrix) (o : Options) : Type 0 where
   pub whole : nodeCount a o * o .block ≡ a .rows
 
 pub sound-of : (a : Matrix) (o : Options) → frontOf a o ≡ done tt → Sound a o
-unfolding frontOf validOf
+unfolding frontOf validOf structureOf
 sound-of a o e =
     let v = bind-done (validOf a) _ tt e in
+    let s = bind-done (structureOf a) _ tt (v .1) in
     let f1 = test-passed _ NotSquare _ tt (v .2) in
     let f2 = test-passed _ BlockSize _ tt (f1 .1) in
     let f3 = test-passed _ GroupSize _ tt (f2 .1) in
     let f4 = last-passed _ NotMultiple (f3 .1) in
-    let v1 = test-passed _ TooLarge _ tt (v .1) in
+    let v1 = test-passed _ TooLarge _ tt (s .1) in
     let v2 = test-passed _ RowListLength _ tt (v1 .1) in
     let v3 = test-passed _ ColumnListLength _ tt (v2 .1) in
     let v4 = test-passed _ FirstPointer _ tt (v3 .1) in
     let v5 = test-passed _ LastPointer _ tt (v4 .1) in
     let v6 = test-passed _ PointerFalls _ tt (v5 .1) in
-    let v7 = test-passed _ ColumnOutside _ tt (v6 .1) in
+    let v7 = last-passed _ ColumnOutside (v6 .1) in
     let limits : T (leb (a .rows) maxRows && leb (a .cols) maxRows) = and-l (leb (a .rows) maxRows && leb (a .cols) maxRows) (leb (length (a .values)) maxEntries) (v1 .0) in
     record {
       rows-limit = leb→le (a .rows) maxRows (and-l (leb (a .rows) maxRows) (leb (a .cols) maxRows) limits);
@@ -62,7 +63,7 @@ sound-of a o e =
       ptr-first = eqb→eq (getD (a .rowPtr) 0 1) 0 (v4 .0);
       ptr-last = eqb→eq (getD (a .rowPtr) (a .rows) 0) (length (a .values)) (v5 .0);
       ptr-rises = v6 .0;
-      idx-inside = subst (λ (n : ℕ). T (not (any (λ c. leb n c) (a .colIdx)))) (eqb→eq (a .cols) (a .rows) (f1 .0)) (v7 .0);
+      idx-inside = subst (λ (n : ℕ). T (not (any (λ c. leb n c) (a .colIdx)))) (eqb→eq (a .cols) (a .rows) (f1 .0)) v7;
       block-some = leb→le 1 (o .block) (and-l (leb 1 (o .block)) (leb (o .block) maxBlock) (f2 .0));
       block-limit = leb→le (o .block) maxBlock (and-r (leb 1 (o .block)) (leb (o .block) maxBlock) (f2 .0));
       group-some = leb→le 1 (o .group) (and-l (leb 1 (o .group)) (leb (o .group) maxGroup) (f3 .0));

@@ -67,9 +67,9 @@ pub extern "C" fn yelomawin_bench_neighbours(
     ints: &mut [u32],
     floats: &mut [f64],
 ) -> u64
-    ensures { λ r. ⌜ r ≡ answerNumber (answerOf (neighboursWithin (listsBy strong) (csr rows cols (now («row_ptr» .entry)) (now («col_idx» .entry)) (now (values .entry))) «block_size» base (length (now (ints .entry))) (length (now (floats .entry))))) ⌝ }
-    ensures { λ _. ⌜ now (ints .exit) ≡ resultLeft 0 (neighboursWithin (listsBy strong) (csr rows cols (now («row_ptr» .entry)) (now («col_idx» .entry)) (now (values .entry))) «block_size» base (length (now (ints .entry))) (length (now (floats .entry)))) (now (ints .entry)) ⌝ }
-    ensures { λ _. ⌜ now (floats .exit) ≡ workLeft zeroᶠ (neighboursWithin (listsBy strong) (csr rows cols (now («row_ptr» .entry)) (now («col_idx» .entry)) (now (values .entry))) «block_size» base (length (now (ints .entry))) (length (now (floats .entry)))) (now (floats .entry)) ⌝ }
+    ensures { λ r. ⌜ (let a = csr rows cols (now («row_ptr» .entry)) (now («col_idx» .entry)) (now (values .entry)) in
+        let call = neighboursWithin (listsBy strong) a «block_size» base (length (now (ints .entry))) (length (now (floats .entry))) in
+        (r ≡ answerNumber (answerOf call)) × ((now (ints .exit) ≡ resultLeft 0 call (now (ints .entry))) × (now (floats .exit) ≡ workLeft zeroᶠ call (now (floats .entry))))) ⌝ }
 {
     let which = lists_by(strong);
     let a = adjacency::neighbours(
@@ -102,9 +102,9 @@ pub extern "C" fn yelomawin_bench_transfer(
     ints: &mut [u32],
     floats: &mut [f64],
 ) -> u64
-    ensures { λ r. ⌜ r ≡ transferNumber (transferAnswer (smoothedTransferCall (csr rows cols (now («row_ptr» .entry)) (now («col_idx» .entry)) (now (values .entry))) «block_size» (now (ids .entry)) groups (now (diagonal .entry)) damping (length (now (ints .entry))) (length (now (floats .entry))))) ⌝ }
-    ensures { λ _. ⌜ now (ints .exit) ≡ transferInts (smoothedTransferCall (csr rows cols (now («row_ptr» .entry)) (now («col_idx» .entry)) (now (values .entry))) «block_size» (now (ids .entry)) groups (now (diagonal .entry)) damping (length (now (ints .entry))) (length (now (floats .entry)))) (now (ints .entry)) ⌝ }
-    ensures { λ _. ⌜ now (floats .exit) ≡ transferFloats (smoothedTransferCall (csr rows cols (now («row_ptr» .entry)) (now («col_idx» .entry)) (now (values .entry))) «block_size» (now (ids .entry)) groups (now (diagonal .entry)) damping (length (now (ints .entry))) (length (now (floats .entry)))) (now (floats .entry)) ⌝ }
+    ensures { λ r. ⌜ (let a = csr rows cols (now («row_ptr» .entry)) (now («col_idx» .entry)) (now (values .entry)) in
+        let call = smoothedTransferCall a «block_size» (now (ids .entry)) groups (now (diagonal .entry)) damping (length (now (ints .entry))) (length (now (floats .entry))) in
+        (r ≡ transferNumber (transferAnswer call)) × ((now (ints .exit) ≡ transferInts call (now (ints .entry))) × (now (floats .exit) ≡ transferFloats call (now (floats .entry))))) ⌝ }
 {
     let a = transfer::smoothed_transfer(
         rows as usize,
@@ -135,8 +135,9 @@ pub extern "C" fn yelomawin_bench_constant_coarse(
     groups: u64,
     coarse: &mut [f64],
 ) -> u64
-    ensures { λ r. ⌜ r ≡ answerNumber (answerOf (constantCoarseCall (csr rows cols (now («row_ptr» .entry)) (now («col_idx» .entry)) (now (values .entry))) «block_size» (now (ids .entry)) groups (length (now (coarse .entry))))) ⌝ }
-    ensures { λ _. ⌜ now (coarse .exit) ≡ resultLeft zeroᶠ (constantCoarseCall (csr rows cols (now («row_ptr» .entry)) (now («col_idx» .entry)) (now (values .entry))) «block_size» (now (ids .entry)) groups (length (now (coarse .entry)))) (now (coarse .entry)) ⌝ }
+    ensures { λ r. ⌜ (let a = csr rows cols (now («row_ptr» .entry)) (now («col_idx» .entry)) (now (values .entry)) in
+        let call = constantCoarseCall a «block_size» (now (ids .entry)) groups (length (now (coarse .entry))) in
+        (r ≡ answerNumber (answerOf call)) × (now (coarse .exit) ≡ resultLeft zeroᶠ call (now (coarse .entry)))) ⌝ }
 {
     let a = coarse_matrix::constant_coarse(
         rows as usize,
@@ -166,9 +167,9 @@ pub extern "C" fn yelomawin_bench_galerkin_coarse(
     ints: &mut [u32],
     floats: &mut [f64],
 ) -> u64
-    ensures { λ r. ⌜ r ≡ answerNumber (answerOf (galerkinCoarseCall (csr rows cols (now («row_ptr» .entry)) (now («col_idx» .entry)) (now (values .entry))) c (now («transfer_ptr» .entry)) (now («transfer_idx» .entry)) (now (weights .entry)) (length (now (ints .entry))) (length (now (floats .entry))))) ⌝ }
-    ensures { λ _. ⌜ now (ints .exit) ≡ workLeft 0 (galerkinCoarseCall (csr rows cols (now («row_ptr» .entry)) (now («col_idx» .entry)) (now (values .entry))) c (now («transfer_ptr» .entry)) (now («transfer_idx» .entry)) (now (weights .entry)) (length (now (ints .entry))) (length (now (floats .entry)))) (now (ints .entry)) ⌝ }
-    ensures { λ _. ⌜ now (floats .exit) ≡ resultLeft zeroᶠ (galerkinCoarseCall (csr rows cols (now («row_ptr» .entry)) (now («col_idx» .entry)) (now (values .entry))) c (now («transfer_ptr» .entry)) (now («transfer_idx» .entry)) (now (weights .entry)) (length (now (ints .entry))) (length (now (floats .entry)))) (now (floats .entry)) ⌝ }
+    ensures { λ r. ⌜ (let a = csr rows cols (now («row_ptr» .entry)) (now («col_idx» .entry)) (now (values .entry)) in
+        let call = galerkinCoarseCall a c (now («transfer_ptr» .entry)) (now («transfer_idx» .entry)) (now (weights .entry)) (length (now (ints .entry))) (length (now (floats .entry))) in
+        (r ≡ answerNumber (answerOf call)) × ((now (ints .exit) ≡ workLeft 0 call (now (ints .entry))) × (now (floats .exit) ≡ resultLeft zeroᶠ call (now (floats .entry))))) ⌝ }
 {
     let a = coarse_matrix::galerkin_coarse(
         rows as usize,

@@ -11,7 +11,8 @@ use Rattle.definitions.specs.Numbers.{_+ᶠ_, _*ᶠ_, zeroᶠ, total}
 use Rattle.definitions.specs.Matrix.{stored, rowOf, entriesOf, csr}
 use Rattle.definitions.specs.Estimate.{rowTerms}
 use Rattle.csr32.specs.Rows.{Rows}
-use Rattle.spectral_radius.specs.Power.{Below, products, imageAt, vectorIn}
+use Rattle.laws.specs.Bounds.{Below}
+use Rattle.spectral_radius.specs.Power.{products, imageAt, vectorIn}
 use Rattle.spectral_radius.proofs.Regions.{length-part}
 
 abbrev plus : Float → Float → Float

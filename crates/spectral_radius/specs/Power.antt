@@ -1,8 +1,8 @@
 -- The estimate's steps over one work list: the inverse roots in its first `rows` numbers, the vector in the next, its image in those after it.
-use Prim.Native.Nat.{ℕ, _+_, _<_}
+use Prim.Native.Nat.{ℕ, _+_}
 use mathlib.Core.Bool.{Bool, true, false}
 use mathlib.Core.List.{List, map}
-use lib.ListN.{length, getD}
+use lib.ListN.{getD}
 use lib.Ieee.{Float, nan}
 use Rattle.definitions.specs.Lists.{between}
 use Rattle.definitions.specs.Numbers.{_*ᶠ_, zeroᶠ, total, above}
@@ -12,9 +12,6 @@ use Rattle.definitions.specs.Estimate.{Estimate, startOf, normalised, rowTerms,
 use Rattle.definitions.specs.declared.Refusal.the-variants.{EstimateFailed}
 
 -- every number of a list is below n
-abbrev pub Below : ℕ → List ℕ → Type 0
-Below n l = (k : ℕ) → k < length l → getD l k 0 < n
-
 -- the vector of a work list
 abbrev pub vectorIn : ℕ → List Float → List Float
 vectorIn rows w = between rows (rows + rows) w

@@ -70,8 +70,9 @@ pub fn estimate(
     diagonal: &[f64],
     work: &mut [f64],
 ) -> EstimateAnswer
-    ensures { λ r. ⌜ r ≡ estimateAnswer (estimateCall (csr rows cols (now («row_ptr» .entry)) (now («col_idx» .entry)) (now (values .entry))) (now (diagonal .entry)) (length (now (work .entry)))) ⌝ }
-    ensures { λ _. ⌜ now (work .exit) ≡ estimateWorkLeft (csr rows cols (now («row_ptr» .entry)) (now («col_idx» .entry)) (now (values .entry))) (now (diagonal .entry)) (now (work .entry)) ⌝ }
+    ensures { λ r. ⌜ (let a = csr rows cols (now («row_ptr» .entry)) (now («col_idx» .entry)) (now (values .entry)) in
+        let call = estimateCall a (now (diagonal .entry)) (length (now (work .entry))) in
+        (r ≡ estimateAnswer call) × (now (work .exit) ≡ estimateWorkLeft a (now (diagonal .entry)) (now (work .entry)))) ⌝ }
 {
     let valid = csr32::validate(rows, cols, row_ptr, col_idx, values);
     match valid {

@@ -11,7 +11,8 @@ ghost use Rattle.definitions.specs.Matrix.{csr, stored};
 ghost use Rattle.definitions.specs.Estimate.{image, normalised, rounds as roundsOf};
 ghost use Rattle.definitions.specs.Answers.{estimateAnswer};
 ghost use Rattle.csr32.specs.Rows.{Rows};
-ghost use Rattle.spectral_radius.specs.Power.{Below, vectorIn, imageIn, imageAt, products, outcomeOf, finishedOf};
+ghost use Rattle.laws.specs.Bounds.{Below};
+ghost use Rattle.spectral_radius.specs.Power.{vectorIn, imageIn, imageAt, products, outcomeOf, finishedOf};
 
 fn wide(x: u32) -> usize
     ensures { λ r. ⌜ r ≡ x ⌝ }
@@ -50,7 +51,9 @@ fn row_image(rows: usize, ptr: &[u32], idx: &[u32], vals: &[f64], w: &[f64], i: 
 fn map_vector(rows: usize, ptr: &[u32], idx: &[u32], vals: &[f64], w: &mut [f64]) -> f64
     requires { ⌜ Rows (csr rows rows (now ptr) (now idx) (now vals)) ⌝ }
     requires { ⌜ rows + rows + rows ≤ length (now w) ⌝ }
-    ensures { λ r. ⌜ (take (rows + rows + rows) (now (w .exit)) ≡ take (rows + rows) (now (w .entry)) ++ image (csr rows rows (now (ptr .entry)) (now (idx .entry)) (now (vals .entry))) (take rows (now (w .entry))) (vectorIn rows (now (w .entry)))) × (r ≡ summed (map (λ v. v *ᶠ v) (image (csr rows rows (now (ptr .entry)) (now (idx .entry)) (now (vals .entry))) (take rows (now (w .entry))) (vectorIn rows (now (w .entry)))))) ⌝ }
+    ensures { λ r. ⌜ (let a = csr rows rows (now (ptr .entry)) (now (idx .entry)) (now (vals .entry)) in
+        let mapped = image a (take rows (now (w .entry))) (vectorIn rows (now (w .entry))) in
+        (take (rows + rows + rows) (now (w .exit)) ≡ take (rows + rows) (now (w .entry)) ++ mapped) × (r ≡ summed (map (λ v. v *ᶠ v) mapped))) ⌝ }
 {
     let start = rows + rows;
     let mut sum = -0.0;
@@ -78,7 +81,9 @@ fn scale(rows: usize, norm: f64, w: &mut [f64])
 fn round(rows: usize, ptr: &[u32], idx: &[u32], vals: &[f64], w: &mut [f64]) -> bool
     requires { ⌜ Rows (csr rows rows (now ptr) (now idx) (now vals)) ⌝ }
     requires { ⌜ rows + rows + rows ≤ length (now w) ⌝ }
-    ensures { λ r. ⌜ (take rows (now (w .exit)) ≡ take rows (now (w .entry))) × (outcomeOf 2 r (vectorIn rows (now (w .exit))) ≡ normalised 2 (image (csr rows rows (now (ptr .entry)) (now (idx .entry)) (now (vals .entry))) (take rows (now (w .entry))) (vectorIn rows (now (w .entry))))) ⌝ }
+    ensures { λ r. ⌜ (let a = csr rows rows (now (ptr .entry)) (now (idx .entry)) (now (vals .entry)) in
+        let mapped = image a (take rows (now (w .entry))) (vectorIn rows (now (w .entry))) in
+        (take rows (now (w .exit)) ≡ take rows (now (w .entry))) × (outcomeOf 2 r (vectorIn rows (now (w .exit))) ≡ normalised 2 mapped)) ⌝ }
 {
     let squares = map_vector(rows, ptr, idx, vals, w);
     let n = root::root(squares);
@@ -93,7 +98,9 @@ fn round(rows: usize, ptr: &[u32], idx: &[u32], vals: &[f64], w: &mut [f64]) -> 
 pub(crate) fn rounds(rows: usize, ptr: &[u32], idx: &[u32], vals: &[f64], w: &mut [f64]) -> bool
     requires { ⌜ Rows (csr rows rows (now ptr) (now idx) (now vals)) ⌝ }
     requires { ⌜ rows + rows + rows ≤ length (now w) ⌝ }
-    ensures { λ r. ⌜ (take rows (now (w .exit)) ≡ take rows (now (w .entry))) × (outcomeOf 2 r (vectorIn rows (now (w .exit))) ≡ roundsOf (csr rows rows (now (ptr .entry)) (now (idx .entry)) (now (vals .entry))) (take rows (now (w .entry))) 10 (vectorIn rows (now (w .entry)))) ⌝ }
+    ensures { λ r. ⌜ (let a = csr rows rows (now (ptr .entry)) (now (idx .entry)) (now (vals .entry)) in
+        (take rows (now (w .exit)) ≡ take rows (now (w .entry)))
+        × (outcomeOf 2 r (vectorIn rows (now (w .exit))) ≡ roundsOf a (take rows (now (w .entry))) 10 (vectorIn rows (now (w .entry))))) ⌝ }
 {
     let mut k: usize = 0;
     while k < 10 {

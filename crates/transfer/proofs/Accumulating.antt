@@ -15,7 +15,7 @@ use Rattle.definitions.specs.Numbers.{_-ᶠ_, _*ᶠ_, zeroᶠ, oneᶠ, reduced}
 use Rattle.definitions.specs.Matrix.{Entry, valuesWhere, stored}
 use Rattle.csr32.proofs.Stored.{where-hit, where-miss, where-none}
 use Rattle.transfer.specs.Touched.{Rising, insertOnce, insertAll, named}
-use Rattle.transfer.specs.Weights.{lower, smoothing, fresh, accumulated, Settled}
+use Rattle.transfer.specs.Weights.{lower, smoothing, fresh, accumulated, RowWeights}
 use Rattle.transfer.proofs.Weighing.{minus, lower-hit, lower-miss, taken}
 use Rattle.transfer.proofs.Ascending.{has, has-insert, rising-insert, insert-old, insert-more}
 
@@ -97,10 +97,10 @@ columns-are column damping inv (x ∷ idx) (v ∷ vals) e = ap (λ l. column x �
 
 module _ (idx : List ℕ) (vals : List Float) (column : ℕ → ℕ) (damping inv : Float) (from to own : ℕ) (same : length idx ≡ length vals) (m : to ≤ length vals) (w : List Float) (h : own < length w) where
   -- the weights after the pass, from the row's own column
-  pub accumulated-settled : (t : List ℕ) (w' : List Float) → t ≡ insertAll (named column (slice from to idx)) (own ∷ []) → w' ≡ accumulated (own ∷ []) (smoothing column damping inv (stored idx vals from to)) (set w own oneᶠ) → length w' ≡ length w
-      → Settled column damping inv own (stored idx vals from to) t w'
+  pub accumulated-row : (t : List ℕ) (w' : List Float) → t ≡ insertAll (named column (slice from to idx)) (own ∷ []) → w' ≡ accumulated (own ∷ []) (smoothing column damping inv (stored idx vals from to)) (set w own oneᶠ) → length w' ≡ length w
+      → RowWeights column damping inv own (stored idx vals from to) t w'
   unfolding reduced any
-  accumulated-settled t w' et ew lw j q a =
+  accumulated-row t w' et ew lw j q a =
       let es = stored idx vals from to in
       let n = columns-are column damping inv (slice from to idx) (slice from to vals) (length-slice from to idx (omega arith) ∙ sym (length-slice from to vals m)) in
       let a' : has (insertAll (columns (smoothing column damping inv es)) (own ∷ [])) j ≡ true = rw (n, ← et) a in

@@ -11,9 +11,9 @@ use Rattle.definitions.specs.Numbers.{zeroᶠ}
 use Rattle.definitions.specs.Refusal.{Outcome, refused, done, Checked, require, _>>=_, resultLeft}
 use lib.Dec.{leb}
 use borrow.Author.Tests.{le-leb, lt-leb}
-use Rattle.definitions.specs.Matrix.{Matrix, Entry, maxRows, validOf}
-use Rattle.csr32.specs.Rows.{Rows, rows-of}
-use Rattle.transfer.specs.Touched.{Grouped}
+use Rattle.definitions.specs.Matrix.{Matrix, Entry, maxRows, structureOf}
+use Rattle.csr32.specs.Rows.{Rows, structure-rows}
+use Rattle.laws.specs.Bounds.{Grouped}
 use Rattle.definitions.specs.Answers.{transferAnswer, answerOf}
 use Rattle.transfer.specs.Call.{shapeChecked, groupsChecked, transferChecked, smoothedTransferCall, transferInts, transferFloats}
 use Rattle.definitions.specs.declared.TransferAnswer.{TransferAnswer}
@@ -75,7 +75,7 @@ taken-apart a size ids groups diagonal ints floats h =
     let p2 = split _ _ (p1 .1) in
     let s = shape-facts (a .rows) (a .cols) (length (a .values)) size ints floats (is-accepted _ (p2 .0)) in
     let g = groups-facts (a .rows) (length (a .values)) size ids groups diagonal ints floats (s .1) (s .3) (is-accepted _ (p2 .1)) in
-    (rows-of a (p1 .0), (s .0, s .1, s .2, s .3, g .0), g .1, g .2)
+    (structure-rows a (p1 .0), (s .0, s .1, s .2, s .3, g .0), g .1, g .2)
 
 -- 1 for the groups, then the rest
 module _ (a : Matrix) (size : ℕ) (ids : List ℕ) (groups diagonal ints floats : ℕ) where
@@ -84,10 +84,10 @@ module _ (a : Matrix) (size : ℕ) (ids : List ℕ) (groups diagonal ints floats
   many-groups h = rw (lt-leb groups maxRows h)
 
   pub few-groups : (v : Answer) → groups ≤ maxRows
-      → v ≡ answerOf (validOf a >>= (λ _. shapeChecked (a .rows) (a .cols) (length (a .values)) size ints floats >>= (λ _. groupsChecked (a .rows) (length (a .values)) size ids groups diagonal ints floats)))
+      → v ≡ answerOf (structureOf a >>= (λ _. shapeChecked (a .rows) (a .cols) (length (a .values)) size ints floats >>= (λ _. groupsChecked (a .rows) (length (a .values)) size ids groups diagonal ints floats)))
       → v ≡ answerOf (transferChecked a size ids groups diagonal ints floats)
   unfolding transferChecked
-  few-groups v h e = e ∙ ap answerOf (sym (goes-on (require (leb groups maxRows) TooLarge) tt (λ _. validOf a >>= (λ _. shapeChecked (a .rows) (a .cols) (length (a .values)) size ints floats >>= (λ _. groupsChecked (a .rows) (length (a .values)) size ids groups diagonal ints floats))) (passed _ TooLarge (le-leb groups maxRows h))))
+  few-groups v h e = e ∙ ap answerOf (sym (goes-on (require (leb groups maxRows) TooLarge) tt (λ _. structureOf a >>= (λ _. shapeChecked (a .rows) (a .cols) (length (a .values)) size ints floats >>= (λ _. groupsChecked (a .rows) (length (a .values)) size ids groups diagonal ints floats))) (passed _ TooLarge (le-leb groups maxRows h))))
 
 -- ---- the whole call
 

@@ -21,7 +21,7 @@ use Rattle.definitions.specs.declared.Answer.the-variants.{Accepted, Refused}
 use Rattle.csr32.specs.Calls.{accepted-done}
 use Rattle.laws.proofs.Tests.{both-true}
 use Rattle.laws.proofs.Outcomes.{test-true, last-true}
-use Rattle.transfer.specs.Touched.{Grouped, Below}
+use Rattle.laws.specs.Bounds.{Grouped, Below}
 use Rattle.transfer.specs.Call.{shapeChecked, groupsChecked}
 
 -- ---- 9, 10, 12, 13

@@ -16,8 +16,9 @@ use Rattle.definitions.specs.Matrix.{Matrix, Entry, stored, rowOf, entriesOf, c
 use Rattle.csr32.specs.Rows.{Rows}
 use Rattle.definitions.specs.Transfer.{coarseColumn, tentative, smoothingTerms, weightAt, transferRow}
 use Rattle.laws.proofs.Kept.{keep-yes, keep-no, keep-nil, keep-length}
-use Rattle.transfer.specs.Touched.{named, Visited, Gathered, Grouped, Below}
-use Rattle.transfer.specs.Weights.{Settled, counts, Parted}
+use Rattle.laws.specs.Bounds.{Grouped, Below}
+use Rattle.transfer.specs.Touched.{named, Visited, Gathered}
+use Rattle.transfer.specs.Weights.{RowWeights, counts, Parted}
 use Rattle.transfer.proofs.Spreading.{asc, upTo-asc, also}
 use Rattle.transfer.proofs.Visiting.{alsoAll, named-misses, named-count, named-below, asc-below}
 use Rattle.transfer.proofs.Weighing.{where-unnamed}
@@ -137,7 +138,7 @@ module _ (a : Matrix) (d : List Float) (damping : Float) (size : ℕ) (ids : Lis
 
     -- what the code has: the weights w at the columns visited
     module _ (t : List ℕ) (r : ℕ) (v : Visited names c t r) (w : List Float) (l : length w ≡ c)
-        (ew : Settled (coarseColumn size ids) damping (oneᶠ /ᶠ getD d i nan) (coarseColumn size ids i) (stored (a .colIdx) (a .values) from to) (take r t) w) where
+        (ew : RowWeights (coarseColumn size ids) damping (oneᶠ /ᶠ getD d i nan) (coarseColumn size ids i) (stored (a .colIdx) (a .values) from to) (take r t) w) where
       weight-is : (j : ℕ) → j < c → v .test j ≡ true → getD w j nan ≡ weightAt a d damping size ids i j
       unfolding weightAt tentative smoothingTerms
       weight-is j h p =
@@ -176,7 +177,7 @@ module _ (rows : ℕ) (ptr idx : List ℕ) (vals : List Float) (h : Rows (csr ro
 
   module _ (d : List Float) (damping : Float) (size : ℕ) (ids : List ℕ) (c own : ℕ) (eo : own ≡ coarseColumn size ids i) where
     pub row-done : (t₁ t₂ : List ℕ) (n m : ℕ) (w₁ : List Float) → Visited (own ∷ named (coarseColumn size ids) (slice from to idx)) c t₁ n → length w₁ ≡ c
-        → Settled (coarseColumn size ids) damping (oneᶠ /ᶠ getD d i nan) own (stored idx vals from to) (take n t₁) w₁ → Gathered t₂ m (keep (counts w₁) (take n t₁)) → m ≤ length t₂
+        → RowWeights (coarseColumn size ids) damping (oneᶠ /ᶠ getD d i nan) own (stored idx vals from to) (take n t₁) w₁ → Gathered t₂ m (keep (counts w₁) (take n t₁)) → m ≤ length t₂
         → Parted c (transferRow (csr rows rows ptr idx vals) d damping size ids c i) t₂ w₁ m
     row-done t₁ t₂ n m w₁ v lw ew g q =
         parted (csr rows rows ptr idx vals) d damping size ids c i from to entries-are t₁ n (rw eo at v) w₁ lw (rw eo at ew) t₂ m g q

@@ -11,7 +11,7 @@ use Rattle.definitions.specs.Lists.{tab, between, pointersFrom, joinedLists}
 use Rattle.definitions.specs.Matrix.{Entry}
 use Rattle.laws.proofs.Lists.{tab-cong}
 use Rattle.laws.proofs.Growing.{tab-snoc, flatMap-snoc}
-use Rattle.transfer.specs.Touched.{Below}
+use Rattle.laws.specs.Bounds.{Below}
 use Rattle.transfer.specs.Weights.{Parted, Put, Built}
 
 -- ---- parts

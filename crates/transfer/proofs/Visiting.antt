@@ -11,7 +11,8 @@ use borrow.Author.Tests.{eqb-false, ne-eqb}
 use Rattle.definitions.specs.Lists.{upTo, keep, any}
 use Rattle.laws.proofs.Kept.{keep-yes, keep-no, keep-nil}
 use Rattle.laws.proofs.Tests.{both-false}
-use Rattle.transfer.specs.Touched.{insertOnce, insertAll, named, Spread, Gathered, Visited, Below}
+use Rattle.laws.specs.Bounds.{Below}
+use Rattle.transfer.specs.Touched.{insertOnce, insertAll, named, Spread, Gathered, Visited}
 use Rattle.transfer.proofs.Spreading.{also, asc, insert-law, upTo-asc, spread-length}
 
 -- tests with the columns of a list added

@@ -13,7 +13,7 @@ use Rattle.definitions.specs.Numbers.{_-ᶠ_, _*ᶠ_, zeroᶠ, oneᶠ, reduced}
 use Rattle.definitions.specs.Matrix.{Entry, valuesWhere}
 use Rattle.csr32.proofs.Stored.{where-hit, where-miss, where-none}
 use Rattle.transfer.specs.Touched.{named}
-use Rattle.transfer.specs.Weights.{zeroAt, lower, lowered, smoothing, weighed, Settled}
+use Rattle.transfer.specs.Weights.{zeroAt, lower, lowered, smoothing, weighed, RowWeights}
 
 -- ---- zeroes
 
@@ -91,8 +91,8 @@ weighed-at column damping inv own es t w j h a =
     start true q = let e = eqb-true j own q in rw q (rw (← e) (getD-set-same (zeroAt t w) j oneᶠ nan l))
     start false q = rw q (getD-set-other (zeroAt t w) own j oneᶠ nan (eqb-false j own q) ∙ zero-there t w j h a)
 
-pub weighed-settled : (column : ℕ → ℕ) (damping inv : Float) (own : ℕ) (es : List Entry) (t : List ℕ) (w w' : List Float) → w' ≡ weighed column damping inv own es t w → length w' ≡ length w → Settled column damping inv own es t w'
-weighed-settled column damping inv own es t w w' e l j h a = ap (λ x. getD x j nan) e ∙ weighed-at column damping inv own es t w j (rw l at h) a
+pub weighed-row : (column : ℕ → ℕ) (damping inv : Float) (own : ℕ) (es : List Entry) (t : List ℕ) (w w' : List Float) → w' ≡ weighed column damping inv own es t w → length w' ≡ length w → RowWeights column damping inv own es t w'
+weighed-row column damping inv own es t w w' e l j h a = ap (λ x. getD x j nan) e ∙ weighed-at column damping inv own es t w j (rw l at h) a
 
 -- the weight at a column that the row does not name
 pub where-unnamed : (column : ℕ → ℕ) (j : ℕ) (idx : List ℕ) (vals : List Float) → any (λ x. eqb x j) (named column idx) ≡ false

@@ -8,7 +8,7 @@ use lib.Ieee.{Float}
 use Rattle.definitions.specs.Lists.{any, pointersFrom, joinedLists}
 use Rattle.definitions.specs.Numbers.{zeroᶠ}
 use Rattle.definitions.specs.Refusal.{Outcome, Checked, done, require, _>>=_, resultLeft}
-use Rattle.definitions.specs.Matrix.{Matrix, Entry, maxRows, validOf}
+use Rattle.definitions.specs.Matrix.{Matrix, Entry, maxRows, structureOf}
 use Rattle.definitions.specs.Block.{maxBlock}
 use Rattle.definitions.specs.Setup.{maxCoarse}
 use Rattle.definitions.specs.Transfer.{transferOf}
@@ -30,11 +30,11 @@ groupsChecked rows entries size ids groups diagonal ints floats = do
   _ ← require (eqb diagonal rows) (WrongLength rows diagonal)
   require (eqb (length ids) (rows / size) && not (any (λ g. leb groups g) ids)) SetupMisfit
 
--- 1 for the groups as for rows, 1 to 8, and all of these
+-- 1 for the groups as for rows, 1 to 7, and all of these
 unfoldable pub transferChecked : Matrix → ℕ → List ℕ → ℕ → ℕ → ℕ → ℕ → Checked
 transferChecked a size ids groups diagonal ints floats = do
   _ ← require (leb groups maxRows) TooLarge
-  _ ← validOf a
+  _ ← structureOf a
   _ ← shapeChecked (a .rows) (a .cols) (length (a .values)) size ints floats
   groupsChecked (a .rows) (length (a .values)) size ids groups diagonal ints floats
 

@@ -9,7 +9,8 @@ use lib.Ieee.{Float, nan, ne}
 use Rattle.definitions.specs.Numbers.{_-ᶠ_, _*ᶠ_, zeroᶠ, oneᶠ, reduced}
 use Rattle.definitions.specs.Lists.{any, padded, pointersFrom, joinedLists}
 use Rattle.definitions.specs.Matrix.{Entry, valuesWhere}
-use Rattle.transfer.specs.Touched.{Below, insertOnce}
+use Rattle.laws.specs.Bounds.{Below}
+use Rattle.transfer.specs.Touched.{insertOnce}
 
 -- the places of the columns that a row touches, set to 0
 unfoldable pub zeroAt : List ℕ → List Float → List Float
@@ -40,8 +41,8 @@ accumulated t [] w = w
 accumulated t (e ∷ es) w = accumulated (insertOnce (e .col) t) es (lower (fresh (length t) (length (insertOnce (e .col) t)) (e .col) w) e)
 
 -- the weights at the columns t are a row's: 1 at its own, else 0, less what its entries take off
-abbrev pub Settled : (ℕ → ℕ) → Float → Float → ℕ → List Entry → List ℕ → List Float → Type 0
-Settled column damping inv own es t w = (j : ℕ) → j < length w → any (λ x. eqb x j) t ≡ true → getD w j nan ≡ reduced (cond (eqb j own) oneᶠ zeroᶠ) (map (λ v. damping *ᶠ v *ᶠ inv) (valuesWhere (λ k. eqb (column k) j) es))
+abbrev pub RowWeights : (ℕ → ℕ) → Float → Float → ℕ → List Entry → List ℕ → List Float → Type 0
+RowWeights column damping inv own es t w = (j : ℕ) → j < length w → any (λ x. eqb x j) t ≡ true → getD w j nan ≡ reduced (cond (eqb j own) oneᶠ zeroᶠ) (map (λ v. damping *ᶠ v *ᶠ inv) (valuesWhere (λ k. eqb (column k) j) es))
 
 -- a weight that is stored
 abbrev pub counts : List Float → ℕ → Bool

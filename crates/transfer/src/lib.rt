@@ -19,7 +19,7 @@ ghost use Rattle.definitions.specs.Matrix.{csr};
 ghost use Rattle.definitions.specs.Answers.{answerOf, transferAnswer};
 ghost use Rattle.definitions.specs.Transfer.{transferOf};
 ghost use Rattle.csr32.specs.Rows.{Rows};
-ghost use Rattle.transfer.specs.Touched.{Grouped};
+ghost use Rattle.laws.specs.Bounds.{Grouped};
 ghost use Rattle.transfer.specs.Weights.{Left};
 ghost use Rattle.transfer.specs.Call.{transferChecked, smoothedTransferCall, transferInts, transferFloats};
 
@@ -42,8 +42,8 @@ fn check(
     if MAX_ROWS < groups {
         return Answer::Refused(Refusal::TooLarge);
     }
-    let valid = csr32::validate(rows, cols, ptr, idx, vals);
-    match valid {
+    let structured = csr32::structure(rows, cols, ptr, idx, vals);
+    match structured {
         Answer::Accepted => {
             let shaped = checks::shape(rows, cols, vals.len(), size, ints, floats);
             match shaped {
@@ -74,7 +74,8 @@ fn assemble(
     requires { ⌜ Rows (csr rows rows (now ptr) (now idx) (now vals)) ⌝ }
     requires { ⌜ Grouped size (now ids) rows c ⌝ }
     requires { ⌜ (length (now diagonal) ≡ rows) × (rows + 1 + (rows + length (now vals)) + c ≤ length (now ints)) × (rows + length (now vals) + c ≤ length (now floats)) ⌝ }
-    ensures { λ r. ⌜ Left (transferOf (csr rows rows (now (ptr .entry)) (now (idx .entry)) (now (vals .entry))) (now (diagonal .entry)) damping size (now (ids .entry)) c) r (now (ints .entry)) (now (ints .exit)) (now (floats .entry)) (now (floats .exit)) ⌝ }
+    ensures { λ r. ⌜ (let a = csr rows rows (now (ptr .entry)) (now (idx .entry)) (now (vals .entry)) in
+        Left (transferOf a (now (diagonal .entry)) damping size (now (ids .entry)) c) r (now (ints .entry)) (now (ints .exit)) (now (floats .entry)) (now (floats .exit))) ⌝ }
 {
     let n = rows::build(
         rows,
@@ -110,9 +111,9 @@ pub fn smoothed_transfer(
     ints: &mut [u32],
     floats: &mut [f64],
 ) -> TransferAnswer
-    ensures { λ r. ⌜ r ≡ transferAnswer (smoothedTransferCall (csr rows cols (now («row_ptr» .entry)) (now («col_idx» .entry)) (now (values .entry))) «block_size» (now (ids .entry)) groups (now (diagonal .entry)) damping (length (now (ints .entry))) (length (now (floats .entry)))) ⌝ }
-    ensures { λ _. ⌜ now (ints .exit) ≡ transferInts (smoothedTransferCall (csr rows cols (now («row_ptr» .entry)) (now («col_idx» .entry)) (now (values .entry))) «block_size» (now (ids .entry)) groups (now (diagonal .entry)) damping (length (now (ints .entry))) (length (now (floats .entry)))) (now (ints .entry)) ⌝ }
-    ensures { λ _. ⌜ now (floats .exit) ≡ transferFloats (smoothedTransferCall (csr rows cols (now («row_ptr» .entry)) (now («col_idx» .entry)) (now (values .entry))) «block_size» (now (ids .entry)) groups (now (diagonal .entry)) damping (length (now (ints .entry))) (length (now (floats .entry)))) (now (floats .entry)) ⌝ }
+    ensures { λ r. ⌜ (let a = csr rows cols (now («row_ptr» .entry)) (now («col_idx» .entry)) (now (values .entry)) in
+        let call = smoothedTransferCall a «block_size» (now (ids .entry)) groups (now (diagonal .entry)) damping (length (now (ints .entry))) (length (now (floats .entry))) in
+        (r ≡ transferAnswer call) × ((now (ints .exit) ≡ transferInts call (now (ints .entry))) × (now (floats .exit) ≡ transferFloats call (now (floats .entry))))) ⌝ }
 {
     let checked = check(
         rows,

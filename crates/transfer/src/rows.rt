@@ -11,7 +11,7 @@ ghost use lib.ListN.{length, getD, set};
 ghost use Rattle.definitions.specs.Matrix.{csr};
 ghost use Rattle.definitions.specs.Transfer.{transferRow, transferOf};
 ghost use Rattle.csr32.specs.Rows.{Rows};
-ghost use Rattle.transfer.specs.Touched.{Grouped};
+ghost use Rattle.laws.specs.Bounds.{Grouped};
 ghost use Rattle.transfer.specs.Weights.{Parted, Put, Built};
 
 // Row i: its columns at the front of t, its weights at their places in w; returns how many they are.
@@ -31,7 +31,8 @@ fn part_row(
     requires { ⌜ Rows (csr rows rows (now ptr) (now idx) (now vals)) ⌝ }
     requires { ⌜ Grouped size (now ids) rows (length (now w)) ⌝ }
     requires { ⌜ (i < rows) × (length (now diagonal) ≡ rows) × (length (now t) ≡ length (now w)) ⌝ }
-    ensures { λ r. ⌜ Parted (length (now (w .entry))) (transferRow (csr rows rows (now (ptr .entry)) (now (idx .entry)) (now (vals .entry))) (now (diagonal .entry)) damping size (now (ids .entry)) (length (now (w .entry))) i) (now (t .exit)) (now (w .exit)) r ⌝ }
+    ensures { λ r. ⌜ (let a = csr rows rows (now (ptr .entry)) (now (idx .entry)) (now (vals .entry)) in
+        Parted (length (now (w .entry))) (transferRow a (now (diagonal .entry)) damping size (now (ids .entry)) (length (now (w .entry))) i) (now (t .exit)) (now (w .exit)) r) ⌝ }
 {
     let own = coarse_of(ids, size, i);
     let from = wide(ptr[i]);
@@ -59,8 +60,10 @@ fn put_row(
 ) -> usize
     requires { ⌜ Rows (csr rows rows (now ptr) (now idx) (now vals)) ⌝ }
     requires { ⌜ Grouped size (now ids) rows c ⌝ }
-    requires { ⌜ (i < rows) × (length (now diagonal) ≡ rows) × (at ≤ i + getD (now ptr) i 0) × (rows + 1 + (rows + length (now vals)) + c ≤ length (now ints)) × (rows + length (now vals) + c ≤ length (now floats)) ⌝ }
-    ensures { λ r. ⌜ Put (rows + 1) (transferRow (csr rows rows (now (ptr .entry)) (now (idx .entry)) (now (vals .entry))) (now (diagonal .entry)) damping size (now (ids .entry)) c i) at (now (ints .entry)) (now (ints .exit)) (now (floats .entry)) (now (floats .exit)) r ⌝ }
+    requires { ⌜ ((i < rows) × (length (now diagonal) ≡ rows) × (at ≤ i + getD (now ptr) i 0)
+        × (rows + 1 + (rows + length (now vals)) + c ≤ length (now ints)) × (rows + length (now vals) + c ≤ length (now floats))) ⌝ }
+    ensures { λ r. ⌜ (let a = csr rows rows (now (ptr .entry)) (now (idx .entry)) (now (vals .entry)) in
+        Put (rows + 1) (transferRow a (now (diagonal .entry)) damping size (now (ids .entry)) c i) at (now (ints .entry)) (now (ints .exit)) (now (floats .entry)) (now (floats .exit)) r) ⌝ }
 {
     let base = rows + vals.len();
     let end = base + c;
@@ -110,7 +113,8 @@ pub(crate) fn build(
     requires { ⌜ Rows (csr rows rows (now ptr) (now idx) (now vals)) ⌝ }
     requires { ⌜ Grouped size (now ids) rows c ⌝ }
     requires { ⌜ (length (now diagonal) ≡ rows) × (rows + 1 + (rows + length (now vals)) + c ≤ length (now ints)) × (rows + length (now vals) + c ≤ length (now floats)) ⌝ }
-    ensures { λ r. ⌜ Built (transferOf (csr rows rows (now (ptr .entry)) (now (idx .entry)) (now (vals .entry))) (now (diagonal .entry)) damping size (now (ids .entry)) c) (now (ints .exit)) (now (floats .exit)) (rows + 1) r ⌝ }
+    ensures { λ r. ⌜ (let a = csr rows rows (now (ptr .entry)) (now (idx .entry)) (now (vals .entry)) in
+        Built (transferOf a (now (diagonal .entry)) damping size (now (ids .entry)) c) (now (ints .exit)) (now (floats .exit)) (rows + 1) r) ⌝ }
 {
     put_pointer(ints, 0, 0);
     let mut at: usize = 0;

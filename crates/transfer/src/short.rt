@@ -10,7 +10,8 @@ ghost use lib.ListN.{length, take};
 ghost use lib.Seq.{slice};
 ghost use Rattle.definitions.specs.Matrix.{stored};
 ghost use Rattle.definitions.specs.Transfer.{coarseColumn};
-ghost use Rattle.transfer.specs.Touched.{Below, Grouped, insertAll, named, Spread, Gathered};
+ghost use Rattle.laws.specs.Bounds.{Below, Grouped};
+ghost use Rattle.transfer.specs.Touched.{insertAll, named, Spread, Gathered};
 ghost use Rattle.transfer.specs.Weights.{smoothing, fresh, accumulated};
 
 // The weight at j is 0 where j is new: where the columns were n and are more now.
@@ -44,7 +45,8 @@ pub(crate) fn accumulate(
     requires { ⌜ Grouped size (now ids) cols (length (now w)) ⌝ }
     requires { ⌜ Spread (take count (now t)) (length (now w)) ⌝ }
     ensures { λ r. ⌜ Gathered (now (t .exit)) r (insertAll (named (coarseColumn size (now (ids .entry))) (slice from to (now (idx .entry)))) (take count (now (t .entry)))) ⌝ }
-    ensures { λ _. ⌜ now (w .exit) ≡ accumulated (take count (now (t .entry))) (smoothing (coarseColumn size (now (ids .entry))) damping inv (stored (now (idx .entry)) (now (vals .entry)) from to)) (now (w .entry)) ⌝ }
+    ensures { λ _. ⌜ (let entries = stored (now (idx .entry)) (now (vals .entry)) from to in
+        now (w .exit) ≡ accumulated (take count (now (t .entry))) (smoothing (coarseColumn size (now (ids .entry))) damping inv entries) (now (w .entry))) ⌝ }
 {
     let mut n = count;
     let mut near: usize = 0;

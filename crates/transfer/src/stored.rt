@@ -6,7 +6,7 @@ ghost use Prim.Native.Nat.{_+_, _-_, _≤_};
 ghost use lib.ListN.{length, getD, take, drop};
 ghost use lib.Ieee.{nan};
 ghost use Rattle.definitions.specs.Lists.{between};
-ghost use Rattle.transfer.specs.Touched.{Below};
+ghost use Rattle.laws.specs.Bounds.{Below};
 
 // Copies n columns from a later place of the list to an earlier one.
 pub(crate) fn put_columns(l: &mut [u32], to: usize, from: usize, n: usize)

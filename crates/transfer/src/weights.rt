@@ -14,8 +14,9 @@ ghost use Rattle.definitions.specs.Lists.{keep};
 ghost use Rattle.definitions.specs.Numbers.{oneᶠ, _-ᶠ_, _*ᶠ_, _/ᶠ_};
 ghost use Rattle.definitions.specs.Matrix.{stored};
 ghost use Rattle.definitions.specs.Transfer.{coarseColumn};
-ghost use Rattle.transfer.specs.Touched.{Below, Grouped, Gathered, Visited, named};
-ghost use Rattle.transfer.specs.Weights.{zeroAt, lowered, smoothing, weighed, Settled, counts};
+ghost use Rattle.laws.specs.Bounds.{Below, Grouped};
+ghost use Rattle.transfer.specs.Touched.{Gathered, Visited, named};
+ghost use Rattle.transfer.specs.Weights.{zeroAt, lowered, smoothing, weighed, RowWeights, counts};
 
 fn zero_at(w: &mut [f64], t: &[u32])
     requires { ⌜ Below (length (now w)) (now t) ⌝ }
@@ -79,7 +80,8 @@ fn weigh(
     requires { ⌜ Below cols (now idx) ⌝ }
     requires { ⌜ Grouped size (now ids) cols (length (now w)) ⌝ }
     requires { ⌜ Below (length (now w)) (now t) ⌝ }
-    ensures { λ _. ⌜ now (w .exit) ≡ weighed (coarseColumn size (now (ids .entry))) damping (oneᶠ /ᶠ d) own (stored (now (idx .entry)) (now (vals .entry)) from to) (now (t .entry)) (now (w .entry)) ⌝ }
+    ensures { λ _. ⌜ (let entries = stored (now (idx .entry)) (now (vals .entry)) from to in
+        now (w .exit) ≡ weighed (coarseColumn size (now (ids .entry))) damping (oneᶠ /ᶠ d) own entries (now (t .entry)) (now (w .entry))) ⌝ }
 {
     zero_at(w, t);
     w[own] = 1.0;
@@ -107,7 +109,8 @@ pub(crate) fn weigh_row(
     requires { ⌜ Below cols (now idx) ⌝ }
     requires { ⌜ Grouped size (now ids) cols (length (now w)) ⌝ }
     ensures { λ r. ⌜ Visited (own ∷ named (coarseColumn size (now (ids .entry))) (slice from to (now (idx .entry)))) (length (now (w .entry))) (now (t .exit)) r ⌝ }
-    ensures { λ r. ⌜ Settled (coarseColumn size (now (ids .entry))) damping (oneᶠ /ᶠ d) own (stored (now (idx .entry)) (now (vals .entry)) from to) (take r (now (t .exit))) (now (w .exit)) ⌝ }
+    ensures { λ r. ⌜ (let entries = stored (now (idx .entry)) (now (vals .entry)) from to in
+        RowWeights (coarseColumn size (now (ids .entry))) damping (oneᶠ /ᶠ d) own entries (take r (now (t .exit))) (now (w .exit))) ⌝ }
 {
     if to - from < 128 {
         t[0] = own as u32;

@@ -11,8 +11,9 @@ use Rattle.definitions.specs.declared.Options.{Options}
 use Rattle.definitions.specs.declared.Refusal.{Refusal}
 use Rattle.definitions.specs.declared.Answer.{Answer}
 use Rattle.definitions.specs.declared.Answer.the-variants.{Accepted, Refused}
+use Rattle.csr32.specs.Rows.{Rows}
 use Rattle.csr32.specs.Valid.{valid-goes, valid-stops}
-use Rattle.two_level_grouping.specs.Front.{shapeOf, Front, front-splits, front-rows}
+use Rattle.two_level_grouping.specs.Front.{shapeOf, front-splits}
 
 module _ (a : Matrix) (o : Options) (x : Answer) (ex : x ≡ answerOf (validOf a)) where
   pub invalid : (r : Refusal) → x ≡ Refused r → Refused r ≡ answerOf (frontOf a o)
@@ -22,5 +23,5 @@ module _ (a : Matrix) (o : Options) (x : Answer) (ex : x ≡ answerOf (validOf a
   pub shaped : x ≡ Accepted → (y : Answer) → y ≡ answerOf (shapeOf (a .rows) (a .cols) (o .block) (o .group)) → y ≡ answerOf (frontOf a o)
   shaped e y ey = ey ∙ sym (ap answerOf (front-splits a o ∙ valid-goes a (λ _. shapeOf (a .rows) (a .cols) (o .block) (o .group)) (sym ex ∙ e)))
 
-pub few-nodes : (a : Matrix) (o : Options) → Front a o → nodeCount a o ≤ maxRows
-few-nodes a o f = omega (arith, div-le-self (a .rows) (o .block), front-rows a o f .fewRows)
+pub few-nodes : (a : Matrix) (o : Options) → Rows a → nodeCount a o ≤ maxRows
+few-nodes a o w = omega (arith, div-le-self (a .rows) (o .block), w .fewRows)

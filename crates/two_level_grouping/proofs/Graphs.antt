@@ -1,4 +1,4 @@
--- The grouping by the nodes' lists: of its two stages only the first can refuse, by 1 to 8, and else the lists are where the second reads them.
+-- The grouping by the nodes' lists: of its two stages only the first can refuse, by the causes of the matrix, and else the lists are where the second reads them.
 use mathlib.Core.Path.{_≡_, ap, sym, _∙_}
 use mathlib.Core.Bool.{true, false}
 use mathlib.Core.List.{List, [], _++_, append-assoc}
@@ -13,7 +13,7 @@ use borrow.Rule.Slice.PartMut.{putMid, same-len-mid, put-same}
 use Rattle.definitions.specs.Lists.{between, padded, pointersFrom, joinedLists}
 use Rattle.definitions.specs.Numbers.{zeroᶠ}
 use Rattle.definitions.specs.Refusal.{Outcome, refused, done, require, _>>=_, resultLeft, workLeft, keepsAll}
-use Rattle.definitions.specs.Matrix.{Matrix, validOf}
+use Rattle.definitions.specs.Matrix.{Matrix}
 use Rattle.definitions.specs.Block.{maxBlock}
 use Rattle.definitions.specs.Neighbours.{listFor, neighbourLists, flatNeighbours}
 use Rattle.definitions.specs.Groups.{graphGrouping, noAnchor}
@@ -32,13 +32,14 @@ use Rattle.laws.proofs.Lists.{length-tab}
 use Rattle.laws.proofs.Csr.{pointers-length}
 use Rattle.laws.proofs.GroupIds.{grouping-length}
 use Rattle.csr32.specs.Calls.{goes-on, stops, passed, keeps-refused, result-kept, work-kept}
-use Rattle.csr32.specs.Valid.{valid-keeps}
-use Rattle.adjacency.specs.Within.{neighboursWithin}
+use Rattle.csr32.specs.Rows.{Rows}
+use Rattle.adjacency.specs.Within.{readOf, neighboursWithin}
+use Rattle.adjacency.proofs.Reading.{read-keeps, read-rows}
 use Rattle.aggregates.specs.Within.{withinCall}
-use Rattle.two_level_grouping.specs.Front.{Front, front-with, front-rows}
-use Rattle.two_level_grouping.specs.Calls.{Grouped, Settled, Ready, idsLeft, listsOf, validThen, noNode}
+use Rattle.two_level_grouping.specs.Front.{Shape, shape-of}
+use Rattle.two_level_grouping.specs.Calls.{Grouped, Answered, Ready, idsLeft, listsOf, readThen, noNode}
 use Rattle.two_level_grouping.proofs.Fronts.{few-nodes}
-use Rattle.two_level_grouping.proofs.Settling.{accepted-first, refused-first, invalid-kept, valid-settled}
+use Rattle.two_level_grouping.proofs.Answering.{accepted-first, refused-first, invalid-kept, valid-answered}
 use Rattle.two_level_grouping.proofs.Below.{lists-inside}
 use Rattle.two_level_grouping.proofs.Flat.{grouping-passes}
 
@@ -56,14 +57,14 @@ module _ (a : Matrix) (o : Options) where
   -- ---- what is answered and left
 
   module _ (k : TwoLevelAggregation) (ids work : List ℕ) (floats : List Float) where
-    pub none-ends : n ≡ 0 → (r : GroupingAnswer) (ids' work' : List ℕ) (floats' : List Float) → Settled (validThen a noNode) ids work floats r ids' work' floats'
-        → Settled (validThen a (listsOf k a o)) ids work floats r ids' work' floats'
+    pub none-ends : n ≡ 0 → (r : GroupingAnswer) (ids' work' : List ℕ) (floats' : List Float) → Answered (readThen k a noNode) ids work floats r ids' work' floats'
+        → Answered (readThen k a (listsOf k a o)) ids work floats r ids' work' floats'
     unfolding graphOf require _>>=_
     none-ends h r ids' work' floats' s = let b : ltb 0 n ≡ false = le-ltb 0 n (omega arith) in rw b s
 
     grouped : 0 < n → (after ids' work' : List ℕ) (floats' : List Float) (r : GroupingAnswer) → 1 ≤ o .group → length after ≡ length work
         → withinCall n (o .group) base after ≡ done (graphGrouping (λ v. getD (neighbourLists k a (o .block) n) v []) noAnchor n (o .group))
-        → Grouped n (o .group) base ids after r ids' work' → floats' ≡ replicate (length floats) zeroᶠ → Settled (listsOf k a o) ids work floats r ids' work' floats'
+        → Grouped n (o .group) base ids after r ids' work' → floats' ≡ replicate (length floats) zeroᶠ → Answered (listsOf k a o) ids work floats r ids' work' floats'
     unfolding graphOf require _>>=_ groupingAnswer idsLeft resultLeft workLeft
     grouped h after ids' work' floats' r p la e g ef =
         let b : ltb 0 n ≡ true = lt-ltb 0 n h in
@@ -72,11 +73,11 @@ module _ (a : Matrix) (o : Options) where
 
   -- ---- the first stage's checks
 
-  neighbours-pass : Front a o → (k : TwoLevelAggregation) (room floatRoom : ℕ) → ending ≤ room → 3 * n ≤ floatRoom
+  neighbours-pass : Shape a o → (k : TwoLevelAggregation) → readOf k a ≡ done tt → (room floatRoom : ℕ) → ending ≤ room → 3 * n ≤ floatRoom
       → neighboursWithin k a (o .block) base room floatRoom ≡ done (replicate base 0 ++ flatNeighbours k a (o .block) n)
   unfolding neighboursWithin
-  neighbours-pass f k room floatRoom h1 h2 =
-      goes-on (validOf a) tt _ (f .valid)
+  neighbours-pass f k v room floatRoom h1 h2 =
+      goes-on (readOf k a) tt _ v
       ∙ goes-on _ tt _ (passed _ NotSquare (eq-eqb (a .cols) (a .rows) (f .square)))
       ∙ goes-on _ tt _ (passed _ BlockSize (rw (le-leb 1 (o .block) (f .least), le-leb (o .block) maxBlock (f .most))))
       ∙ goes-on _ tt _ (passed _ NotMultiple (eq-eqb (a .rows % o .block) 0 (f .whole)))
@@ -116,29 +117,32 @@ module _ (a : Matrix) (o : Options) where
       after-long : length after ≡ length work
       after-long = same-len-mid 0 (ending - 0) work work1 kept
 
-      passes-valid : validOf a ≡ done tt → within ≡ done flat
-      passes-valid v = neighbours-pass (front-with a o v (y .shape)) k (length lent) floatRoom (omega (arith, lent-long)) (y .floats)
+      passes-valid : readOf k a ≡ done tt → within ≡ done flat
+      passes-valid v = neighbours-pass (shape-of a o (y .shape)) k v (length lent) floatRoom (omega (arith, lent-long)) (y .floats)
 
       module _ (x : Answer) (ex : x ≡ answerOf within) where
-        -- refused: by 1 to 8, and all lists are as they were
+        -- refused: by those, and all lists are as they were
         pub unchanged : (r : Refusal) → x ≡ Refused r → (ids : List ℕ) (floats floats1 : List Float) → floats1 ≡ workLeft zeroᶠ within floats
-            → Settled (validThen a (listsOf k a o)) ids work floats (NoGroups r) ids after floats1
+            → Answered (readThen k a (listsOf k a o)) ids work floats (NoGroups r) ids after floats1
         unfolding neighboursWithin
         unchanged r e ids floats floats1 ef =
-            let v : validOf a ≡ refused r = refused-first _ (validOf a) flat passes-valid r (sym ex ∙ e) in
-            let q : keepsAll r ≡ true = keeps-refused (validOf a) r (valid-keeps a) v in
-            let c : within ≡ refused r = stops (validOf a) r _ v in
+            let v : readOf k a ≡ refused r = refused-first _ (readOf k a) flat passes-valid r (sym ex ∙ e) in
+            let q : keepsAll r ≡ true = keeps-refused (readOf k a) r (read-keeps k a) v in
+            let c : within ≡ refused r = stops (readOf k a) r _ v in
             let w : work1 ≡ lent = came ∙ result-kept 0 lent r q within c in
             let p : after ≡ work = ap (λ l. putMid 0 (ending - 0) work l) w ∙ put-same 0 (ending - 0) work in
-            rw (p, ef ∙ work-kept zeroᶠ floats r q within c) (invalid-kept ids work floats a (listsOf k a o) r v)
+            rw (p, ef ∙ work-kept zeroᶠ floats r q within c) (invalid-kept ids work floats k a (listsOf k a o) r v)
 
         module _ (e : x ≡ Accepted) where
-          valid : validOf a ≡ done tt
+          valid : readOf k a ≡ done tt
           unfolding neighboursWithin
-          valid = accepted-first _ (validOf a) (sym ex ∙ e)
+          valid = accepted-first _ (readOf k a) (sym ex ∙ e)
 
-          front : Front a o
-          front = front-with a o valid (y .shape)
+          shape : Shape a o
+          shape = shape-of a o (y .shape)
+
+          rows : Rows a
+          rows = read-rows k a valid
 
           came-is : work1 ≡ resultLeft 0 (done flat) lent
           came-is = came ∙ ap (λ c. resultLeft 0 c lent) (passes-valid valid)
@@ -171,10 +175,10 @@ module _ (a : Matrix) (o : Options) where
 
           grouping-is : withinCall n (o .group) base after ≡ done (graphGrouping (λ v. getD lists v []) noAnchor n (o .group))
           grouping-is =
-              grouping-passes n base lists list-count rest after stands (o .group) (few-nodes a o front) (omega (arith, few, front-rows a o front .fewEntries)) (front .some) (front .fewest) some
+              grouping-passes n base lists list-count rest after stands (o .group) (few-nodes a o rows) (omega (arith, few, rows .fewEntries)) (shape .some) (shape .fewest) some
               (lists-inside k a (o .block) n) (omega (arith, few))
 
-          pub grouped-settled : (ids : List ℕ) (floats floats1 : List Float) → floats1 ≡ workLeft zeroᶠ within floats → (r : GroupingAnswer) (ids' work' : List ℕ) → Grouped n (o .group) base ids after r ids' work'
-              → Settled (validThen a (listsOf k a o)) ids work floats r ids' work' floats1
-          grouped-settled ids floats floats1 ef r ids' work' g =
-              valid-settled ids work floats a (listsOf k a o) valid _ _ _ _ (grouped k ids work floats some after ids' work' floats1 r (front .some) after-long grouping-is g (floats-clear floats floats1 ef))
+          pub grouped-answered : (ids : List ℕ) (floats floats1 : List Float) → floats1 ≡ workLeft zeroᶠ within floats → (r : GroupingAnswer) (ids' work' : List ℕ) → Grouped n (o .group) base ids after r ids' work'
+              → Answered (readThen k a (listsOf k a o)) ids work floats r ids' work' floats1
+          grouped-answered ids floats floats1 ef r ids' work' g =
+              valid-answered ids work floats k a (listsOf k a o) valid _ _ _ _ (grouped k ids work floats some after ids' work' floats1 r (shape .some) after-long grouping-is g (floats-clear floats floats1 ef))

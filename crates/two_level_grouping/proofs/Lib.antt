@@ -1,7 +1,8 @@
 pub mod Sizes
 pub mod Fronts
+pub mod Asking
 pub mod Rooms
-pub mod Settling
+pub mod Answering
 pub mod Kept
 pub mod Numbered
 pub mod Below

@@ -8,17 +8,18 @@ use lib.ListN.{length, replicate}
 use lib.Ieee.{Float}
 use Rattle.definitions.specs.Numbers.{zeroᶠ}
 use Rattle.definitions.specs.Refusal.{Outcome, refused, done, Checked, require, _>>=_, resultLeft, workLeft}
-use Rattle.definitions.specs.Matrix.{Matrix, validOf, maxRows, maxEntries}
+use Rattle.definitions.specs.Matrix.{Matrix, maxRows, maxEntries}
 use Rattle.definitions.specs.Lists.{padded}
 use Rattle.definitions.specs.Groups.{Grouping, contiguousGrouping}
 use Rattle.definitions.specs.Answers.{groupingAnswer}
 use Rattle.definitions.specs.Neighbours.{neighbourLists}
 use Rattle.definitions.specs.Places.{nodeCount}
-use Rattle.definitions.specs.Setup.{frontOf, groupingOf, graphOf}
+use Rattle.definitions.specs.Setup.{groupingOf, graphOf}
 use Rattle.definitions.specs.declared.Options.{Options}
 use Rattle.definitions.specs.declared.TwoLevelAggregation.{TwoLevelAggregation}
 use Rattle.definitions.specs.declared.GroupingAnswer.{GroupingAnswer}
 use Rattle.definitions.specs.declared.Refusal.the-variants.{ListTooShort, NoNode}
+use Rattle.adjacency.specs.Within.{readOf}
 use Rattle.aggregates.specs.Within.{withinCall}
 use Rattle.two_level_grouping.specs.Front.{shapeOf}
 
@@ -39,10 +40,14 @@ unfoldable pub sizesFit : ℕ → ℕ → ℕ → ℕ → ℕ → ℕ → ℕ �
 sizesFit rows cols entries block group room workRoom floatRoom =
     small rows cols entries && passes (shapeOf rows cols block group) && hasRoom (rows / block) entries room workRoom floatRoom
 
--- 1 to 12, 13 for these lists, 16
+-- 1 to 12, of which 8 where strengths are compared
+unfoldable pub asked : Matrix → Options → Checked
+asked a o = readOf (o .aggregation) a >>= (λ _. shapeOf (a .rows) (a .cols) (o .block) (o .group))
+
+-- those, 13 for these lists, 16
 unfoldable pub aggregateCall : Matrix → Options → ℕ → ℕ → ℕ → Outcome Grouping
 aggregateCall a o room workRoom floatRoom = do
-  _ ← frontOf a o
+  _ ← asked a o
   _ ← require (hasRoom (nodeCount a o) (length (a .values)) room workRoom floatRoom) ListTooShort
   groupingOf (o .aggregation) a o
 
@@ -57,7 +62,7 @@ pub record Grouped (nodes size base : ℕ) (lent work : List ℕ) (r : GroupingA
   pub zeros : (g : Grouping) → withinCall nodes size base work ≡ done g → length (g .ids) ≡ nodes → work' ≡ replicate (length work) 0
 
 -- what a grouping call answers and leaves: the groups with zeros after them, and work lists of zeros
-pub record Settled (call : Outcome Grouping) (lent work : List ℕ) (wide : List Float) (r : GroupingAnswer) (lent' work' : List ℕ) (wide' : List Float) : Type 0 where
+pub record Answered (call : Outcome Grouping) (lent work : List ℕ) (wide : List Float) (r : GroupingAnswer) (lent' work' : List ℕ) (wide' : List Float) : Type 0 where
   pub answer : r ≡ groupingAnswer call
   pub groups : lent' ≡ idsLeft call lent
   pub ints : work' ≡ workLeft 0 call work
@@ -71,9 +76,9 @@ pub record Ready (a : Matrix) (o : Options) (room workRoom floatRoom : ℕ) : Ty
   pub work : 8 * nodeCount a o + 4 * length (a .values) + 16 ≤ workRoom
   pub floats : 3 * nodeCount a o ≤ floatRoom
 
--- 1 to 8, then a grouping
-abbrev pub validThen : Matrix → Outcome Grouping → Outcome Grouping
-validThen a g = validOf a >>= (λ _. g)
+-- what a policy asks of the matrix, then a grouping
+abbrev pub readThen : TwoLevelAggregation → Matrix → Outcome Grouping → Outcome Grouping
+readThen k a g = readOf k a >>= (λ _. g)
 
 -- 16
 abbrev pub noNode : Outcome Grouping

@@ -33,6 +33,15 @@ pub front-splits : (a : Matrix) (o : Options) → frontOf a o ≡ (validOf a >>=
 unfolding frontOf shapeOf
 front-splits a o = refl
 
+-- what 9 to 12 leave
+pub record Shape (a : Matrix) (o : Options) : Type 0 where
+  pub square : a .cols ≡ a .rows
+  pub least : 1 ≤ o .block
+  pub most : o .block ≤ maxBlock
+  pub some : 1 ≤ o .group
+  pub fewest : o .group ≤ maxGroup
+  pub whole : a .rows % o .block ≡ 0
+
 -- what 1 to 12 leave
 pub record Front (a : Matrix) (o : Options) : Type 0 where
   pub valid : validOf a ≡ done tt
@@ -43,22 +52,20 @@ pub record Front (a : Matrix) (o : Options) : Type 0 where
   pub fewest : o .group ≤ maxGroup
   pub whole : a .rows % o .block ≡ 0
 
-then-done : {A : Type 0} (o : Checked) (next : Unit {0} → Outcome A) (x : A) → (o >>= next) ≡ done x → (o ≡ done tt) × (next tt ≡ done x)
+pub then-done : {A : Type 0} (o : Checked) (next : Unit {0} → Outcome A) (x : A) → (o >>= next) ≡ done x → (o ≡ done tt) × (next tt ≡ done x)
 unfolding _>>=_
 then-done (done tt) next x e = (refl, e)
 then-done (refused r) next x e = (cc, cc)
 
--- 1 to 8, and 9 to 12 by sizes
-pub front-with : (a : Matrix) (o : Options) → validOf a ≡ done tt → shapeOf (a .rows) (a .cols) (o .block) (o .group) ≡ done tt → Front a o
+pub shape-of : (a : Matrix) (o : Options) → shapeOf (a .rows) (a .cols) (o .block) (o .group) ≡ done tt → Shape a o
 unfolding shapeOf
-front-with a o v e =
+shape-of a o e =
     let p9 = then-done _ _ _ e in
     let p10 = then-done _ _ _ (p9 .1) in
     let p11 = then-done _ _ _ (p10 .1) in
     let b = both-true _ _ (last-true _ _ (p10 .0)) in
     let g = both-true _ _ (last-true _ _ (p11 .0)) in
     record {
-      valid = v;
       square = eqb-true _ _ (last-true _ _ (p9 .0));
       least = leb-true _ _ (b .0);
       most = leb-true _ _ (b .1);
@@ -66,6 +73,10 @@ front-with a o v e =
       fewest = leb-true _ _ (g .1);
       whole = eqb-true _ _ (last-true _ _ (p11 .1));
     }
+
+-- 1 to 8, and 9 to 12 by sizes
+front-with : (a : Matrix) (o : Options) → validOf a ≡ done tt → Shape a o → Front a o
+front-with a o v s = record { valid = v; square = s .square; least = s .least; most = s .most; some = s .some; fewest = s .fewest; whole = s .whole }
 
 -- 10 alone
 pub shape-least : (rows cols block group : ℕ) → shapeOf rows cols block group ≡ done tt → 1 ≤ block
@@ -78,7 +89,7 @@ pub front-parts : (a : Matrix) (o : Options) → frontOf a o ≡ done tt → (va
 front-parts a o e = then-done _ _ _ (sym (front-splits a o) ∙ e)
 
 pub front-of : (a : Matrix) (o : Options) → frontOf a o ≡ done tt → Front a o
-front-of a o e = let p = front-parts a o e in front-with a o (p .0) (p .1)
+front-of a o e = let p = front-parts a o e in front-with a o (p .0) (shape-of a o (p .1))
 
 -- the nodes' rows are all of them
 pub rows-whole : (a : Matrix) (o : Options) → Front a o → nodeCount a o * o .block ≡ a .rows
@@ -88,14 +99,16 @@ pub front-rows : (a : Matrix) (o : Options) → Front a o → Rows a
 front-rows a o f = rows-of a (f .valid)
 
 -- 1 to 12 leave all lists as they were
-pub front-keeps : (a : Matrix) (o : Options) → Keeps (frontOf a o)
-unfolding frontOf keepsAll causeOf
-front-keeps a o =
-    keeps-then (validOf a) _ (valid-keeps a) (λ _.
+pub shape-keeps : (rows cols block group : ℕ) → Keeps (shapeOf rows cols block group)
+unfolding shapeOf keepsAll causeOf
+shape-keeps rows cols block group =
     keeps-then _ _ (keeps-require _ NotSquare refl) (λ _.
     keeps-then _ _ (keeps-require _ BlockSize refl) (λ _.
     keeps-then _ _ (keeps-require _ GroupSize refl) (λ _.
-    keeps-require _ NotMultiple refl))))
+    keeps-require _ NotMultiple refl)))
+
+pub front-keeps : (a : Matrix) (o : Options) → Keeps (frontOf a o)
+front-keeps a o = rw (front-splits a o) (keeps-then (validOf a) _ (valid-keeps a) (λ _. shape-keeps (a .rows) (a .cols) (o .block) (o .group)))
 
 pub front-kept : (a : Matrix) (o : Options) (r : Refusal) → frontOf a o ≡ refused r → keepsAll r ≡ true
 front-kept a o r e = keeps-refused (frontOf a o) r (front-keeps a o) e

@@ -16,7 +16,8 @@ ghost use Rattle.definitions.specs.Matrix.{csr};
 ghost use Rattle.definitions.specs.Setup.{frontOf, groupingOf};
 ghost use Rattle.definitions.specs.Answers.{answerOf};
 ghost use Rattle.two_level_grouping.specs.Front.{shapeOf};
-ghost use Rattle.two_level_grouping.specs.Calls.{hasRoom, sizesFit, aggregateCall, Grouped, Settled, Ready, noNode, numbersOf, listsOf, validThen};
+ghost use Rattle.definitions.specs.declared.TwoLevelAggregation.the-variants.{Contiguous};
+ghost use Rattle.two_level_grouping.specs.Calls.{hasRoom, sizesFit, asked, aggregateCall, Grouped, Answered, Ready, noNode, numbersOf, listsOf, readThen};
 
 // Causes 9 to 12, in this order.
 fn shape(rows: usize, cols: usize, block: u64, group: u64) -> Answer
@@ -56,6 +57,25 @@ pub fn front(
 {
     let valid = csr32::validate(rows, cols, row_ptr, col_idx, values);
     match valid {
+        Answer::Refused(cause) => Answer::Refused(cause),
+        Answer::Accepted => shape(rows, cols, options.block, options.group),
+    }
+}
+
+// Causes 1 to 12, in this order, of which 8 where strengths are compared.
+fn ask(
+    rows: usize,
+    cols: usize,
+    row_ptr: &[u32],
+    col_idx: &[u32],
+    values: &[f64],
+    options: Options,
+) -> Answer
+    ensures { λ r. ⌜ r ≡ answerOf (asked (csr rows cols (now («row_ptr» .entry)) (now («col_idx» .entry)) (now (values .entry))) options) ⌝ }
+{
+    let aggregation = options.aggregation;
+    let read = adjacency::readable(aggregation, rows, cols, row_ptr, col_idx, values);
+    match read {
         Answer::Refused(cause) => Answer::Refused(cause),
         Answer::Accepted => shape(rows, cols, options.block, options.group),
     }
@@ -140,7 +160,7 @@ fn by_lists(
     answer
 }
 
-// Contiguous: causes 1 to 8, then the groups by the nodes' numbers.
+// Contiguous: causes 1 to 7, then the groups by the nodes' numbers.
 fn by_number(
     rows: usize,
     cols: usize,
@@ -153,9 +173,11 @@ fn by_number(
     work_floats: &mut [f64],
 ) -> GroupingAnswer
     requires { ⌜ Ready (csr rows cols (now «row_ptr») (now «col_idx») (now values)) options (length (now ids)) (length (now «work_ints»)) (length (now «work_floats»)) ⌝ }
-    ensures { λ r. ⌜ Settled (validThen (csr rows cols (now («row_ptr» .entry)) (now («col_idx» .entry)) (now (values .entry))) (numbersOf (csr rows cols (now («row_ptr» .entry)) (now («col_idx» .entry)) (now (values .entry))) options)) (now (ids .entry)) (now («work_ints» .entry)) (now («work_floats» .entry)) r (now (ids .exit)) (now («work_ints» .exit)) (now («work_floats» .exit)) ⌝ }
+    ensures { λ r. ⌜ (let a = csr rows cols (now («row_ptr» .entry)) (now («col_idx» .entry)) (now (values .entry)) in
+        let call = readThen Contiguous a (numbersOf a options) in
+        Answered call (now (ids .entry)) (now («work_ints» .entry)) (now («work_floats» .entry)) r (now (ids .exit)) (now («work_ints» .exit)) (now («work_floats» .exit))) ⌝ }
 {
-    let valid = csr32::validate(rows, cols, row_ptr, col_idx, values);
+    let valid = csr32::structure(rows, cols, row_ptr, col_idx, values);
     match valid {
         Answer::Refused(cause) => GroupingAnswer::Refused(cause),
         Answer::Accepted => {
@@ -168,20 +190,23 @@ fn by_number(
     }
 }
 
-// Causes 1 to 8, then 16.
+// The causes that the policy asks of the matrix, then 16.
 fn no_node(
     rows: usize,
     cols: usize,
     row_ptr: &[u32],
     col_idx: &[u32],
     values: &[f64],
+    aggregation: TwoLevelAggregation,
     ids: &mut [u32],
     work_ints: &mut [u32],
     work_floats: &mut [f64],
 ) -> GroupingAnswer
-    ensures { λ r. ⌜ Settled (validThen (csr rows cols (now («row_ptr» .entry)) (now («col_idx» .entry)) (now (values .entry))) noNode) (now (ids .entry)) (now («work_ints» .entry)) (now («work_floats» .entry)) r (now (ids .exit)) (now («work_ints» .exit)) (now («work_floats» .exit)) ⌝ }
+    ensures { λ r. ⌜ (let a = csr rows cols (now («row_ptr» .entry)) (now («col_idx» .entry)) (now (values .entry)) in
+        let call = readThen aggregation a noNode in
+        Answered call (now (ids .entry)) (now («work_ints» .entry)) (now («work_floats» .entry)) r (now (ids .exit)) (now («work_ints» .exit)) (now («work_floats» .exit))) ⌝ }
 {
-    let valid = csr32::validate(rows, cols, row_ptr, col_idx, values);
+    let valid = adjacency::readable(aggregation, rows, cols, row_ptr, col_idx, values);
     match valid {
         Answer::Refused(cause) => GroupingAnswer::Refused(cause),
         Answer::Accepted => {
@@ -193,7 +218,7 @@ fn no_node(
     }
 }
 
-// Graph and StrongGraph: causes 1 to 8, which the search for neighbours asks, and 16; then the groups by the nodes' lists, which stand behind the grouping's room in the work list.
+// Graph and StrongGraph: the causes of the matrix, which the search for neighbours asks, and 16; then the groups by the nodes' lists, which stand behind the grouping's room in the work list.
 fn by_graph(
     rows: usize,
     cols: usize,
@@ -207,7 +232,9 @@ fn by_graph(
     work_floats: &mut [f64],
 ) -> GroupingAnswer
     requires { ⌜ Ready (csr rows cols (now «row_ptr») (now «col_idx») (now values)) options (length (now ids)) (length (now «work_ints»)) (length (now «work_floats»)) ⌝ }
-    ensures { λ r. ⌜ Settled (validThen (csr rows cols (now («row_ptr» .entry)) (now («col_idx» .entry)) (now (values .entry))) (listsOf aggregation (csr rows cols (now («row_ptr» .entry)) (now («col_idx» .entry)) (now (values .entry))) options)) (now (ids .entry)) (now («work_ints» .entry)) (now («work_floats» .entry)) r (now (ids .exit)) (now («work_ints» .exit)) (now («work_floats» .exit)) ⌝ }
+    ensures { λ r. ⌜ (let a = csr rows cols (now («row_ptr» .entry)) (now («col_idx» .entry)) (now (values .entry)) in
+        let call = readThen aggregation a (listsOf aggregation a options) in
+        Answered call (now (ids .entry)) (now («work_ints» .entry)) (now («work_floats» .entry)) r (now (ids .exit)) (now («work_ints» .exit)) (now («work_floats» .exit))) ⌝ }
 {
     let size = options.block as usize;
     let nodes = rows / size;
@@ -218,6 +245,7 @@ fn by_graph(
             row_ptr,
             col_idx,
             values,
+            aggregation,
             ids,
             work_ints,
             work_floats,
@@ -244,7 +272,7 @@ fn by_graph(
     }
 }
 
-// The groups by the policy asked for, where the sizes fit: causes 1 to 8 and 16.
+// The groups by the policy asked for, where the sizes fit: the causes of the matrix and 16.
 fn by_policy(
     rows: usize,
     cols: usize,
@@ -257,7 +285,9 @@ fn by_policy(
     work_floats: &mut [f64],
 ) -> GroupingAnswer
     requires { ⌜ Ready (csr rows cols (now «row_ptr») (now «col_idx») (now values)) options (length (now ids)) (length (now «work_ints»)) (length (now «work_floats»)) ⌝ }
-    ensures { λ r. ⌜ Settled (validThen (csr rows cols (now («row_ptr» .entry)) (now («col_idx» .entry)) (now (values .entry))) (groupingOf (options .aggregation) (csr rows cols (now («row_ptr» .entry)) (now («col_idx» .entry)) (now (values .entry))) options)) (now (ids .entry)) (now («work_ints» .entry)) (now («work_floats» .entry)) r (now (ids .exit)) (now («work_ints» .exit)) (now («work_floats» .exit)) ⌝ }
+    ensures { λ r. ⌜ (let a = csr rows cols (now («row_ptr» .entry)) (now («col_idx» .entry)) (now (values .entry)) in
+        let call = readThen (options .aggregation) a (groupingOf (options .aggregation) a options) in
+        Answered call (now (ids .entry)) (now («work_ints» .entry)) (now («work_floats» .entry)) r (now (ids .exit)) (now («work_ints» .exit)) (now («work_floats» .exit))) ⌝ }
 {
     let aggregation = options.aggregation;
     match aggregation {
@@ -299,7 +329,8 @@ fn by_policy(
     }
 }
 
-// The grouping of setup alone: causes 1 to 12, 13 for the lists lent, 16; then the group of each node in `ids`, and work lists of zeros. Sizes are checked first, and the entries once, by the policy's own function.
+// The grouping of setup alone: causes 1 to 12, of which 8 where strengths are compared, 13 for the lists lent, 16; then the
+// group of each node in `ids`, and work lists of zeros. Sizes are checked first, and the entries once, by the policy's own function.
 pub fn aggregate(
     rows: usize,
     cols: usize,
@@ -311,7 +342,9 @@ pub fn aggregate(
     work_ints: &mut [u32],
     work_floats: &mut [f64],
 ) -> GroupingAnswer
-    ensures { λ r. ⌜ Settled (aggregateCall (csr rows cols (now («row_ptr» .entry)) (now («col_idx» .entry)) (now (values .entry))) options (length (now (ids .entry))) (length (now («work_ints» .entry))) (length (now («work_floats» .entry)))) (now (ids .entry)) (now («work_ints» .entry)) (now («work_floats» .entry)) r (now (ids .exit)) (now («work_ints» .exit)) (now («work_floats» .exit)) ⌝ }
+    ensures { λ r. ⌜ (let a = csr rows cols (now («row_ptr» .entry)) (now («col_idx» .entry)) (now (values .entry)) in
+        let call = aggregateCall a options (length (now (ids .entry))) (length (now («work_ints» .entry))) (length (now («work_floats» .entry))) in
+        Answered call (now (ids .entry)) (now («work_ints» .entry)) (now («work_floats» .entry)) r (now (ids .exit)) (now («work_ints» .exit)) (now («work_floats» .exit))) ⌝ }
 {
     if sizes_fit(
         rows,
@@ -335,7 +368,7 @@ pub fn aggregate(
             work_floats,
         );
     }
-    let checked = front(rows, cols, row_ptr, col_idx, values, options);
+    let checked = ask(rows, cols, row_ptr, col_idx, values, options);
     match checked {
         Answer::Refused(cause) => GroupingAnswer::Refused(cause),
         Answer::Accepted => GroupingAnswer::Refused(Refusal::ListTooShort),

@@ -32,7 +32,8 @@ use Rattle.laws.proofs.GroupIds.{ids-length, ids-below, count-few}
 use Rattle.laws.proofs.SetupLists.{factors-length}
 use Rattle.csr32.specs.Calls.{goes-on, stops, passed, refused-is}
 use Rattle.two_level_grouping.specs.Front.{Front, front-rows, rows-whole}
-use Rattle.two_level_grouping.specs.Calls.{hasRoom, aggregateCall, idsLeft, Settled}
+use Rattle.two_level_grouping.specs.Calls.{hasRoom, asked, aggregateCall, idsLeft, Answered}
+use Rattle.two_level_grouping.proofs.Asking.{front-asked}
 use Rattle.two_level_setup.specs.Stages.{Parts, optionsOf, started, partsAnswer, grouped, fineOf}
 use Rattle.two_level_setup.specs.Fit.{Fit, Bounds, Counted}
 use Rattle.two_level_setup.specs.Contracts.{roomIn, Holds, Leaves, Begun}
@@ -133,7 +134,7 @@ module _ (a : Matrix) (o : Options) (ints : List ℕ) (floats : List Float) (wor
   aggregate-passes : aggregateCall a o (length ints) (length workInts) (length workFloats) ≡ groupingOf (o .aggregation) a o
   unfolding aggregateCall hasRoom
   aggregate-passes =
-      goes-on (frontOf a o) tt _ front-passes
+      goes-on (asked a o) tt _ (front-asked a o front-passes)
       ∙ goes-on _ tt _ (passed _ ListTooShort (rw (
         le-leb (nodeCount a o) (length ints) (omega (arith, f .ints)),
         le-leb (8 * nodeCount a o + 4 * length (a .values) + 16) (length workInts) (omega (arith, f .workInts, div-le-self (a .rows) (o .block))),
@@ -151,7 +152,7 @@ module _ (a : Matrix) (o : Options) (ints : List ℕ) (floats : List Float) (wor
     has-factors (refused r) e = ([], cc)
 
     module _ (accepted : x ≡ Accepted) (z : GroupingAnswer) (ints1 workInts1 : List ℕ) (workFloats1 : List Float)
-        (s : Settled (aggregateCall a o (length ints) (length workInts) (length workFloats)) ints workInts workFloats z ints1 workInts1 workFloats1) where
+        (s : Answered (aggregateCall a o (length ints) (length workInts) (length workFloats)) ints workInts workFloats z ints1 workInts1 workFloats1) where
       abbrev factors : (l : List Float) × (factorsOf a (o .block) ≡ done l)
       factors = has-factors (factorsOf a (o .block)) (sym accepted ∙ ex ∙ ap answerOf blocks-pass)
 

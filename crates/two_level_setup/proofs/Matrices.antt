@@ -14,7 +14,7 @@ use borrow.Author.Tests.{le-leb, lt-leb, eq-eqb}
 use Rattle.definitions.specs.Lists.{padded, between, any, square, pointersFrom, falls}
 use Rattle.definitions.specs.Numbers.{zeroᶠ}
 use Rattle.definitions.specs.Refusal.{Outcome, done, resultLeft, workLeft}
-use Rattle.definitions.specs.Matrix.{Matrix, Entry, maxRows, validOf, rowOf}
+use Rattle.definitions.specs.Matrix.{Matrix, Entry, maxRows, structureOf, rowOf}
 use Rattle.definitions.specs.Block.{maxBlock}
 use Rattle.definitions.specs.Transfer.{coarseColumn}
 use Rattle.definitions.specs.Coarse.{constantEntry, galerkinEntry, averagedSquare}
@@ -26,7 +26,7 @@ use Rattle.laws.proofs.Lists.{Each, none, more, each-map, each-flatMap, each-im
 use Rattle.laws.proofs.Csr.{columnsOf, numbersOf, pointers-length, pointers-first, pointers-last, pointers-rise, columns-length, values-length, row-back}
 use Rattle.laws.proofs.SetupLists.{pointers-read, columns-read}
 use Rattle.csr32.specs.Calls.{goes-on, passed}
-use Rattle.csr32.specs.Rows.{outside}
+use Rattle.csr32.specs.Rows.{outside, valid-structure}
 use Rattle.coarse_matrix.specs.Calls.{constantChecks, constantChecked, constantCoarseCall, transferFits, galerkinChecks, galerkinChecked, galerkinCoarseCall}
 use Rattle.two_level_grouping.specs.Front.{Front, front-rows}
 use Rattle.two_level_setup.specs.Stages.{Parts, matrixOf, optionsOf}
@@ -99,7 +99,7 @@ module _ (a : Matrix) (s : Setup) (ints : List ℕ) (floats : List Float) (workI
       let f = w .front in
       let m = w .counted in
       goes-on _ tt _ (goes-on _ tt _ (passed _ TooLarge (le-leb (s .groups) maxRows (few-groups a s f m)))
-      ∙ goes-on (validOf a) tt _ (f .valid)
+      ∙ goes-on (structureOf a) tt _ (valid-structure a (f .valid))
       ∙ goes-on _ tt _ (passed _ NotSquare (eq-eqb (a .rows) (a .cols) (sym (f .square))))
       ∙ goes-on _ tt _ (passed _ BlockSize (rw (le-leb 1 (s .block) (f .least), le-leb (s .block) maxBlock (f .most))))
       ∙ goes-on _ tt _ (passed _ NotMultiple (eq-eqb (a .rows % s .block) 0 (f .whole)))
@@ -144,7 +144,7 @@ module _ (a : Matrix) (s : Setup) (ints : List ℕ) (floats : List Float) (workI
   unfolding galerkinCoarseCall galerkinChecked galerkinChecks
   galerkin-passes ws v =
       let f = w .front in
-      goes-on _ tt _ (goes-on (validOf a) tt _ (f .valid)
+      goes-on _ tt _ (goes-on (structureOf a) tt _ (valid-structure a (f .valid))
       ∙ goes-on _ tt _ (passed _ NotSquare (eq-eqb (a .rows) (a .cols) (sym (f .square))))
       ∙ goes-on _ tt _ (passed _ (CoarseTooLarge c) (le-leb c 2048 (w .small)))
       ∙ goes-on _ tt _ (passed _ (CoarseListTooShort c) (rw (le-leb (2 * c) (length workInts) (omega (arith, w .workInts)), le-leb (c * c + c) (length workFloats) (omega (arith, w .workFloats)))))

@@ -12,7 +12,7 @@ use borrow.Rule.Slice.PartMut.{putMid, take-put}
 use Rattle.definitions.specs.Lists.{padded, between, pointersFrom, joinedLists}
 use Rattle.definitions.specs.Numbers.{zeroᶠ}
 use Rattle.definitions.specs.Refusal.{Outcome, done, _>>=_, resultLeft}
-use Rattle.definitions.specs.Matrix.{Matrix, Entry, validOf, maxRows}
+use Rattle.definitions.specs.Matrix.{Matrix, Entry, structureOf, maxRows}
 use Rattle.definitions.specs.Block.{maxBlock}
 use Rattle.definitions.specs.Transfer.{weightAt, transferRow, transferOf}
 use Rattle.definitions.specs.Setup.{Lent, transferInts, transferFloats, lentOf}
@@ -28,6 +28,7 @@ use Rattle.laws.proofs.Csr.{columnsOf, numbersOf, pointers-length, columns-leng
 use Rattle.laws.proofs.Counting.{rows-within}
 use Rattle.laws.proofs.TransferRows.{row-short, entries-short}
 use Rattle.csr32.specs.Calls.{goes-on, passed}
+use Rattle.csr32.specs.Rows.{valid-structure}
 use Rattle.numbers.specs.Copied.{copied}
 use Rattle.two_level_grouping.proofs.Kept.{put-tail, copied-zeros, front-cleared}
 use Rattle.two_level_grouping.specs.Front.{front-rows}
@@ -93,7 +94,7 @@ module _ (a : Matrix) (s : Setup) (damping : Float) (ints : List ℕ) (floats : 
       let n = w .counted in
       let c : s .groups * s .block ≡ s .coarse = sym (n .coarse) in
       goes-on _ tt _ (goes-on _ tt _ (passed _ TooLarge (le-leb (s .groups) maxRows (few-groups a s f n)))
-      ∙ goes-on (validOf a) tt _ (f .valid)
+      ∙ goes-on (structureOf a) tt _ (valid-structure a (f .valid))
       ∙ goes-on _ tt _ (goes-on _ tt _ (passed _ NotSquare (eq-eqb (a .cols) (a .rows) (f .square)))
       ∙ goes-on _ tt _ (passed _ BlockSize (rw (le-leb 1 (s .block) (f .least), le-leb (s .block) maxBlock (f .most))))
       ∙ goes-on _ tt _ (passed _ NotMultiple (eq-eqb (a .rows % s .block) 0 (f .whole)))

@@ -8,20 +8,20 @@ use Rattle.adjacency.proofs.neighbours.Tie as tie
 fits-requires : tie.Need-fits-requires
 fits-requires c κs =
     let b = c .before .before .before .before .before .before .before .before .args in
-    let v = c .before .before .validate in
+    let v = c .before .before .readable in
     small (b .aggregation) (b .rows) (b .cols) (b .row-ptr .now) (b .col-idx .now) (b .values .now) (b .block-size) (b .base) (b .work-ints .now) (b .work-floats .now) (v .result) (v .ensures) (c .enum-told .given .1)
 
 div-build : tie.Need-div-build
 div-build c =
     let b = c .before .before .before .before .before .before .before .before .before .before .before .args in
-    let v = c .before .before .before .before .before .validate in
+    let v = c .before .before .before .before .before .readable in
     let f = c .before .before .fits2 in
     omega (arith, size-low (b .aggregation) (b .rows) (b .cols) (b .row-ptr .now) (b .col-idx .now) (b .values .now) (b .block-size) (b .base) (b .work-ints .now) (b .work-floats .now) (v .result) (v .ensures) (c .before .before .before .enum-told .given .1) (f .result) (f .ensures) (c .enum-told2 .given .1))
 
 build-requires : tie.Need-build-requires
 build-requires c κs =
     let b = c .before .before .before .before .before .before .before .before .before .before .before .before .before .args in
-    let v = c .before .before .before .before .before .before .before .validate in
+    let v = c .before .before .before .before .before .before .before .readable in
     let f = c .before .before .before .before .fits2 in
     let e = c .before .before .before .before .before .enum-told .given .1 in
     let z = c .before .before .enum-told2 .given .1 in (
@@ -35,20 +35,20 @@ build-requires c κs =
 returns : tie.Need-returns
 returns c =
     let b = c .before .before .before .before .before .before .before .before .before .args in
-    let v = c .before .before .before .validate in
+    let v = c .before .before .before .readable in
     not-valid (b .aggregation) (b .rows) (b .cols) (b .row-ptr .now) (b .col-idx .now) (b .values .now) (b .block-size) (b .base) (b .work-ints .now) (b .work-floats .now) (v .result) (v .ensures) _ (c .before .valid .given .1)
 
 returns-2 : tie.Need-returns-2
 returns-2 c =
     let b = c .before .before .before .before .before .before .before .before .before .before .before .before .args in
-    let v = c .before .before .before .before .before .before .validate in
+    let v = c .before .before .before .before .before .before .readable in
     let f = c .before .before .before .fits2 in
     not-fitting (b .aggregation) (b .rows) (b .cols) (b .row-ptr .now) (b .col-idx .now) (b .values .now) (b .block-size) (b .base) (b .work-ints .now) (b .work-floats .now) (v .result) (v .ensures) (c .before .before .before .before .enum-told .given .1) (f .result) (f .ensures) _ (c .before .fit .given .1)
 
 returns-3 : tie.Need-returns-3
 returns-3 c =
     let b = c .before .before .before .before .before .before .before .before .before .before .before .before .before .before .before .before .before .before .args in
-    let v = c .before .before .before .before .before .before .before .before .before .before .before .before .validate in
+    let v = c .before .before .before .before .before .before .before .before .before .before .before .before .readable in
     let f = c .before .before .before .before .before .before .before .before .before .fits2 in
     let k = c .before .before .before .before .build in
     built (b .aggregation) (b .rows) (b .cols) (b .row-ptr .now) (b .col-idx .now) (b .values .now) (b .block-size) (b .base) (b .work-ints .now) (b .work-floats .now) (v .result) (v .ensures) (c .before .before .before .before .before .before .before .before .before .before .enum-told .given .1) (f .result) (f .ensures) (c .before .before .before .before .before .before .before .enum-told2 .given .1) (k .last .1 .1 .1 .1 .1 .1 .1 .0) (k .last .1 .1 .1 .1 .1 .1 .1 .1 .0) (k .ensures .0) (k .ensures .1)

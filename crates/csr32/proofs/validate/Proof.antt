@@ -1,87 +1,38 @@
--- Each check that passes goes on to the next, and the first that fails gives its cause.
-use Rattle.definitions.specs.Matrix.{validOf}
-use Rattle.csr32.proofs.Causes.{causes, shape-passed}
+-- The causes that look at no value, and then the values.
 use Rattle.definitions.specs.Matrix.{csr}
 use borrow.Author.Needs.{needs}
+use Rattle.csr32.proofs.Causes.{structure-fails, values-fail, values-pass}
 use Rattle.csr32.proofs.validate.Statement.{statement}
 use Rattle.csr32.proofs.validate.Tie as tie
 
 returns : tie.Need-returns
-unfolding validOf
-returns c = search causes depth 14
+returns c =
+    let a = c .before .before .before .before .before .before .before .before .args in
+    let v = c .before .value-not-finite in
+    let s = c .before .before .before .before .structure in
+    values-fail (csr (a .rows) (a .cols) (a .row-ptr .now) (a .col-idx .now) (a .values .now)) (s .result) (s .ensures) (c .before .before .enum-told .given .1) (v .result) (v .ensures) (c .if1 .taken)
 
 returns-2 : tie.Need-returns-2
-unfolding validOf
-returns-2 c = search causes depth 14
+returns-2 c =
+    let a = c .before .before .before .before .before .before .before .args in
+    let s = c .before .before .before .structure in
+    structure-fails (csr (a .rows) (a .cols) (a .row-ptr .now) (a .col-idx .now) (a .values .now)) (s .result) (s .ensures) _ (c .before .structured .given .1)
 
 returns-3 : tie.Need-returns-3
-unfolding validOf
-returns-3 c = search causes depth 14
-
-returns-4 : tie.Need-returns-4
-unfolding validOf
-returns-4 c = search causes depth 14
-
-returns-5 : tie.Need-returns-5
-unfolding validOf
-returns-5 c = search causes depth 14
-
-returns-6 : tie.Need-returns-6
-unfolding validOf
-returns-6 c = search causes depth 14
-
-returns-7 : tie.Need-returns-7
-unfolding validOf
-returns-7 c = search causes depth 14
-
-returns-8 : tie.Need-returns-8
-returns-8 c =
-    let a = c .before .before .before .before .before .before .before .before .before .before .before .before .before .before .before .args in
-    shape-passed (csr (a .rows) (a .cols) (a .row-ptr .now) (a .col-idx .now) (a .values .now)) _ (c .before .before .before .wide .result)
-    (c .before .before .before .before .before .before .before .before .before .before .before .if1 .left) (c .before .before .before .before .before .before .before .before .before .before .if2 .left) (c .before .before .before .before .before .before .before .before .before .if3 .left) (c .before .before .before .before .before .before .before .before .if4 .left) (c .before .before .before .before .before .before .before .if5 .left) (c .before .before .before .before .before .if6 .left) (c .before .before .before .wide .ensures) (c .before .before .if7 .left)
-    (search causes depth 14)
-
-returns-9 : tie.Need-returns-9
-returns-9 c =
-    let a = c .before .before .before .before .before .before .before .before .before .before .before .before .before .before .before .before .before .args in
-    shape-passed (csr (a .rows) (a .cols) (a .row-ptr .now) (a .col-idx .now) (a .values .now)) _ (c .before .before .before .before .before .wide .result)
-    (c .before .before .before .before .before .before .before .before .before .before .before .before .before .if1 .left) (c .before .before .before .before .before .before .before .before .before .before .before .before .if2 .left) (c .before .before .before .before .before .before .before .before .before .before .before .if3 .left) (c .before .before .before .before .before .before .before .before .before .before .if4 .left) (c .before .before .before .before .before .before .before .before .before .if5 .left) (c .before .before .before .before .before .before .before .if6 .left) (c .before .before .before .before .before .wide .ensures) (c .before .before .before .before .if7 .left)
-    (search causes depth 14)
-
-returns-10 : tie.Need-returns-10
-returns-10 c =
-    let a = c .before .before .before .before .before .before .before .before .before .before .before .before .before .before .before .before .before .before .before .args in
-    shape-passed (csr (a .rows) (a .cols) (a .row-ptr .now) (a .col-idx .now) (a .values .now)) _ (c .before .before .before .before .before .before .before .wide .result)
-    (c .before .before .before .before .before .before .before .before .before .before .before .before .before .before .before .if1 .left) (c .before .before .before .before .before .before .before .before .before .before .before .before .before .before .if2 .left) (c .before .before .before .before .before .before .before .before .before .before .before .before .before .if3 .left) (c .before .before .before .before .before .before .before .before .before .before .before .before .if4 .left) (c .before .before .before .before .before .before .before .before .before .before .before .if5 .left) (c .before .before .before .before .before .before .before .before .before .if6 .left) (c .before .before .before .before .before .before .before .wide .ensures) (c .before .before .before .before .before .before .if7 .left)
-    (search causes depth 14)
-
-returns-11 : tie.Need-returns-11
-returns-11 c =
-    let a = c .before .before .before .before .before .before .before .before .before .before .before .before .before .before .before .before .before .before .before .args in
-    shape-passed (csr (a .rows) (a .cols) (a .row-ptr .now) (a .col-idx .now) (a .values .now)) _ (c .before .before .before .before .before .before .before .wide .result)
-    (c .before .before .before .before .before .before .before .before .before .before .before .before .before .before .before .if1 .left) (c .before .before .before .before .before .before .before .before .before .before .before .before .before .before .if2 .left) (c .before .before .before .before .before .before .before .before .before .before .before .before .before .if3 .left) (c .before .before .before .before .before .before .before .before .before .before .before .before .if4 .left) (c .before .before .before .before .before .before .before .before .before .before .before .if5 .left) (c .before .before .before .before .before .before .before .before .before .if6 .left) (c .before .before .before .before .before .before .before .wide .ensures) (c .before .before .before .before .before .before .if7 .left)
-    (search causes depth 14)
+returns-3 c =
+    let a = c .before .before .before .before .before .before .before .before .args in
+    let v = c .before .value-not-finite in
+    let s = c .before .before .before .before .structure in
+    values-pass (csr (a .rows) (a .cols) (a .row-ptr .now) (a .col-idx .now) (a .values .now)) (s .result) (s .ensures) (c .before .before .enum-told .given .1) (v .result) (v .ensures) (c .if1 .left)
 
 pub validate-spec : {M : Type 1} → statement M
 validate-spec =
     tie.close
     (tie.spec
+    (λ c κs. search needs)
+    (λ c. search needs)
+    (λ c. search needs)
+    (λ c κs. search needs)
     returns
     returns-2
-    returns-3
-    (λ c. search needs)
-    returns-4
-    returns-5
-    (λ c. search needs)
-    returns-6
-    (λ c. search needs)
-    (λ c. search needs)
-    (λ c κs. search needs)
-    returns-7
-    (λ c κs. search needs)
-    returns-8
-    (λ c κs. search needs)
-    returns-9
-    (λ c κs. search needs)
-    returns-10
-    returns-11)
+    returns-3)

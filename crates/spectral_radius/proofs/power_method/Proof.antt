@@ -10,6 +10,7 @@ use Rattle.spectral_radius.specs.Power.{vectorIn, outcomeOf}
 use Rattle.spectral_radius.proofs.Regions.{length-part}
 use Rattle.spectral_radius.proofs.Course.{put-roots, put-vector, powered-1, powered-2, powered-3}
 use borrow.Author.Needs.{needs}
+use borrow.Rule.Slice.PartMut.{same-len-mid}
 use Rattle.spectral_radius.proofs.power_method.Statement.{statement}
 use Rattle.spectral_radius.proofs.power_method.Tie as tie
 
@@ -21,6 +22,13 @@ begun : (c : tie.After-begin) (r : Bool) → c .begin .result ≡ r → outcomeO
 begun c r e =
     let l : length (take (c .before .before .before .before .before .before .args .rows + c .before .before .before .before .before .before .args .rows - c .before .before .before .before .before .before .args .rows) (drop (c .before .before .before .before .before .before .args .rows) (c .before .before .before .before .before .before .args .w .now))) ≡ c .before .before .before .before .before .before .args .rows = length-part (c .before .before .before .before .before .before .args .rows) (c .before .before .before .before .before .before .args .rows + c .before .before .before .before .before .before .args .rows) (c .before .before .before .before .before .before .args .w .now) (omega (arith, c .before .before .before .before .before .before .pre .1)) ∙ omega arith in
     rw (e, l) at (c .begin .ensures)
+
+finish-requires : tie.Need-finish-requires
+finish-requires c κs =
+    let s = c .before .before .before .before .before .before .before .before .before .before .before .before .before .before .before in
+    let b = c .before .before .before .before .before .before .before .before .before .begin in
+    let r = c .before .before .before .before .rounds in
+    (s .pre .0, omega (arith, s .pre .1, r .kept .1 .1 .1 .1 .0, same-len-mid (s .args .rows) (s .args .rows + s .args .rows - s .args .rows) (s .args .w .now) (b .last .0) (b .kept .0)))
 
 returns : tie.Need-returns
 returns c =
@@ -60,7 +68,7 @@ power-method-spec =
     (λ c. search needs)
     (λ c κs. search needs)
     (λ c κs. search needs)
-    (λ c κs. search needs)
+    finish-requires
     (λ c. search needs)
     returns
     (λ c. search needs)

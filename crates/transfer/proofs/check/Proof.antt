@@ -3,9 +3,9 @@ use mathlib.Core.Path.{sym, _∙_}
 use native.Mathlib.Omega.{arith}
 use lib.ListN.{length}
 use Rattle.definitions.specs.Refusal.{_>>=_}
-use Rattle.definitions.specs.Matrix.{csr, validOf}
+use Rattle.definitions.specs.Matrix.{csr, structureOf}
 use Rattle.definitions.specs.declared.Answer.the-variants.{Refused}
-use Rattle.csr32.specs.Valid.{accepted-rows}
+use Rattle.csr32.specs.Valid.{structured-rows}
 use Rattle.transfer.specs.Call.{shapeChecked, groupsChecked}
 use Rattle.transfer.proofs.Checking.{shape-facts}
 use Rattle.transfer.proofs.Calling.{stop, go, many-groups, few-groups}
@@ -19,13 +19,13 @@ returns c = let a = c .before .before .before .before .before .args in many-grou
 shape-requires : tie.Need-shape-requires
 shape-requires c κs =
     let a = c .before .before .before .before .before .before .before .before .args in
-    let w = accepted-rows (csr (a .rows) (a .cols) (a .ptr .now) (a .idx .now) (a .vals .now)) (sym (c .before .before .validate .ensures) ∙ c .enum-told .given .1) in
+    let w = structured-rows (csr (a .rows) (a .cols) (a .ptr .now) (a .idx .now) (a .vals .now)) (sym (c .before .before .structure .ensures) ∙ c .enum-told .given .1) in
     (w .fewRows, w .fewEntries)
 
 groups-requires : tie.Need-groups-requires
 groups-requires c κs =
     let a = c .before .before .before .before .before .before .before .before .before .before .before .args in
-    let w = accepted-rows (csr (a .rows) (a .cols) (a .ptr .now) (a .idx .now) (a .vals .now)) (sym (c .before .before .before .before .before .validate .ensures) ∙ c .before .before .before .enum-told .given .1) in
+    let w = structured-rows (csr (a .rows) (a .cols) (a .ptr .now) (a .idx .now) (a .vals .now)) (sym (c .before .before .before .before .before .structure .ensures) ∙ c .before .before .before .enum-told .given .1) in
     let s = shape-facts (a .rows) (a .cols) (length (a .vals .now)) (a .size) (a .ints) (a .floats) (sym (c .before .before .shape .ensures) ∙ c .enum-told2 .given .1) in
     (w .fewRows, w .fewEntries, s .1, s .2, omega arith)
 
@@ -34,7 +34,7 @@ returns-2 c =
     let a = c .before .before .before .before .before .before .before .before .before .before .before .before .args in
     let m = (csr (a .rows) (a .cols) (a .ptr .now) (a .idx .now) (a .vals .now)) in
     few-groups m (a .size) (a .ids .now) (a .groups) (a .diagonal) (a .ints) (a .floats) (c .groups .result) (omega arith)
-    (go (validOf m) (λ _. (shapeChecked (a .rows) (a .cols) (length (a .vals .now)) (a .size) (a .ints) (a .floats)) >>= (λ _. (groupsChecked (a .rows) (length (a .vals .now)) (a .size) (a .ids .now) (a .groups) (a .diagonal) (a .ints) (a .floats)))) (c .before .before .before .before .before .before .validate .result) (c .before .before .before .before .before .before .validate .ensures) (c .groups .result) (c .before .before .before .before .enum-told .given .1)
+    (go (structureOf m) (λ _. (shapeChecked (a .rows) (a .cols) (length (a .vals .now)) (a .size) (a .ints) (a .floats)) >>= (λ _. (groupsChecked (a .rows) (length (a .vals .now)) (a .size) (a .ids .now) (a .groups) (a .diagonal) (a .ints) (a .floats)))) (c .before .before .before .before .before .before .structure .result) (c .before .before .before .before .before .before .structure .ensures) (c .groups .result) (c .before .before .before .before .enum-told .given .1)
     (go (shapeChecked (a .rows) (a .cols) (length (a .vals .now)) (a .size) (a .ints) (a .floats)) (λ _. (groupsChecked (a .rows) (length (a .vals .now)) (a .size) (a .ids .now) (a .groups) (a .diagonal) (a .ints) (a .floats))) (c .before .before .before .shape .result) (c .before .before .before .shape .ensures) (c .groups .result) (c .before .enum-told2 .given .1) (c .groups .ensures)))
 
 returns-3 : tie.Need-returns-3
@@ -43,15 +43,15 @@ returns-3 c =
     let m = (csr (a .rows) (a .cols) (a .ptr .now) (a .idx .now) (a .vals .now)) in
     let r = c .before .shaped .given .0 .0 in
     few-groups m (a .size) (a .ids .now) (a .groups) (a .diagonal) (a .ints) (a .floats) (Refused r) (omega arith)
-    (go (validOf m) (λ _. (shapeChecked (a .rows) (a .cols) (length (a .vals .now)) (a .size) (a .ints) (a .floats)) >>= (λ _. (groupsChecked (a .rows) (length (a .vals .now)) (a .size) (a .ids .now) (a .groups) (a .diagonal) (a .ints) (a .floats)))) (c .before .before .before .before .before .before .validate .result) (c .before .before .before .before .before .before .validate .ensures) (Refused r) (c .before .before .before .before .enum-told .given .1)
+    (go (structureOf m) (λ _. (shapeChecked (a .rows) (a .cols) (length (a .vals .now)) (a .size) (a .ints) (a .floats)) >>= (λ _. (groupsChecked (a .rows) (length (a .vals .now)) (a .size) (a .ids .now) (a .groups) (a .diagonal) (a .ints) (a .floats)))) (c .before .before .before .before .before .before .structure .result) (c .before .before .before .before .before .before .structure .ensures) (Refused r) (c .before .before .before .before .enum-told .given .1)
     (stop (shapeChecked (a .rows) (a .cols) (length (a .vals .now)) (a .size) (a .ints) (a .floats)) (λ _. (groupsChecked (a .rows) (length (a .vals .now)) (a .size) (a .ids .now) (a .groups) (a .diagonal) (a .ints) (a .floats))) (c .before .before .before .shape .result) (c .before .before .before .shape .ensures) r (c .before .shaped .given .1)))
 
 returns-4 : tie.Need-returns-4
 returns-4 c =
     let a = c .before .before .before .before .before .before .before .before .before .args in
     let m = (csr (a .rows) (a .cols) (a .ptr .now) (a .idx .now) (a .vals .now)) in
-    let r = c .before .valid .given .0 .0 in
-    few-groups m (a .size) (a .ids .now) (a .groups) (a .diagonal) (a .ints) (a .floats) (Refused r) (omega arith) (stop (validOf m) (λ _. (shapeChecked (a .rows) (a .cols) (length (a .vals .now)) (a .size) (a .ints) (a .floats)) >>= (λ _. (groupsChecked (a .rows) (length (a .vals .now)) (a .size) (a .ids .now) (a .groups) (a .diagonal) (a .ints) (a .floats)))) (c .before .before .before .validate .result) (c .before .before .before .validate .ensures) r (c .before .valid .given .1))
+    let r = c .before .structured .given .0 .0 in
+    few-groups m (a .size) (a .ids .now) (a .groups) (a .diagonal) (a .ints) (a .floats) (Refused r) (omega arith) (stop (structureOf m) (λ _. (shapeChecked (a .rows) (a .cols) (length (a .vals .now)) (a .size) (a .ints) (a .floats)) >>= (λ _. (groupsChecked (a .rows) (length (a .vals .now)) (a .size) (a .ids .now) (a .groups) (a .diagonal) (a .ints) (a .floats)))) (c .before .before .before .structure .result) (c .before .before .before .structure .ensures) r (c .before .structured .given .1))
 
 pub check-spec : {M : Type 1} → statement M
 check-spec =

@@ -24,14 +24,14 @@ returns-2 c =
     let a = c .before .before .before .before .before .before .before .before .before .before .before .before .args in
     let m = csr (a .rows) (a .cols) (a .row-ptr .now) (a .col-idx .now) (a .values .now) in
     let f = c .before .before .before .before .before .sizes-fit in
-    stopped m (a .options) (a .ids .now) (a .work-ints .now) (a .work-floats .now) (f .result) (f .ensures) (c .before .before .before .before .if1 .left) (c .before .before .before .front .result) (c .before .before .before .front .ensures) _ (c .before .checked .given .1)
+    stopped m (a .options) (a .ids .now) (a .work-ints .now) (a .work-floats .now) (f .result) (f .ensures) (c .before .before .before .before .if1 .left) (c .before .before .before .ask .result) (c .before .before .before .ask .ensures) _ (c .before .checked .given .1)
 
 returns-3 : tie.Need-returns-3
 returns-3 c =
     let a = c .before .before .before .before .before .before .before .before .before .before .before .args in
     let m = csr (a .rows) (a .cols) (a .row-ptr .now) (a .col-idx .now) (a .values .now) in
     let f = c .before .before .before .before .sizes-fit in
-    short m (a .options) (a .ids .now) (a .work-ints .now) (a .work-floats .now) (f .result) (f .ensures) (c .before .before .before .if1 .left) (c .before .before .front .result) (c .before .before .front .ensures) (c .enum-told .given .1)
+    short m (a .options) (a .ids .now) (a .work-ints .now) (a .work-floats .now) (f .result) (f .ensures) (c .before .before .before .if1 .left) (c .before .before .ask .result) (c .before .before .ask .ensures) (c .enum-told .given .1)
 
 pub aggregate-spec : {M : Type 1} → statement M
 aggregate-spec =

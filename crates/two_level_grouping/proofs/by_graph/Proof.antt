@@ -1,10 +1,10 @@
--- Only 1 to 8 can refuse the first stage; else the lists stand where the second reads them.
+-- Only the causes of the matrix can refuse the first stage; else the lists stand where the second reads them.
 use mathlib.Core.Path.{refl}
 use Prim.Native.Nat.{_<_}
 use native.Mathlib.Omega.{arith}
 use Rattle.definitions.specs.Matrix.{csr}
 use Rattle.definitions.specs.Places.{nodeCount}
-use Rattle.two_level_grouping.proofs.Graphs.{none-ends, unchanged, grouped-settled}
+use Rattle.two_level_grouping.proofs.Graphs.{none-ends, unchanged, grouped-answered}
 use borrow.Author.Needs.{needs}
 use Rattle.two_level_grouping.proofs.by_graph.Statement.{statement}
 use Rattle.two_level_grouping.proofs.by_graph.Tie as tie
@@ -31,7 +31,7 @@ returns-3 c =
     let m = csr (a .rows) (a .cols) (a .row-ptr .now) (a .col-idx .now) (a .values .now) in
     let d = c .before .before .before .before .before .before .before .before .before .before .before .before .before .neighbours in
     let some : 0 < nodeCount m (a .options) = omega (arith, c .before .before .before .before .before .before .before .before .before .before .before .before .before .before .before .before .if1 .left) in
-    grouped-settled m (a .options) (a .aggregation) _ _ _ (s .pre) some (a .work-ints .now) (d .last .1 .1 .1 .1 .1 .1 .1 .1 .0) refl (d .ensures .1 .0) (d .kept .1 .1 .1 .1 .1 .1 .1 .1 .0) (d .result) (d .ensures .0) (c .before .before .before .before .before .before .before .enum-told .given .1) (a .ids .now) (a .work-floats .now) (d .last .1 .1 .1 .1 .1 .1 .1 .1 .1 .0) (d .ensures .1 .1) _ _ _ (c .before .before .before .before .by-lists .ensures)
+    grouped-answered m (a .options) (a .aggregation) _ _ _ (s .pre) some (a .work-ints .now) (d .last .1 .1 .1 .1 .1 .1 .1 .1 .0) refl (d .ensures .1 .0) (d .kept .1 .1 .1 .1 .1 .1 .1 .1 .0) (d .result) (d .ensures .0) (c .before .before .before .before .before .before .before .enum-told .given .1) (a .ids .now) (a .work-floats .now) (d .last .1 .1 .1 .1 .1 .1 .1 .1 .1 .0) (d .ensures .1 .1) _ _ _ (c .before .before .before .before .by-lists .ensures)
 
 pub by-graph-spec : {M : Type 1} → statement M
 by-graph-spec =

@@ -5,9 +5,22 @@ use native.Mathlib.Omega.{arith}
 use lib.ListN.{length}
 use Rattle.definitions.specs.Matrix.{csr}
 use Rattle.adjacency.proofs.Flats.{flat-graph, flat-strong, none-padded}
+use Rattle.adjacency.proofs.Reading.{formed-graph, formed-strong}
 use borrow.Author.Needs.{needs}
 use Rattle.adjacency.proofs.build.fill.Statement.{statement}
 use Rattle.adjacency.proofs.build.fill.Tie as tie
+
+linked-requires : tie.Need-linked-requires
+linked-requires c κs =
+    let b = c .before .before .before .before .before .before .before .before .before in
+    let a = b .args in
+    (formed-graph (a .nodes) (a .size) (a .row-ptr .now) (a .col-idx .now) (a .values .now) (a .aggregation) (c .before .before .enum-told2 .given .1) (b .pre .0), b .pre .1)
+
+linked-requires-2 : tie.Need-linked-requires-2
+linked-requires-2 c κs =
+    let b = c .before .before .before .before .before .before .before .before .before in
+    let a = b .args in
+    (formed-strong (a .nodes) (a .size) (a .row-ptr .now) (a .col-idx .now) (a .values .now) (a .aggregation) (c .before .before .enum-told3 .given .1) (b .pre .0), b .pre .1)
 
 returns : tie.Need-returns
 returns c =
@@ -34,9 +47,9 @@ fill-spec =
     (λ c. search needs)
     (λ c κs. search needs)
     (λ c. search needs)
-    (λ c κs. search needs)
+    linked-requires
     (λ c. search needs)
-    (λ c κs. search needs)
+    linked-requires-2
     (λ c. search needs)
     returns
     (λ c. search needs)

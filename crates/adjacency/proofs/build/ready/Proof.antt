@@ -1,6 +1,7 @@
 -- Cleared lists bear no stamp and no strength; the norms are made if they are wanted.
 use Prim.Native.Nat.{_*_}
 use mathlib.Core.Path.{refl, sym, _∙_}
+use mathlib.Core.Bool.{true}
 use native.Mathlib.Omega.{arith}
 use mathlib.Core.List.{_++_}
 use lib.ListN.{length, take, drop}
@@ -8,6 +9,7 @@ use lib.Seq.{length-take-le, length-front}
 use Rattle.definitions.specs.Matrix.{csr}
 use Rattle.adjacency.proofs.Norming.{ready-even, ready-norms, plain-blank}
 use Rattle.adjacency.proofs.Parts.{take-front}
+use Rattle.adjacency.proofs.Reading.{formed-as}
 use borrow.Author.Needs.{needs}
 use Rattle.adjacency.proofs.build.ready.Statement.{statement}
 use Rattle.adjacency.proofs.build.ready.Tie as tie
@@ -20,7 +22,9 @@ slice-aggregate-zero-ints c =
 norms-requires : tie.Need-norms-requires
 norms-requires c κs =
     let b = c .before .before .before .before .before .before .before .before .before .before .before .before .before .before .before in
-    (b .pre .0, (omega (arith, b .pre .1 .1, c .before .before .before .before .zero-floats .kept .0), plain-blank (length (b .args .floats .now)) (c .before .before .before .before .zero-floats .last .0) (c .before .before .before .before .zero-floats .ensures)))
+    let a = b .args in
+    let w = formed-as (a .nodes) (a .size) (a .row-ptr .now) (a .col-idx .now) (a .values .now) (a .strong) true (c .before .if1 .taken) (b .pre .0) in
+    (w, (omega (arith, b .pre .1 .1, c .before .before .before .before .zero-floats .kept .0), plain-blank (length (b .args .floats .now)) (c .before .before .before .before .zero-floats .last .0) (c .before .before .before .before .zero-floats .ensures)))
 
 returns : tie.Need-returns
 returns c =

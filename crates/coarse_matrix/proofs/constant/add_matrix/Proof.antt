@@ -4,9 +4,10 @@ use native.Mathlib.Omega.{arith}
 use lib.ListN.{length}
 use Rattle.definitions.specs.Matrix.{rowOf}
 use Rattle.definitions.specs.Transfer.{coarseColumn}
-use Rattle.coarse_matrix.specs.Scatter.{scattered, rowPuts, moved}
+use Rattle.laws.specs.Scatter.{scattered}
+use Rattle.coarse_matrix.specs.Scatter.{rowPuts, moved}
 use Rattle.definitions.specs.Matrix.{stored}
-use Rattle.coarse_matrix.proofs.Scattered.{none-step, length-scatter}
+use Rattle.laws.proofs.Scattering.{none-step, length-scatter}
 use Rattle.coarse_matrix.proofs.Squares.{row-fits, row-stored, matrix-step}
 use borrow.Author.Needs.{needs}
 use Rattle.coarse_matrix.proofs.constant.add_matrix.Statement.{statement}

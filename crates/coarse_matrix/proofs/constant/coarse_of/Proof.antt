@@ -1,7 +1,6 @@
 -- The id of the row's node, times the block size, plus the component.
-use native.Mathlib.Nat.{mod-eq-sub-div-mul, div-mul-le-self}
 use native.Mathlib.Omega.{arith}
-use Rattle.definitions.specs.Transfer.{coarseColumn}
+use Rattle.laws.proofs.CoarseColumns.{node-rows, column-is, column-from}
 use borrow.Author.Needs.{needs}
 use Rattle.coarse_matrix.proofs.constant.coarse_of.Statement.{statement}
 use Rattle.coarse_matrix.proofs.constant.coarse_of.Tie as tie
@@ -10,26 +9,29 @@ shared-slice-read-wide : tie.Need-shared-slice-read-wide
 shared-slice-read-wide c = rw (c .before .quotient .ensures) (c .before .before .before .pre .1)
 
 mul-result : tie.Need-mul-result
-unfolding coarseColumn
-mul-result c = rw (c .wide .ensures, c .before .before .quotient .ensures) (omega (arith, c .before .before .before .before .pre .2))
+mul-result c =
+    let p = c .before .before .before .before in
+    omega (arith, p .pre .2, column-from (p .args .size) (p .args .ids .now) (p .args .row) _ _ (c .before .before .quotient .ensures) (c .wide .ensures))
 
 mul-result-2 : tie.Need-mul-result-2
-mul-result-2 c = let a = c .before .before .before .before .args in rw (c .before .before .quotient .ensures) (omega (arith, div-mul-le-self (a .row) (a .size)))
+mul-result-2 c =
+    let a = c .before .before .before .before .args in
+    omega (arith, node-rows (a .size) (a .ids .now) (a .row) _ _ (c .before .before .quotient .ensures) (c .wide .ensures))
 
 sub-result : tie.Need-sub-result
-sub-result c = let a = c .before .before .before .before .args in rw (c .before .before .quotient .ensures) (omega (arith, div-mul-le-self (a .row) (a .size)))
+sub-result c =
+    let a = c .before .before .before .before .args in
+    omega (arith, node-rows (a .size) (a .ids .now) (a .row) _ _ (c .before .before .quotient .ensures) (c .wide .ensures))
 
 add-result : tie.Need-add-result
-unfolding coarseColumn
 add-result c =
-    let a = c .before .before .before .before .args in
-    rw (c .wide .ensures, c .before .before .quotient .ensures, ← mod-eq-sub-div-mul (a .row) (a .size)) (omega (arith, c .before .before .before .before .pre .2))
+    let p = c .before .before .before .before in
+    rw (column-is (p .args .size) (p .args .ids .now) (p .args .row) _ _ (c .before .before .quotient .ensures) (c .wide .ensures)) (omega (arith, p .pre .2))
 
 returns : tie.Need-returns
-unfolding coarseColumn
 returns c =
     let a = c .before .before .before .before .args in
-    rw (c .wide .ensures, c .before .before .quotient .ensures, ← mod-eq-sub-div-mul (a .row) (a .size))
+    column-is (a .size) (a .ids .now) (a .row) _ _ (c .before .before .quotient .ensures) (c .wide .ensures)
 
 pub coarse-of-spec : {M : Type 1} → statement M
 coarse-of-spec =

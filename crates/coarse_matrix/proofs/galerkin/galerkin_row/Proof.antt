@@ -1,8 +1,8 @@
 use lib.ListN.{length, take, drop}
 use Rattle.definitions.specs.Matrix.{csr, rowOf, entriesOf}
 use Rattle.coarse_matrix.specs.Galerkin.{Put, productPuts, weighedPuts}
-use Rattle.coarse_matrix.specs.Scatter.{scatter}
-use Rattle.coarse_matrix.proofs.Scattered.{length-scatter}
+use Rattle.laws.specs.Scatter.{scatter}
+use Rattle.laws.proofs.Scattering.{length-scatter}
 use Rattle.coarse_matrix.proofs.Squares.{row-stored}
 use Rattle.coarse_matrix.proofs.Product.{room-first, row-count, row-below, row-law, row-is, entries-are}
 use Prim.Native.Nat.{suc, _+_, _*_}

@@ -1,9 +1,9 @@
 use lib.ListN.{length, getD, take, drop}
 use lib.Ieee.{nan}
 use Rattle.definitions.specs.Numbers.{_*ᶠ_}
-use Rattle.coarse_matrix.specs.Scatter.{scatter}
+use Rattle.laws.specs.Scatter.{scatter}
 use Rattle.coarse_matrix.specs.Galerkin.{weightPuts}
-use Rattle.coarse_matrix.proofs.Scattered.{length-scatter}
+use Rattle.laws.proofs.Scattering.{length-scatter}
 use Rattle.coarse_matrix.proofs.Weighing.{weigh-none, weigh-more}
 use Prim.Native.Nat.{_+_, _<_, _≤_, _-_}
 use mathlib.Core.Path.{_≡_, refl, ap, _∙_}

@@ -1,8 +1,8 @@
 use lib.ListN.{length, take, drop}
 use Rattle.definitions.specs.Matrix.{stored}
-use Rattle.coarse_matrix.specs.Scatter.{scatter}
+use Rattle.laws.specs.Scatter.{scatter}
 use Rattle.coarse_matrix.specs.Galerkin.{weighedPuts}
-use Rattle.coarse_matrix.proofs.Scattered.{length-scatter}
+use Rattle.laws.proofs.Scattering.{length-scatter}
 use Rattle.coarse_matrix.proofs.Weighing.{weighed-none, weighed-more, listed-below, row-room}
 use Prim.Native.Nat.{_*_, _<_, _≤_, _-_}
 use mathlib.Core.Path.{_≡_, refl, ap, _∙_}

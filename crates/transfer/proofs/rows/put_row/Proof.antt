@@ -6,7 +6,7 @@ use native.Mathlib.Omega.{arith}
 use lib.ListN.{length, take, drop}
 use Rattle.definitions.specs.Matrix.{csr}
 use Rattle.definitions.specs.Transfer.{transferRow}
-use Rattle.transfer.specs.Touched.{Below}
+use Rattle.laws.specs.Bounds.{Below}
 use Rattle.transfer.specs.Weights.{Parted}
 use lib.Seq.{length-take-le}
 use Rattle.transfer.proofs.Rowwise.{room-law}

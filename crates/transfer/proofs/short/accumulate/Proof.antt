@@ -27,7 +27,7 @@ column-ok : (c : tie.After-wide Inv-loop μ-loop) → c .wide .result < c .befor
 column-ok c = let s = c .before .before .before .before .before .before .before .before .before in rw (c .wide .ensures) (s .pre .1 .0 (c .before .before .before .loop .k) (omega arith))
 
 place-ok : (c : tie.After-coarse-of Inv-loop μ-loop) → (c .coarse-of .result < length (c .before .before .before .before .before .before .before .before .before .before .args .w .now)) × (length (c .before .before .before .before .before .before .before .before .before .before .args .w .now) ≤ 2 ^ 32)
-place-ok c = let g = c .before .before .before .before .before .before .before .before .before .before .pre .1 .1 .0 in (rw (c .coarse-of .ensures) (g .within (c .before .wide .result) (column-ok (c .before))), g .small)
+place-ok c = let g = c .before .before .before .before .before .before .before .before .before .before .pre .1 .1 .0 in (rw (c .coarse-of .ensures) (g .within (c .before .wide .result) (column-ok (c .before))), omega (arith, g .small))
 
 spread-ok : (c : tie.After-coarse-of Inv-loop μ-loop) → Spread (insertOnce (c .coarse-of .result) (take (c .before .before .before .before .loop .n) (c .before .before .before .before .loop .t))) (length (c .before .before .before .before .before .before .before .before .before .before .args .w .now))
 spread-ok c = let l = c .before .before .before .before .loop in spread-insert (take (l .n) (l .t)) (c .coarse-of .result) (length (c .before .before .before .before .before .before .before .before .before .before .args .w .now)) (l .inv .5) (place-ok c .0)

@@ -10,8 +10,8 @@ use Rattle.definitions.specs.Matrix.{stored}
 use Rattle.definitions.specs.Transfer.{coarseColumn}
 use Rattle.transfer.specs.Touched.{named, Visited}
 use Rattle.transfer.proofs.Visiting.{visited-named, visited-all, visited-below, named-below, take-one, start-spread, gathered-room}
-use Rattle.transfer.proofs.Weighing.{weighed-settled}
-use Rattle.transfer.proofs.Accumulating.{accumulated-settled}
+use Rattle.transfer.proofs.Weighing.{weighed-row}
+use Rattle.transfer.proofs.Accumulating.{accumulated-row}
 use borrow.Author.Needs.{needs}
 use Rattle.transfer.proofs.weights.weigh_row.Statement.{statement}
 use Rattle.transfer.proofs.weights.weigh_row.Tie as tie
@@ -46,7 +46,7 @@ returns c =
     let b = named-below (coarseColumn (a .size) (a .ids .now)) (a .cols) (length (a .w .now)) (a .from) (a .to) (a .idx .now) (s .pre .1 .0) (s .pre .1 .1 .within) (omega (arith, s .pre .0)) in
     let g = rw o at (i .ensures .0) in (
       visited-named (a .own) (length (a .w .now)) (named (coarseColumn (a .size) (a .ids .now)) (slice (a .from) (a .to) (a .idx .now))) t (i .result) h b l (gathered-room (a .own) (length (a .w .now)) (named (coarseColumn (a .size) (a .ids .now)) (slice (a .from) (a .to) (a .idx .now))) t (i .result) h b g) g,
-      accumulated-settled (a .idx .now) (a .vals .now) (coarseColumn (a .size) (a .ids .now)) (a .damping) (oneᶠ /ᶠ a .d) (a .from) (a .to) (a .own) (s .pre .0 .2) (s .pre .0 .1) (a .w .now) h (take (i .result) t) (i .last .1 .1 .1 .1 .1 .1 .1 .1 .1 .1 .0) (g .front) (rw o at (i .ensures .1)) (i .kept .1 .1 .1 .1 .1 .1 .1 .1 .1 .1 .0 ∙ length-set (a .w .now) (a .own) oneᶠ),
+      accumulated-row (a .idx .now) (a .vals .now) (coarseColumn (a .size) (a .ids .now)) (a .damping) (oneᶠ /ᶠ a .d) (a .from) (a .to) (a .own) (s .pre .0 .2) (s .pre .0 .1) (a .w .now) h (take (i .result) t) (i .last .1 .1 .1 .1 .1 .1 .1 .1 .1 .1 .0) (g .front) (rw o at (i .ensures .1)) (i .kept .1 .1 .1 .1 .1 .1 .1 .1 .1 .1 .0 ∙ length-set (a .w .now) (a .own) oneᶠ),
     )
 
 fill-requires : tie.Need-fill-requires
@@ -76,7 +76,7 @@ returns-2 c =
     let a = s .args in
     let t = c .before .before .before .before .before .before .before .fill .last .0 in
     let w = c .before .before .weigh in
-    (all-ok (c .before .before .before .before .before .before .before), weighed-settled (coarseColumn (a .size) (a .ids .now)) (a .damping) (oneᶠ /ᶠ a .d) (a .own) (stored (a .idx .now) (a .vals .now) (a .from) (a .to)) (take (length t) t) (a .w .now) (w .last .1 .1 .1 .1 .1 .1 .1 .1 .1 .1 .1 .0) (w .ensures) (w .kept .1 .1 .1 .1 .1 .1 .1 .1 .1 .1 .1 .0))
+    (all-ok (c .before .before .before .before .before .before .before), weighed-row (coarseColumn (a .size) (a .ids .now)) (a .damping) (oneᶠ /ᶠ a .d) (a .own) (stored (a .idx .now) (a .vals .now) (a .from) (a .to)) (take (length t) t) (a .w .now) (w .last .1 .1 .1 .1 .1 .1 .1 .1 .1 .1 .1 .0) (w .ensures) (w .kept .1 .1 .1 .1 .1 .1 .1 .1 .1 .1 .1 .0))
 
 pub weigh-row-spec : {M : Type 1} → statement M
 weigh-row-spec =

@@ -1,22 +1,25 @@
--- The scatter law: what stands at j after scattering is what stood there and the numbers put there, in order.
+-- Scattering, element by element: what stands at j is what stood there and the numbers put there, in order.
 use Prim.Native.Nat.{ℕ, zero, suc, _+_, _<_}
 use mathlib.Core.Path.{_≡_, refl, sym, _∙_}
 use mathlib.Core.Bool.{Bool, true, false}
 use mathlib.Core.List.{List, [], _∷_, flatMap, foldl, foldl-append}
+use native.Mathlib.Omega.{arith}
+use native.Mathlib.Nat.{add-zero, add-suc}
 use native.Mathlib.Numerals.{add-one}
 use lib.Dec.{eqb}
 use lib.ListN.{length, getD, length-set}
 use lib.Seq.{getD-set-same, getD-set-other}
 use lib.Ieee.{Float, nan}
 use borrow.Author.Tests.{eqb-true, eqb-false}
-use Rattle.definitions.specs.Lists.{upTo}
-use Rattle.definitions.specs.Numbers.{_+ᶠ_}
+use Rattle.definitions.specs.Lists.{tab, upTo}
+use Rattle.definitions.specs.Numbers.{_+ᶠ_, zeroᶠ, total}
 use Rattle.definitions.specs.Matrix.{Entry, valuesWhere}
-use Rattle.laws.proofs.Growing.{flatMap-snoc, upTo-snoc, rows-none}
-use Rattle.csr32.proofs.Stored.{where-hit, where-miss, where-none}
-use Rattle.coarse_matrix.specs.Scatter.{bump, scatter, scattered}
+use Rattle.laws.proofs.Lists.{length-tab, getD-tab, tab-is}
+use Rattle.laws.proofs.Growing.{upTo-snoc, flatMap-snoc, rows-none}
+use Rattle.laws.proofs.Kept.{where-hit, where-miss, where-none}
+use Rattle.laws.specs.Scatter.{put, bump, scatter, scattered, single}
 
--- ---- THE SCATTER LAW
+-- ---- the law of scattering
 
 pub length-scatter : (es : List Entry) (l : List Float) → length (scatter es l) ≡ length l
 unfolding scatter
@@ -58,13 +61,47 @@ module _ (puts : ℕ → List Entry) (l : List Float) where
       scatter-at (puts n) (scattered puts n l) j (rw (length-scattered n) h)
       ∙ rw (upTo-snoc n, flatMap-snoc (λ r. putsAt j (puts r)) (upTo n) n, foldl-append plus, scattered-at n j h)
 
+-- from zeros: element j is the sum of what the rows put there. `terms` is how a definition lists those
+pub scatter-law : (puts : ℕ → List Entry) (n c : ℕ) (terms : ℕ → List Float) → ((j : ℕ) → flatMap (λ r. putsAt j (puts r)) (upTo n) ≡ terms j)
+    → scattered puts n (tab (λ _. zeroᶠ) c) ≡ tab (λ j. total (terms j)) c
+unfolding total
+scatter-law puts n c terms same =
+    tab-is nan (scattered puts n blank) (λ j. total (terms j)) c (length-scattered puts blank n ∙ length-tab (λ _. zeroᶠ) c)
+    (λ j h. scattered-at puts blank n j (rw (length-tab (λ _. zeroᶠ) c) h) ∙ rw (getD-tab (λ _. zeroᶠ) c j nan h, same j))
+  where
+    blank : List Float
+    blank = tab (λ _. zeroᶠ) c
+
 -- ---- steps of loops
+
+pub none-step : (puts : ℕ → List Entry) (l₀ : List Float) → l₀ ≡ scattered puts 0 l₀
+unfolding scattered
+none-step puts l₀ = refl
 
 -- a row more, by its list of puts
 pub rows-step : (puts : ℕ → List Entry) (l₀ l m : List Float) (i : ℕ) → l ≡ scattered puts i l₀ → m ≡ scatter (puts i) l → m ≡ scattered puts (i + 1) l₀
 unfolding scattered
 rows-step puts l₀ l m i e q = rw (q, e, add-one)
 
-pub none-step : (puts : ℕ → List Entry) (l₀ : List Float) → l₀ ≡ scattered puts 0 l₀
+-- a row of one put more
+pub single-step : (p : ℕ → ℕ) (x : ℕ → Float) (l₀ l m : List Float) (i at : ℕ) (v : Float) → l ≡ scattered (single p x) i l₀ → at ≡ p i → v ≡ x i → m ≡ bump l (put at v)
+    → m ≡ scattered (single p x) (i + 1) l₀
+unfolding scatter
+single-step p x l₀ l m i at v e f g q = rows-step (single p x) l₀ l m i e (rw (q, f, g))
+
+scattered-add : (puts : ℕ → List Entry) (l : List Float) (m k : ℕ) → scattered puts (m + k) l ≡ scattered (λ j. puts (m + j)) k (scattered puts m l)
 unfolding scattered
-none-step puts l₀ = refl
+scattered-add puts l m zero = rw add-zero
+scattered-add puts l m (suc k) = rw (add-suc m k, scattered, scattered-add puts l m k)
+
+scattered-cong : (f g : ℕ → List Entry) (l : List Float) (n : ℕ) → ((j : ℕ) → j < n → f j ≡ g j) → scattered f n l ≡ scattered g n l
+unfolding scattered
+scattered-cong f g l zero h = refl
+scattered-cong f g l (suc n) h = rw (scattered-cong f g l n (λ j k. h j (omega arith)), h n (omega arith))
+
+-- a node's rows more
+pub node-step : (p q : ℕ → ℕ) (x y : ℕ → Float) (l₀ l m : List Float) (first size : ℕ)
+    → ((j : ℕ) → j < size → q j ≡ p (first + j)) → ((j : ℕ) → j < size → y j ≡ x (first + j))
+    → l ≡ scattered (single p x) first l₀ → m ≡ scattered (single q y) size l → m ≡ scattered (single p x) (first + size) l₀
+node-step p q x y l₀ l m first size h k e f =
+    f ∙ scattered-cong (single q y) (λ j. single p x (first + j)) l size (λ j b. rw (h j b, k j b)) ∙ rw e (sym (scattered-add (single p x) l₀ first size))
