@@ -2,4 +2,4 @@ pub mod Products
 pub mod Limits
 pub mod Scan
 pub mod RowsFit
-pub mod Fitting
+pub mod Misfits

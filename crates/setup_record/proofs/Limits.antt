@@ -6,11 +6,13 @@ use mathlib.Core.Path.{_≡_, refl}
 use mathlib.Core.Bool.{Bool, true, false, _&&_}
 use lib.Dec.{leb, eqb}
 use borrow.Author.Tests.{leb-true, eqb-true}
-use Rattle.definitions.specs.Places.{usedInts}
+use Rattle.definitions.specs.Places.{usedInts, placesOf}
 use Rattle.definitions.specs.Fits.{withinLimits, isResolved, transfersFit}
 use Rattle.definitions.specs.declared.Setup.{Setup}
+use Rattle.definitions.specs.declared.Places.{Places}
 use Rattle.definitions.specs.declared.TwoLevelBasis.{TwoLevelBasis}
 use Rattle.definitions.specs.declared.TwoLevelBasis.the-variants.{PiecewiseConstant, JacobiSmoothed}
+use Rattle.layout.proofs.Sizes.{at}
 use Rattle.setup_record.specs.Sizes.{sizesFit}
 use Rattle.setup_record.proofs.Products.{product-fits}
 
@@ -118,3 +120,17 @@ pub ids-room : (b : TwoLevelBasis) (s : Setup) (n : ℕ) → usedInts b s ≤ n 
 unfolding usedInts
 ids-room PiecewiseConstant s n h = h
 ids-room JacobiSmoothed s n h = omega arith
+
+-- the transfer's parts, of a smoothed basis: within a list of n
+pub record Rowed (s : Setup) (p : Places) (n : ℕ) : Type 0 where
+  pub rows : s .rows ≤ 1048576
+  pub transfers : s .transfers ≤ 17825792
+  pub pointers : p .pointers + s .rows + 1 ≡ p .columns
+  pub columns : p .columns ≤ 2097153
+  pub room : p .columns + s .transfers ≤ n
+
+pub rowed-of : (b : TwoLevelBasis) (s : Setup) (p : Places) (n : ℕ) → sizesFit s ≡ true → p ≡ placesOf s → b ≡ JacobiSmoothed → usedInts b s ≤ n → Rowed s p n
+rowed-of b s p n e f g h =
+    let k = bounds-of s e in
+    let a = at s p f in
+    record { rows = k .rows; transfers = k .transfers; pointers = omega (arith, a .pointers, a .columns); columns = omega (arith, k .rows, k .nodes, a .columns); room = omega (arith, a .columns, smoothed-room b s n g h) }

@@ -1,10 +1,9 @@
 -- The four tests of compressed rows, in the order in which the code asks.
-use Prim.Native.Nat.{ℕ, _+_, _*_, _≤_}
+use Prim.Native.Nat.{ℕ, _+_}
 use mathlib.Core.Path.{_≡_, refl}
 use mathlib.Core.Bool.{true, false}
 use mathlib.Core.List.{List, [], _∷_}
 use native.Mathlib.Omega.{arith}
-use native.Mathlib.Nat.{mul-le-mul-left, mul-le-mul-right, le-trans}
 use lib.Dec.{ltb}
 use lib.ListN.{length, getD}
 use borrow.Author.Tests.{eq-eqb, ne-eqb}
@@ -31,10 +30,3 @@ module _ (ptr idx : List ℕ) (rows count c : ℕ) (h : length ptr ≡ rows + 1)
   pub columns : getD ptr 0 0 ≡ 0 → falls ptr ≡ false → getD ptr rows 0 ≡ count → all (λ k. ltb k c) idx ≡ rowsFit ptr idx rows count c
   unfolding rowsFit
   columns e f g = rw (first-is ptr rows h, eq-eqb (getD ptr 0 0) 0 e, f, eq-eqb (getD ptr rows 0) count g)
-
--- a square of a coarse dimension, and its packed half
-pub square-fits : (c d : ℕ) → c ≤ 2048 → d ≤ 2049 → c * d ≤ 4196352
-square-fits c d h k = le-trans (mul-le-mul-right d h) (mul-le-mul-left 2048 k)
-
-pub whole-fits : (c : ℕ) → c ≤ 2048 → c * c ≤ 4194304
-whole-fits c h = le-trans (mul-le-mul-right c h) (mul-le-mul-left 2048 h)

@@ -4,6 +4,7 @@ use definitions::MAX_COARSE;
 use definitions::MAX_ENTRIES;
 use definitions::MAX_GROUP;
 use definitions::MAX_ROWS;
+use definitions::Places;
 use definitions::Setup;
 use definitions::TwoLevelBasis;
 use definitions::TwoLevelCoarseApplyPolicy;
@@ -13,10 +14,15 @@ ghost use Prim.Native.Nat.{_+_, _*_, _≤_};
 ghost use lib.Dec.{eqb, ltb};
 ghost use lib.ListN.{length};
 ghost use Rattle.definitions.specs.Lists.{all};
-ghost use Rattle.definitions.specs.Coarse.{coarseLength};
-ghost use Rattle.definitions.specs.Places.{usedInts, usedFloats};
+ghost use Rattle.definitions.specs.Places.{usedInts, placesOf};
 ghost use Rattle.definitions.specs.Fits.{withinLimits, isResolved, transfersFit, transferFits, setupFits};
-ghost use Rattle.setup_record.specs.Sizes.{sizesFit, rowsFit};
+ghost use Rattle.setup_record.specs.Sizes.{sizesFit, rowsFit, fittingOf};
+
+// Whether a setup's lists fit their record, and if so where their parts stand.
+pub enum Fitting {
+    Fits(Places),
+    Misfit,
+}
 
 fn both(a: bool, b: bool) -> bool
     ensures { λ r. ⌜ r ≡ (a && b) ⌝ }
@@ -118,67 +124,53 @@ fn rows_fit(ptr: &[u32], idx: &[u32], rows: usize, count: u64, c: u64) -> bool
     false
 }
 
-fn coarse_length(policy: TwoLevelCoarseApplyPolicy, c: usize) -> usize
-    requires { ⌜ c ≤ 2048 ⌝ }
-    ensures { λ r. ⌜ (r ≡ coarseLength policy c) × (r ≤ 4194304) ⌝ }
-{
-    match policy {
-        TwoLevelCoarseApplyPolicy::Auto => c * (c + 1) / 2,
-        TwoLevelCoarseApplyPolicy::FactorSolve => c * (c + 1) / 2,
-        TwoLevelCoarseApplyPolicy::ExplicitInverse => c * c,
-    }
-}
-
-fn used_ints(basis: TwoLevelBasis, s: Setup) -> usize
-    requires { ⌜ sizesFit s ≡ true ⌝ }
-    ensures { λ r. ⌜ r ≡ usedInts basis s ⌝ }
-{
-    match basis {
-        TwoLevelBasis::PiecewiseConstant => s.nodes as usize,
-        TwoLevelBasis::JacobiSmoothed => (s.nodes + s.rows + 1 + s.transfers) as usize,
-    }
-}
-
-fn used_floats(s: Setup) -> usize
-    requires { ⌜ sizesFit s ≡ true ⌝ }
-    ensures { λ r. ⌜ r ≡ usedFloats s ⌝ }
-{
-    let policy = s.policy;
-    let part = coarse_length(policy, s.coarse as usize);
-    (s.rows * s.block + s.transfers) as usize + part
-}
-
-fn transfer_fits(basis: TwoLevelBasis, s: Setup, ints: &[u32]) -> bool
-    requires { ⌜ sizesFit s ≡ true ⌝ }
-    requires { ⌜ usedInts basis s ≤ length (now ints) ⌝ }
+fn transfer_fits(basis: TwoLevelBasis, s: Setup, p: Places, ints: &[u32]) -> bool
+    requires { ⌜ (sizesFit s ≡ true) × (p ≡ placesOf s) × (usedInts basis s ≤ length (now ints)) ⌝ }
     ensures { λ r. ⌜ r ≡ transferFits basis s (now (ints .entry)) ⌝ }
 {
     match basis {
         TwoLevelBasis::PiecewiseConstant => true,
         TwoLevelBasis::JacobiSmoothed => {
-            let rows = s.rows as usize;
-            let a = s.nodes as usize;
-            let b = a + rows + 1;
+            let a = p.pointers;
+            let b = p.columns;
             let e = b + s.transfers as usize;
-            rows_fit(&ints[a..b], &ints[b..e], rows, s.transfers, s.coarse)
+            rows_fit(
+                &ints[a..b],
+                &ints[b..e],
+                s.rows as usize,
+                s.transfers,
+                s.coarse,
+            )
         }
     }
 }
 
-// Everything that a setup's record and lists must meet, and nothing else.
-pub fn setup_fits(s: Setup, ints: &[u32], floats: &[f64]) -> bool
+// Whether the lists meet what a record that meets its own part asks of them.
+fn lists_fit(s: Setup, p: Places, ints: &[u32], floats: &[f64]) -> bool
+    requires { ⌜ (sizesFit s ≡ true) × (p ≡ placesOf s) ⌝ }
     ensures { λ r. ⌜ r ≡ setupFits s (now (ints .entry)) (now (floats .entry)) ⌝ }
 {
-    if sizes_fit(s) {
-        let basis = s.basis;
-        if used_ints(basis, s) <= ints.len() {
-            if used_floats(s) <= floats.len() {
-                let n = s.nodes as usize;
-                if all_below(&ints[..n], s.groups) {
-                    return transfer_fits(basis, s, ints);
-                }
+    if p.ints <= ints.len() {
+        if p.floats <= floats.len() {
+            let n = p.pointers;
+            if all_below(&ints[..n], s.groups) {
+                let basis = s.basis;
+                return transfer_fits(basis, s, p, ints);
             }
         }
     }
     false
+}
+
+// Everything that a setup's record and lists must meet, and nothing else; and the places of the lists' parts, where they do.
+pub fn setup_fits(s: Setup, ints: &[u32], floats: &[f64]) -> Fitting
+    ensures { λ r. ⌜ r ≡ fittingOf s (now (ints .entry)) (now (floats .entry)) ⌝ }
+{
+    if sizes_fit(s) {
+        let p = layout::places(s);
+        if lists_fit(s, p, ints, floats) {
+            return Fitting::Fits(p);
+        }
+    }
+    Fitting::Misfit
 }

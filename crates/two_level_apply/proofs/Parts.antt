@@ -12,10 +12,12 @@ use lib.Ieee.{Float}
 use borrow.Author.Tests.{leb-true, ltb-true, ltb-false, eqb-true, not-true}
 use Rattle.definitions.specs.Lists.{all, falls, tab}
 use Rattle.definitions.specs.Coarse.{coarseLength}
-use Rattle.definitions.specs.Places.{idsIn, pointersIn, columnsIn, weightsIn, usedInts, usedFloats}
+use Rattle.definitions.specs.Places.{idsIn, pointersIn, columnsIn, weightsIn, usedInts, usedFloats, placesOf}
 use Rattle.definitions.specs.Fits.{transferFits, setupFits}
 use Rattle.definitions.specs.declared.Setup.{Setup}
+use Rattle.definitions.specs.declared.Places.{Places}
 use Rattle.definitions.specs.declared.TwoLevelBasis.the-variants.{JacobiSmoothed}
+use Rattle.layout.proofs.Sizes.{at}
 use Rattle.setup_record.specs.Sizes.{sizesFit}
 use Rattle.setup_record.proofs.Limits.{and-left, and-right, Bounds, Sized, bounds-of, sized-of, smoothed-room, ids-room}
 use Rattle.two_level_apply.specs.Scatter.{Below, Rows, Grouped}
@@ -51,13 +53,14 @@ up-to ptr e i (suc k) h =
 ends-at : (ptr : List ℕ) (rows t : ℕ) → falls ptr ≡ false → length ptr ≡ suc rows → getD ptr rows 0 ≡ t → (i : ℕ) → i < suc rows → getD ptr i 0 ≤ t
 ends-at ptr rows t f l e i h = let z : i + (rows - i) ≡ rows = omega arith in rw (← e) (rw z at (up-to ptr f i (rows - i) (rw (z, l) (omega arith))))
 
-pub record Room (s : Setup) (i f : ℕ) : Type 0 where
-  pub rows : s .rows ≤ 1048576
-  pub nodes : s .nodes ≤ s .rows
+-- where the parts of a smoothed transfer stand
+pub record Room (s : Setup) (p : Places) (i f : ℕ) : Type 0 where
+  pub pointers : p .pointers ≤ p .columns
+  pub columns : p .columns ≤ 2097153
   pub transfers : s .transfers ≤ 17825792
-  pub factors : s .rows * s .block ≤ 8388608
-  pub ints : s .nodes + s .rows + 1 + s .transfers ≤ i
-  pub floats : s .rows * s .block + s .transfers ≤ f
+  pub ints : p .columns + s .transfers ≤ i
+  pub weights : p .weights ≤ p .coarse
+  pub floats : p .coarse ≤ f
 
 -- the front of a list, filled
 pub front : {A : Type 0} (w m : List A) (f : ℕ → A) (c : ℕ) → c ≤ length w → m ≡ tab f (length (take c w)) → m ++ drop c w ≡ tab f c ++ drop c w
@@ -119,6 +122,9 @@ module _ (s : Setup) (ints : List ℕ) (floats : List Float) (fits : setupFits s
   pub weights-long : length (weightsIn s floats) ≡ s .transfers
   weights-long = simp (length-take, length-drop) (omega (arith, weights-room))
 
+  pub coarse-room : (p : Places) → p ≡ placesOf s → p .coarse ≤ length floats
+  coarse-room p e = omega (arith, at s p e .coarse, weights-room)
+
   module _ (smoothed : s .basis ≡ JacobiSmoothed) where
     pub rows-room : s .nodes + s .rows + 1 + s .transfers ≤ length ints
     rows-room = smoothed-room (s .basis) s (length ints) smoothed ints-room
@@ -158,14 +164,14 @@ module _ (s : Setup) (ints : List ℕ) (floats : List Float) (fits : setupFits s
           within = all-below (s .coarse) (columnsIn s ints) (and-right (t1 && t2 && t3) t4 tests);
         }
 
-    -- what the positions of the parts need
-    pub room : Room s (length ints) (length floats)
-    room =
+    pub room : (p : Places) → p ≡ placesOf s → Room s p (length ints) (length floats)
+    room p e =
+        let k = at s p e in
         record {
-          rows = bounds .rows;
-          nodes = bounds .nodes;
+          pointers = omega (arith, k .pointers, k .columns);
+          columns = omega (arith, k .columns, bounds .rows, bounds .nodes);
           transfers = bounds .transfers;
-          factors = bounds .factors;
-          ints = rows-room;
-          floats = omega (arith, weights-room);
+          ints = omega (arith, k .columns, rows-room);
+          weights = omega (arith, k .weights, k .coarse);
+          floats = coarse-room p e;
         }

@@ -1,12 +1,18 @@
 -- Loops that add into a list: what they leave, by the numbers put, in order.
 use Prim.Native.Nat.{ℕ, zero, suc, _+_, _*_, _<_, _≤_}
 use mathlib.Core.Path.{_≡_}
+use mathlib.Core.Bool.{true}
 use mathlib.Core.List.{List, [], _∷_, map, foldl}
 use lib.ListN.{length, getD, set}
 use lib.Ieee.{Float, nan}
+use Rattle.definitions.specs.Lists.{tab}
 use Rattle.definitions.specs.Numbers.{_+ᶠ_, _*ᶠ_, summed}
 use Rattle.definitions.specs.Matrix.{Entry}
-use Rattle.definitions.specs.Apply.{prolongationTerms}
+use Rattle.definitions.specs.Places.{placesOf}
+use Rattle.definitions.specs.Fits.{setupFits}
+use Rattle.definitions.specs.Apply.{prolongationTerms, gained}
+use Rattle.definitions.specs.declared.Setup.{Setup}
+use Rattle.definitions.specs.declared.Places.{Places}
 
 abbrev pub put : ℕ → Float → Entry
 put k x = record { col = k; value = x }
@@ -68,3 +74,12 @@ pub record Grouped (size : ℕ) (ids : List ℕ) (n c : ℕ) : Type 0 where
   pub some : 0 < size
   pub rows : n ≡ length ids * size
   pub within : (k : ℕ) → k < length ids → getD ids k 0 * size + size ≤ c
+
+-- a record and lists that fit each other, with the places of their parts
+pub record Laid (s : Setup) (p : Places) (ints : List ℕ) (floats : List Float) : Type 0 where
+  pub fits : setupFits s ints floats ≡ true
+  pub places : p ≡ placesOf s
+
+-- every row with what it gains of a coarse solution
+abbrev pub prolonged : Setup → List ℕ → List Float → List Float → List Float → List Float
+prolonged s ints floats sol z = tab (λ i. getD z i nan +ᶠ gained s ints floats (s .basis) sol i) (s .rows)

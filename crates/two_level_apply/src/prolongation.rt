@@ -2,10 +2,10 @@
 use crate::adding::add_at;
 use crate::adding::add_part;
 use crate::adding::wide;
+use definitions::Places;
 use definitions::Setup;
 use definitions::TwoLevelBasis;
 ghost use mathlib.Core.Path.{_≡_};
-ghost use mathlib.Core.Bool.{true};
 ghost use Prim.Native.Nat.{_≤_};
 ghost use lib.ListN.{length, getD};
 ghost use lib.Ieee.{nan};
@@ -13,11 +13,9 @@ ghost use Rattle.definitions.specs.Lists.{tab};
 ghost use Rattle.definitions.specs.Numbers.{summed, _+ᶠ_};
 ghost use Rattle.definitions.specs.Matrix.{rowOf, stored};
 ghost use Rattle.definitions.specs.Transfer.{coarseColumn};
-ghost use Rattle.definitions.specs.Places.{idsIn, pointersIn, columnsIn, weightsIn};
-ghost use Rattle.definitions.specs.Fits.{setupFits};
-ghost use Rattle.definitions.specs.Apply.{prolongationTerms, gained};
-ghost use Rattle.definitions.specs.declared.TwoLevelBasis.the-variants.{JacobiSmoothed};
-ghost use Rattle.two_level_apply.specs.Scatter.{Below, Rows, Grouped};
+ghost use Rattle.definitions.specs.Apply.{prolongationTerms};
+ghost use Rattle.definitions.specs.declared.TwoLevelBasis.the-variants.{PiecewiseConstant, JacobiSmoothed};
+ghost use Rattle.two_level_apply.specs.Scatter.{Below, Rows, Grouped, Laid, prolonged};
 
 // z[i] += sol[coarse column of i], node after node.
 pub(crate) fn prolong_constant(sol: &[f64], ids: &[u32], size: usize, z: &mut [f64])
@@ -51,7 +49,11 @@ fn weight_sum(idx: &[u32], vals: &[f64], sol: &[f64], from: usize, to: usize) ->
 
 pub(crate) fn prolong_smoothed(ptr: &[u32], idx: &[u32], vals: &[f64], sol: &[f64], z: &mut [f64])
     requires { ⌜ Rows (length (now z)) (length (now sol)) (now ptr) (now idx) (length (now vals)) ⌝ }
-    ensures { λ _. ⌜ now (z .exit) ≡ tab (λ i. getD (now (z .entry)) i nan +ᶠ summed (prolongationTerms (rowOf (now (ptr .entry)) (now (idx .entry)) (now (vals .entry)) i) (now (sol .entry)))) (length (now (z .entry))) ⌝ }
+    ensures { λ _. ⌜ (
+        let z₀ = now (z .entry) in
+        let row = rowOf (now (ptr .entry)) (now (idx .entry)) (now (vals .entry)) in
+        now (z .exit) ≡ tab (λ i. getD z₀ i nan +ᶠ summed (prolongationTerms (row i) (now (sol .entry)))) (length z₀)
+        ) ⌝ }
 {
     let mut i = 0;
     while i < z.len() {
@@ -64,33 +66,33 @@ pub(crate) fn prolong_smoothed(ptr: &[u32], idx: &[u32], vals: &[f64], sol: &[f6
 }
 
 // With a record and its lists.
-fn prolong_groups(s: Setup, ints: &[u32], floats: &[f64], sol: &[f64], z: &mut [f64])
-    requires { ⌜ (setupFits s (now ints) (now floats) ≡ true) × (length (now z) ≡ s .rows) × (length (now sol) ≡ s .coarse) ⌝ }
-    ensures { λ _. ⌜ now (z .exit) ≡ tab (λ i. getD (now (z .entry)) i nan +ᶠ getD (now (sol .entry)) (coarseColumn (s .block) (idsIn s (now (ints .entry))) i) nan) (length (now (z .entry))) ⌝ }
+fn prolong_groups(s: Setup, p: Places, ints: &[u32], floats: &[f64], sol: &[f64], z: &mut [f64])
+    requires { ⌜ Laid s p (now ints) (now floats) × (length (now z) ≡ s .rows) × (length (now sol) ≡ s .coarse) × (s .basis ≡ PiecewiseConstant) ⌝ }
+    ensures { λ _. ⌜ now (z .exit) ≡ prolonged s (now (ints .entry)) (now (floats .entry)) (now (sol .entry)) (now (z .entry)) ⌝ }
 {
-    let n = s.nodes as usize;
+    let n = p.pointers;
     prolong_constant(sol, &ints[..n], s.block as usize, z);
 }
 
-fn prolong_weights(s: Setup, ints: &[u32], floats: &[f64], sol: &[f64], z: &mut [f64])
-    requires { ⌜ (setupFits s (now ints) (now floats) ≡ true) × (length (now z) ≡ s .rows) × (length (now sol) ≡ s .coarse) × (s .basis ≡ JacobiSmoothed) ⌝ }
-    ensures { λ _. ⌜ now (z .exit) ≡ tab (λ i. getD (now (z .entry)) i nan +ᶠ summed (prolongationTerms (rowOf (pointersIn s (now (ints .entry))) (columnsIn s (now (ints .entry))) (weightsIn s (now (floats .entry))) i) (now (sol .entry)))) (length (now (z .entry))) ⌝ }
+fn prolong_weights(s: Setup, p: Places, ints: &[u32], floats: &[f64], sol: &[f64], z: &mut [f64])
+    requires { ⌜ Laid s p (now ints) (now floats) × (length (now z) ≡ s .rows) × (length (now sol) ≡ s .coarse) × (s .basis ≡ JacobiSmoothed) ⌝ }
+    ensures { λ _. ⌜ now (z .exit) ≡ prolonged s (now (ints .entry)) (now (floats .entry)) (now (sol .entry)) (now (z .entry)) ⌝ }
 {
-    let a = s.nodes as usize;
-    let b = a + s.rows as usize + 1;
+    let a = p.pointers;
+    let b = p.columns;
     let e = b + s.transfers as usize;
-    let p = (s.rows * s.block) as usize;
-    let q = p + s.transfers as usize;
-    prolong_smoothed(&ints[a..b], &ints[b..e], &floats[p..q], sol, z);
+    let v = p.weights;
+    let q = p.coarse;
+    prolong_smoothed(&ints[a..b], &ints[b..e], &floats[v..q], sol, z);
 }
 
-pub(crate) fn prolong(s: Setup, ints: &[u32], floats: &[f64], sol: &[f64], z: &mut [f64])
-    requires { ⌜ (setupFits s (now ints) (now floats) ≡ true) × (length (now z) ≡ s .rows) × (length (now sol) ≡ s .coarse) ⌝ }
-    ensures { λ _. ⌜ now (z .exit) ≡ tab (λ i. getD (now (z .entry)) i nan +ᶠ gained s (now (ints .entry)) (now (floats .entry)) (s .basis) (now (sol .entry)) i) (s .rows) ⌝ }
+pub(crate) fn prolong(s: Setup, p: Places, ints: &[u32], floats: &[f64], sol: &[f64], z: &mut [f64])
+    requires { ⌜ Laid s p (now ints) (now floats) × (length (now z) ≡ s .rows) × (length (now sol) ≡ s .coarse) ⌝ }
+    ensures { λ _. ⌜ now (z .exit) ≡ prolonged s (now (ints .entry)) (now (floats .entry)) (now (sol .entry)) (now (z .entry)) ⌝ }
 {
     let basis = s.basis;
     match basis {
-        TwoLevelBasis::PiecewiseConstant => prolong_groups(s, ints, floats, sol, z),
-        TwoLevelBasis::JacobiSmoothed => prolong_weights(s, ints, floats, sol, z),
+        TwoLevelBasis::PiecewiseConstant => prolong_groups(s, p, ints, floats, sol, z),
+        TwoLevelBasis::JacobiSmoothed => prolong_weights(s, p, ints, floats, sol, z),
     }
 }

@@ -2,10 +2,10 @@
 use crate::adding::add_at;
 use crate::adding::add_part;
 use crate::adding::wide;
+use definitions::Places;
 use definitions::Setup;
 use definitions::TwoLevelBasis;
 ghost use mathlib.Core.Path.{_≡_};
-ghost use mathlib.Core.Bool.{true};
 ghost use mathlib.Core.List.{_++_};
 ghost use Prim.Native.Nat.{_≤_};
 ghost use lib.ListN.{length, drop};
@@ -13,11 +13,9 @@ ghost use Rattle.definitions.specs.Lists.{tab};
 ghost use Rattle.definitions.specs.Numbers.{total};
 ghost use Rattle.definitions.specs.Matrix.{rowOf, stored};
 ghost use Rattle.definitions.specs.Transfer.{coarseColumn};
-ghost use Rattle.definitions.specs.Places.{idsIn, pointersIn, columnsIn, weightsIn};
-ghost use Rattle.definitions.specs.Fits.{setupFits};
 ghost use Rattle.definitions.specs.Apply.{constantRestrictionTerms, smoothedRestrictionTerms, restricted};
-ghost use Rattle.definitions.specs.declared.TwoLevelBasis.the-variants.{JacobiSmoothed};
-ghost use Rattle.two_level_apply.specs.Scatter.{scatter, scattered, restrictPuts, scaled, scaledPuts, Below, Rows, Grouped};
+ghost use Rattle.definitions.specs.declared.TwoLevelBasis.the-variants.{PiecewiseConstant, JacobiSmoothed};
+ghost use Rattle.two_level_apply.specs.Scatter.{scatter, scattered, restrictPuts, scaled, scaledPuts, Below, Rows, Grouped, Laid};
 
 // rhs[coarse column of i] += r[i], node after node.
 fn add_nodes(r: &[f64], ids: &[u32], size: usize, rhs: &mut [f64])
@@ -72,42 +70,52 @@ fn add_transfers(ptr: &[u32], idx: &[u32], vals: &[f64], r: &[f64], rhs: &mut [f
 
 pub(crate) fn restrict_smoothed(ptr: &[u32], idx: &[u32], vals: &[f64], r: &[f64], rhs: &mut [f64])
     requires { ⌜ Rows (length (now r)) (length (now rhs)) (now ptr) (now idx) (length (now vals)) ⌝ }
-    ensures { λ _. ⌜ now (rhs .exit) ≡ tab (λ j. total (smoothedRestrictionTerms (rowOf (now (ptr .entry)) (now (idx .entry)) (now (vals .entry))) (now (r .entry)) j)) (length (now (rhs .entry))) ⌝ }
+    ensures { λ _. ⌜ (
+        let row = rowOf (now (ptr .entry)) (now (idx .entry)) (now (vals .entry)) in
+        now (rhs .exit) ≡ tab (λ j. total (smoothedRestrictionTerms row (now (r .entry)) j)) (length (now (rhs .entry)))
+        ) ⌝ }
 {
     numbers::zero_floats(rhs);
     add_transfers(ptr, idx, vals, r, rhs);
 }
 
 // With a record and its lists: into the first elements of work, the others as they were.
-fn restrict_groups(s: Setup, ints: &[u32], floats: &[f64], r: &[f64], work: &mut [f64])
-    requires { ⌜ (setupFits s (now ints) (now floats) ≡ true) × (length (now r) ≡ s .rows) × (s .coarse ≤ length (now work)) ⌝ }
-    ensures { λ _. ⌜ now (work .exit) ≡ tab (λ j. total (constantRestrictionTerms (coarseColumn (s .block) (idsIn s (now (ints .entry)))) (now (r .entry)) j)) (s .coarse) ++ drop (s .coarse) (now (work .entry)) ⌝ }
+fn restrict_groups(s: Setup, p: Places, ints: &[u32], floats: &[f64], r: &[f64], work: &mut [f64])
+    requires { ⌜ Laid s p (now ints) (now floats) × (length (now r) ≡ s .rows) × (s .coarse ≤ length (now work)) × (s .basis ≡ PiecewiseConstant) ⌝ }
+    ensures { λ _. ⌜ now (work .exit) ≡ restricted s (now (ints .entry)) (now (floats .entry)) (now (r .entry)) ++ drop (s .coarse) (now (work .entry)) ⌝ }
 {
-    let n = s.nodes as usize;
+    let n = p.pointers;
     let c = s.coarse as usize;
     restrict_constant(r, &ints[..n], s.block as usize, &mut work[..c]);
 }
 
-fn restrict_weights(s: Setup, ints: &[u32], floats: &[f64], r: &[f64], work: &mut [f64])
-    requires { ⌜ (setupFits s (now ints) (now floats) ≡ true) × (length (now r) ≡ s .rows) × (s .coarse ≤ length (now work)) × (s .basis ≡ JacobiSmoothed) ⌝ }
-    ensures { λ _. ⌜ now (work .exit) ≡ tab (λ j. total (smoothedRestrictionTerms (rowOf (pointersIn s (now (ints .entry))) (columnsIn s (now (ints .entry))) (weightsIn s (now (floats .entry)))) (now (r .entry)) j)) (s .coarse) ++ drop (s .coarse) (now (work .entry)) ⌝ }
+fn restrict_weights(s: Setup, p: Places, ints: &[u32], floats: &[f64], r: &[f64], work: &mut [f64])
+    requires { ⌜ Laid s p (now ints) (now floats) × (length (now r) ≡ s .rows) × (s .coarse ≤ length (now work)) × (s .basis ≡ JacobiSmoothed) ⌝ }
+    ensures { λ _. ⌜ now (work .exit) ≡ restricted s (now (ints .entry)) (now (floats .entry)) (now (r .entry)) ++ drop (s .coarse) (now (work .entry)) ⌝ }
 {
-    let a = s.nodes as usize;
-    let b = a + s.rows as usize + 1;
+    let a = p.pointers;
+    let b = p.columns;
     let e = b + s.transfers as usize;
-    let p = (s.rows * s.block) as usize;
-    let q = p + s.transfers as usize;
+    let v = p.weights;
+    let q = p.coarse;
     let c = s.coarse as usize;
-    restrict_smoothed(&ints[a..b], &ints[b..e], &floats[p..q], r, &mut work[..c]);
+    restrict_smoothed(&ints[a..b], &ints[b..e], &floats[v..q], r, &mut work[..c]);
 }
 
-pub(crate) fn restrict(s: Setup, ints: &[u32], floats: &[f64], r: &[f64], work: &mut [f64])
-    requires { ⌜ (setupFits s (now ints) (now floats) ≡ true) × (length (now r) ≡ s .rows) × (s .coarse ≤ length (now work)) ⌝ }
+pub(crate) fn restrict(
+    s: Setup,
+    p: Places,
+    ints: &[u32],
+    floats: &[f64],
+    r: &[f64],
+    work: &mut [f64],
+)
+    requires { ⌜ Laid s p (now ints) (now floats) × (length (now r) ≡ s .rows) × (s .coarse ≤ length (now work)) ⌝ }
     ensures { λ _. ⌜ now (work .exit) ≡ restricted s (now (ints .entry)) (now (floats .entry)) (now (r .entry)) ++ drop (s .coarse) (now (work .entry)) ⌝ }
 {
     let basis = s.basis;
     match basis {
-        TwoLevelBasis::PiecewiseConstant => restrict_groups(s, ints, floats, r, work),
-        TwoLevelBasis::JacobiSmoothed => restrict_weights(s, ints, floats, r, work),
+        TwoLevelBasis::PiecewiseConstant => restrict_groups(s, p, ints, floats, r, work),
+        TwoLevelBasis::JacobiSmoothed => restrict_weights(s, p, ints, floats, r, work),
     }
 }

@@ -16,25 +16,36 @@ use Rattle.definitions.specs.Places.{Lengths}
 use Rattle.definitions.specs.Setup.{Lent, Transfer, transferFor, transferFloats, lentOf}
 use Rattle.definitions.specs.Answers.{estimateAnswer}
 use Rattle.definitions.specs.declared.Setup.{Setup}
+use Rattle.definitions.specs.declared.Places.{Places}
 use Rattle.definitions.specs.declared.EstimateAnswer.{EstimateAnswer}
 use Rattle.definitions.specs.declared.EstimateAnswer.the-variants.{Estimated, Refused as NoEstimate}
 use Rattle.definitions.specs.declared.SetupAnswer.the-variants.{Built as BuiltSetup, Refused as NoSetup}
 use Rattle.definitions.specs.declared.TwoLevelBasis.the-variants.{PiecewiseConstant, JacobiSmoothed}
 use Rattle.definitions.specs.declared.Refusal.{Refusal}
 use Rattle.laws.proofs.Outcomes.{bind-done, done-inj}
+use Rattle.layout.specs.Layout.{layoutOf}
+use Rattle.layout.proofs.Sizes.{placed, at}
 use Rattle.csr32.specs.Calls.{goes-on, stops}
-use Rattle.two_level_setup.specs.Stages.{Parts, filled, transferred, transferStage}
-use Rattle.two_level_setup.specs.Fit.{Ample, DampingFit, roomOf}
+use Rattle.two_level_setup.specs.Stages.{Parts, optionsOf, filled, transferred, transferStage}
+use Rattle.two_level_setup.specs.Fit.{Ample, DampingFit, Placed, roomOf}
 use Rattle.two_level_setup.specs.Contracts.{Holds, Leaves, Simulates, StaysAmple, Begun, Weighted, Weighed, Damped, beside, WeightsStage}
 use Rattle.two_level_setup.proofs.Composition.{leaves-refused, leaves-done}
-use Rattle.two_level_setup.proofs.FineParts.{no-weights}
+use Rattle.two_level_setup.proofs.FineParts.{bounds, no-weights}
 use Rattle.two_level_setup.proofs.Damping.{diagonal-length}
 use Rattle.two_level_setup.proofs.Weights.{weighted}
 
 -- ---- records that fit
 
-pub damping-fits : (a : Matrix) (s : Setup) (room : Lengths) → Ample a s room → DampingFit a s (room .floats) (room .workFloats)
-damping-fits a s room w = record { front = w .front; floats = omega (arith, w .floats); work = omega (arith, w .workFloats) }
+pub damping-fits : (a : Matrix) (s : Setup) (room : Lengths) → Ample a s room → (used : ℕ) → used ≡ a .rows * s .block → DampingFit a used (room .floats) (room .workFloats)
+damping-fits a s room w used e = record { valid = w .front .valid; square = w .front .square; floats = omega (arith, w .floats, e); work = omega (arith, w .workFloats) }
+
+-- the places of the parts are those of the definitions
+pub placed-of : (a : Matrix) (s : Setup) (room : Lengths) → Ample a s room → (p : Places) → p ≡ layoutOf s → Placed (a .rows) s p
+placed-of a s room w p e =
+    let b = bounds a (optionsOf s) (w .front) in
+    let n = w .counted in
+    let k = at s p (e ∙ placed s (omega (arith, b .nodes, b .rowsMost, n .nodes)) (omega (arith, b .rowsMost, n .rows)) (w .front .most) (omega (arith, n .transfers, b .rowsMost, b .entriesMost)) (w .small)) in
+    record { pointers = k .pointers; columns = k .columns ∙ rw (n .rows); weights = k .weights ∙ rw (n .rows); coarse = k .coarse ∙ rw (n .rows) }
 
 pub ample-same : (a : Matrix) (s : Setup) (i i' f f' wi wi' wf wf' : ℕ) → i' ≡ i → f' ≡ f → wi' ≡ wi → wf' ≡ wf → Ample a s (roomOf i f wi wf) → Ample a s (roomOf i' f' wi' wf')
 ample-same a s i i' f f' wi wi' wf wf' p q r t w = rw (p, q, r, t) w
@@ -44,7 +55,7 @@ pub ample-filled : (a : Matrix) (s t : Setup) (room : Lengths) (n : ℕ) (dampin
 unfolding filled
 ample-filled a s t room n damping w h e = subst (λ (x : Setup). Ample a x room) (sym e) (record {
   front = w .front;
-  counted = record { nodes = w .counted .nodes; coarse = w .counted .coarse; few = w .counted .few; transfers = h };
+  counted = record { rows = w .counted .rows; nodes = w .counted .nodes; coarse = w .counted .coarse; few = w .counted .few; transfers = h };
   small = w .small;
   ints = w .ints;
   floats = w .floats;

@@ -15,7 +15,6 @@ use Rattle.definitions.specs.Matrix.{Matrix, validOf, storedAt}
 use Rattle.definitions.specs.Diagonal.{diagonalFrom, diagonalOf, diagonalCall, diagonalLeft}
 use Rattle.definitions.specs.Estimate.{estimateOf, estimateCall, estimateWorkLeft}
 use Rattle.definitions.specs.Answers.{answerOf, estimateAnswer}
-use Rattle.definitions.specs.declared.Setup.{Setup}
 use Rattle.definitions.specs.declared.Answer.{Answer}
 use Rattle.definitions.specs.declared.Answer.the-variants.{Accepted, Refused}
 use Rattle.definitions.specs.declared.EstimateAnswer.{EstimateAnswer}
@@ -42,10 +41,7 @@ module _ (a : Matrix) where
   unfolding diagonalOf
   diagonal-length d e = sums-length (a .rows) 0 [] d e ∙ omega arith
 
-module _ (a : Matrix) (s : Setup) (floats work : List Float) (w : DampingFit a s (length floats) (length work)) where
-  abbrev used : ℕ
-  used = a .rows * s .block
-
+module _ (a : Matrix) (used : ℕ) (floats work : List Float) (w : DampingFit a used (length floats) (length work)) where
   -- where the diagonal goes
   abbrev place : List Float
   place = between used (used + a .rows) floats
@@ -56,8 +52,8 @@ module _ (a : Matrix) (s : Setup) (floats work : List Float) (w : DampingFit a s
   diagonal-passes : diagonalCall a (length place) ≡ diagonalOf a
   unfolding diagonalCall
   diagonal-passes =
-      goes-on (validOf a) tt _ (w .front .valid)
-      ∙ goes-on _ tt _ (passed _ NotSquare (eq-eqb (a .cols) (a .rows) (w .front .square)))
+      goes-on (validOf a) tt _ (w .valid)
+      ∙ goes-on _ tt _ (passed _ NotSquare (eq-eqb (a .cols) (a .rows) (w .square)))
       ∙ goes-on _ tt _ (passed _ ListTooShort (le-leb (a .rows) (length place) (omega (arith, place-long))))
 
   -- what the estimate is lent of the work floats
@@ -67,8 +63,8 @@ module _ (a : Matrix) (s : Setup) (floats work : List Float) (w : DampingFit a s
   estimate-passes : (d : List Float) → length d ≡ a .rows → estimateCall a d (length lent) ≡ estimateOf a d
   unfolding estimateCall
   estimate-passes d l =
-      goes-on (validOf a) tt _ (w .front .valid)
-      ∙ goes-on _ tt _ (passed _ NotSquare (eq-eqb (a .cols) (a .rows) (w .front .square)))
+      goes-on (validOf a) tt _ (w .valid)
+      ∙ goes-on _ tt _ (passed _ NotSquare (eq-eqb (a .cols) (a .rows) (w .square)))
       ∙ goes-on _ tt _ (passed _ (WrongLength (a .rows) (length d)) (eq-eqb (length d) (a .rows) l))
       ∙ goes-on _ tt _ (passed _ ListTooShort (le-leb (3 * a .rows) (length lent) (rw (length-take-le (3 * a .rows) work (w .work)) (omega arith))))
 

@@ -80,7 +80,7 @@ module _ (a : Matrix) (o : Options) (f : Front a o) where
 
     grouped-counted : Counted a (grouped a o factors g .setup)
     unfolding grouped started
-    grouped-counted = record { nodes = refl; coarse = refl; few = count-few a o g (o .aggregation) (f .some) eg; transfers = omega arith }
+    grouped-counted = record { rows = refl; nodes = refl; coarse = refl; few = count-few a o g (o .aggregation) (f .some) eg; transfers = omega arith }
 
   found : (p : Parts) → fineOf a o ≡ done p → (factors : List Float) × (g : Grouping) × (factorsOf a (o .block) ≡ done factors) × (groupingOf (o .aggregation) a o ≡ done g) × (grouped a o factors g ≡ p)
   unfolding fineOf

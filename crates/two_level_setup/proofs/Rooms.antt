@@ -1,7 +1,8 @@
 -- Lists that are long enough: 13, and 17 with 18 for the coarse part.
 use mathlib.Core.Path.{_≡_, refl, ap, sym, _∙_}
 use mathlib.Core.Bool.{Bool, true, false, _&&_}
-use Prim.Native.Nat.{ℕ, _≤_, _<_}
+use Prim.Native.Nat.{ℕ, _+_, _*_, _≤_, _<_}
+use native.Mathlib.Omega.{arith}
 use lib.Dec.{leb}
 use borrow.Author.Tests.{le-leb, lt-leb, leb-true}
 use Rattle.definitions.specs.Refusal.{Outcome, require}
@@ -42,6 +43,18 @@ module _ (ni nf nwi nwf i f wi wf : ℕ) where
   last-length a b d = rw (le-leb ni i a, le-leb nf f b, le-leb nwi wi d)
 
 -- ---- lists that are long enough
+
+-- 13 is 18 for no coarse dimension
+pub coarse-none : (need : Lengths) → coarseNeeds 0 need ≡ need
+unfolding coarseNeeds
+coarse-none need =
+    let f : need .floats + 0 * 0 ≡ need .floats = omega arith in
+    let i : need .workInts + 4 * 0 ≡ need .workInts = omega arith in
+    let w : need .workFloats + (0 * 0 + 4 * 0) ≡ need .workFloats = omega arith in
+    rw (f, i, w)
+
+pub entry-room : (room need : Lengths) (t : Bool) → t ≡ covers room (coarseNeeds 0 need) → t ≡ covers room need
+entry-room room need t e = e ∙ ap (covers room) (coarse-none need)
 
 four : (b c d e : Bool) → (b && c && d && e) ≡ true → (b ≡ true) × (c ≡ true) × (d ≡ true) × (e ≡ true)
 four true true true e p = (refl, refl, refl, p)

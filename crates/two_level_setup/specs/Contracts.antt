@@ -15,7 +15,7 @@ use Rattle.definitions.specs.Estimate.{Estimate, estimateOf}
 use Rattle.definitions.specs.Transfer.{transferOf}
 use Rattle.definitions.specs.Coarse.{packedLength, coarseFactor, coarsePart, inverseOf}
 pub use Rattle.definitions.specs.Setup.{lentOf}
-use Rattle.definitions.specs.Places.{Lengths, entryNeeds, covers}
+use Rattle.definitions.specs.Places.{Lengths, entryNeeds, coarseNeeds, covers}
 use Rattle.definitions.specs.Setup.{Lent, transferFloats}
 use Rattle.definitions.specs.Answers.{answerOf, estimateAnswer}
 use Rattle.definitions.specs.declared.Answer.{Answer}
@@ -53,9 +53,9 @@ Simulates sound stage s x r y = (p : Parts) → p .setup ≡ s → sound p → H
 abbrev pub StaysAmple : Matrix → Lengths → SetupAnswer → Type 0
 StaysAmple a room r = (s : Setup) → r ≡ BuiltSetup s → Ample a s room
 
--- 13, and 17 and 18, of a matrix from its sizes
-abbrev pub EntryAnswer : ℕ → ℕ → ℕ → Lengths → Bool → Type 0
-EntryAnswer rows entries block room r = (a : Matrix) (o : Options) → a .rows ≡ rows → length (a .values) ≡ entries → o .block ≡ block → r ≡ covers room (entryNeeds a o)
+-- 13 with none, 18 with a coarse dimension c, and 17 and 18, of a matrix from its sizes
+abbrev pub RoomFor : ℕ → ℕ → ℕ → ℕ → Lengths → Bool → Type 0
+RoomFor rows entries block c room r = (a : Matrix) (o : Options) → a .rows ≡ rows → length (a .values) ≡ entries → o .block ≡ block → r ≡ covers room (coarseNeeds c (entryNeeds a o))
 
 abbrev pub RoomAnswer : ℕ → ℕ → Setup → Lengths → Answer → Type 0
 RoomAnswer rows entries s room r = (a : Matrix) → a .rows ≡ rows → length (a .values) ≡ entries → r ≡ answerOf (roomChecked a s room)

@@ -2,11 +2,13 @@
 use Prim.Native.Nat.{ℕ, _+_, _*_, _/_, _≤_}
 use mathlib.Core.Path.{_≡_}
 use lib.ListN.{length}
-use Rattle.definitions.specs.Matrix.{Matrix}
+use Rattle.definitions.specs.Refusal.{done}
+use Rattle.definitions.specs.Matrix.{Matrix, validOf}
 use Rattle.definitions.specs.Places.{nodeCount, Lengths}
 use Rattle.definitions.specs.Setup.{maxCoarse}
 use Rattle.definitions.specs.declared.Options.{Options}
 use Rattle.definitions.specs.declared.Setup.{Setup}
+use Rattle.definitions.specs.declared.Places.{Places}
 use Rattle.two_level_grouping.specs.Front.{Front}
 use Rattle.two_level_setup.specs.Stages.{optionsOf}
 
@@ -31,6 +33,7 @@ pub record Bounds (rows entries block : ℕ) : Type 0 where
 
 -- what the groups leave of the record
 pub record Counted (a : Matrix) (s : Setup) : Type 0 where
+  pub rows : s .rows ≡ a .rows
   pub nodes : s .nodes ≡ a .rows / s .block
   pub coarse : s .coarse ≡ s .groups * s .block
   pub few : s .groups ≤ s .nodes
@@ -46,10 +49,18 @@ pub record Ample (a : Matrix) (s : Setup) (room : Lengths) : Type 0 where
   pub workInts : 8 * a .rows + 4 * length (a .values) + 16 + 4 * s .coarse ≤ room .workInts
   pub workFloats : 8 * a .rows + 2 * length (a .values) + (s .coarse * s .coarse + 4 * s .coarse) ≤ room .workFloats
 
--- of that, what the damping factor needs
-pub record DampingFit (a : Matrix) (s : Setup) (floatsLong workLong : ℕ) : Type 0 where
-  pub front : Front a (optionsOf s)
-  pub floats : a .rows * s .block + a .rows ≤ floatsLong
+-- the places of the parts, by the rows of the matrix
+pub record Placed (rows : ℕ) (s : Setup) (p : Places) : Type 0 where
+  pub pointers : p .pointers ≡ s .nodes
+  pub columns : p .columns ≡ s .nodes + rows + 1
+  pub weights : p .weights ≡ rows * s .block
+  pub coarse : p .coarse ≡ rows * s .block + s .transfers
+
+-- of that, what the damping factor needs, with `used` numbers before the diagonal
+pub record DampingFit (a : Matrix) (used floatsLong workLong : ℕ) : Type 0 where
+  pub valid : validOf a ≡ done tt
+  pub square : a .cols ≡ a .rows
+  pub floats : used + a .rows ≤ floatsLong
   pub work : 3 * a .rows ≤ workLong
 
 -- and what the coarse matrix needs

@@ -1,19 +1,20 @@
 // The transfer: constant over each group, or smoothed by the diagonal and the damping factor.
 use definitions::Answer;
 use definitions::EstimateAnswer;
+use definitions::Places;
 use definitions::Setup;
 use definitions::SetupAnswer;
 use definitions::TransferAnswer;
 use definitions::TwoLevelBasis;
 use transfer::smoothed_transfer;
 ghost use mathlib.Core.Path.{_≡_};
-ghost use Prim.Native.Nat.{_+_, _*_, _≤_};
+ghost use Prim.Native.Nat.{_+_, _≤_};
 ghost use lib.ListN.{length};
 ghost use Rattle.definitions.specs.Matrix.{csr};
 ghost use Rattle.definitions.specs.Setup.{lentOf};
 ghost use Rattle.definitions.specs.declared.TwoLevelBasis.the-variants.{JacobiSmoothed};
 ghost use Rattle.two_level_setup.specs.Stages.{transferStage};
-ghost use Rattle.two_level_setup.specs.Fit.{Ample, DampingFit};
+ghost use Rattle.two_level_setup.specs.Fit.{Ample, DampingFit, Placed};
 ghost use Rattle.two_level_setup.specs.Contracts.{roomIn, Damped, MovedInts, MovedFloats, WeightsStage, Begun, Simulates, StaysAmple};
 
 fn at_most(x: u64, most: usize) -> usize
@@ -50,17 +51,16 @@ fn damping(
     row_ptr: &[u32],
     col_idx: &[u32],
     values: &[f64],
-    setup: Setup,
+    used: usize,
     floats: &mut [f64],
     work: &mut [f64],
 ) -> EstimateAnswer
-    requires { ⌜ DampingFit (csr rows cols (now «row_ptr») (now «col_idx») (now values)) setup (length (now floats)) (length (now work)) ⌝ }
+    requires { ⌜ DampingFit (csr rows cols (now «row_ptr») (now «col_idx») (now values)) used (length (now floats)) (length (now work)) ⌝ }
     ensures { λ r. ⌜ (
         let a = csr rows cols (now («row_ptr» .entry)) (now («col_idx» .entry)) (now (values .entry)) in
-        Damped a (rows * (setup .block)) (now (floats .entry)) (now (work .entry)) r (now (floats .exit)) (now (work .exit))
+        Damped a used (now (floats .entry)) (now (work .entry)) r (now (floats .exit)) (now (work .exit))
         ) ⌝ }
 {
-    let used = rows * setup.block as usize;
     let end = used + rows;
     let answer = csr32::diagonal(rows, cols, row_ptr, col_idx, values, &mut floats[used..end]);
     match answer {
@@ -88,6 +88,7 @@ fn weights(
     col_idx: &[u32],
     values: &[f64],
     setup: Setup,
+    p: Places,
     damping: f64,
     ints: &mut [u32],
     floats: &mut [f64],
@@ -95,7 +96,7 @@ fn weights(
     work_floats: &mut [f64],
 ) -> usize
     requires { ⌜ Ample (csr rows cols (now «row_ptr») (now «col_idx») (now values)) setup (roomIn (now ints) (now floats) (now «work_ints») (now «work_floats»)) ⌝ }
-    requires { ⌜ setup .basis ≡ JacobiSmoothed ⌝ }
+    requires { ⌜ (setup .basis ≡ JacobiSmoothed) × Placed rows setup p ⌝ }
     ensures { λ r. ⌜ (
         let a = csr rows cols (now («row_ptr» .entry)) (now («col_idx» .entry)) (now (values .entry)) in
         let x = lentOf (now (ints .entry)) (now (floats .entry)) (now («work_ints» .entry)) (now («work_floats» .entry)) in
@@ -104,9 +105,9 @@ fn weights(
         ) ⌝ }
 {
     let size = setup.block as usize;
-    let nodes = setup.nodes as usize;
+    let nodes = p.pointers;
     let zero = 0;
-    let used = rows * size;
+    let used = p.weights;
     let end = used + rows;
     let c = setup.coarse as usize;
     let most = rows + values.len();
@@ -160,13 +161,15 @@ fn smoothed(
         (Simulates (Begun a) (transferStage a) setup x r y) × (StaysAmple a room r)
         ) ⌝ }
 {
+    let p = layout::places(setup);
+    let used = p.weights;
     let estimate = damping(
         rows,
         cols,
         row_ptr,
         col_idx,
         values,
-        setup,
+        used,
         floats,
         work_floats,
     );
@@ -180,6 +183,7 @@ fn smoothed(
                 col_idx,
                 values,
                 setup,
+                p,
                 damping,
                 ints,
                 floats,

@@ -15,7 +15,7 @@ ghost use Rattle.definitions.specs.Places.{covers};
 ghost use Rattle.definitions.specs.Setup.{lentOf};
 ghost use Rattle.two_level_setup.specs.Stages.{optionsOf, coarseLevelOf, buildOf};
 ghost use Rattle.two_level_setup.specs.Fit.{Fit, Bounds, Counted, roomOf};
-ghost use Rattle.two_level_setup.specs.Contracts.{roomIn, EntryAnswer, RoomAnswer, Begun, Simulates, Leaves};
+ghost use Rattle.two_level_setup.specs.Contracts.{roomIn, RoomFor, RoomAnswer, Begun, Simulates, Leaves};
 
 // Whether four lists are as long as asked.
 fn long_enough(
@@ -42,38 +42,40 @@ fn long_enough(
     need_work_floats <= work_floats
 }
 
-// Whether the lists are as long as cause 13 asks.
-pub(crate) fn entry_fits(
-    rows: usize,
-    entries: usize,
-    block: u64,
-    ints: usize,
-    floats: usize,
-    work_ints: usize,
-    work_floats: usize,
-) -> bool
-    requires { ⌜ Bounds rows entries block ⌝ }
-    ensures { λ r. ⌜ EntryAnswer rows entries block (roomOf ints floats «work_ints» «work_floats») r ⌝ }
-{
-    let size = block as usize;
-    long_enough(
-        rows / size + 2 * rows + entries + 1,
-        rows * size + rows + entries,
-        8 * rows + 4 * entries + 16,
-        8 * rows + 2 * entries,
-        ints,
-        floats,
-        work_ints,
-        work_floats,
-    )
-}
-
 // The numbers of a coarse matrix.
 fn square(c: usize) -> usize
     requires { ⌜ c ≤ 2048 ⌝ }
     ensures { λ r. ⌜ (r ≡ c * c) × (r ≤ 4_194_304) ⌝ }
 {
     c * c
+}
+
+// Whether the lists are as long as setup asks for a coarse dimension c: 13 before it is known, with 0, and 18.
+pub(crate) fn has_room(
+    rows: usize,
+    entries: usize,
+    block: u64,
+    c: usize,
+    ints: usize,
+    floats: usize,
+    work_ints: usize,
+    work_floats: usize,
+) -> bool
+    requires { ⌜ Bounds rows entries block × (c ≤ 2048) ⌝ }
+    ensures { λ r. ⌜ RoomFor rows entries block c (roomOf ints floats «work_ints» «work_floats») r ⌝ }
+{
+    let size = block as usize;
+    let dense = square(c);
+    long_enough(
+        rows / size + 2 * rows + entries + 1,
+        rows * size + rows + entries + dense,
+        8 * rows + 4 * entries + 16 + 4 * c,
+        8 * rows + 2 * entries + (dense + 4 * c),
+        ints,
+        floats,
+        work_ints,
+        work_floats,
+    )
 }
 
 // Room for the coarse part: causes 17 and 18.
@@ -92,14 +94,11 @@ fn room(
     if (MAX_COARSE as u64) < setup.coarse {
         return Answer::Refused(Refusal::CoarseTooLarge(setup.coarse));
     }
-    let size = setup.block as usize;
-    let c = setup.coarse as usize;
-    let dense = square(c);
-    if long_enough(
-        rows / size + 2 * rows + entries + 1,
-        rows * size + rows + entries + dense,
-        8 * rows + 4 * entries + 16 + 4 * c,
-        8 * rows + 2 * entries + (dense + 4 * c),
+    if has_room(
+        rows,
+        entries,
+        setup.block,
+        setup.coarse as usize,
         ints,
         floats,
         work_ints,

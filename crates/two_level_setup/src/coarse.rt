@@ -2,6 +2,7 @@
 use coarse_matrix::constant_coarse;
 use coarse_matrix::galerkin_coarse;
 use definitions::FactorAnswer;
+use definitions::Places;
 use definitions::Setup;
 use definitions::SetupAnswer;
 use definitions::TwoLevelBasis;
@@ -11,7 +12,7 @@ ghost use lib.ListN.{length};
 ghost use Rattle.definitions.specs.Matrix.{csr};
 ghost use Rattle.definitions.specs.Setup.{lentOf};
 ghost use Rattle.two_level_setup.specs.Stages.{coarseStage};
-ghost use Rattle.two_level_setup.specs.Fit.{Ample, MatrixFit};
+ghost use Rattle.two_level_setup.specs.Fit.{Ample, MatrixFit, Placed};
 ghost use Rattle.two_level_setup.specs.Contracts.{roomIn, MatrixStage, Inverted, Stored, Factored, Weighed, Simulates};
 
 // The coarse matrix, to the front of the work floats.
@@ -22,11 +23,13 @@ fn matrix(
     col_idx: &[u32],
     values: &[f64],
     setup: Setup,
+    p: Places,
     ints: &[u32],
     floats: &[f64],
     work_ints: &mut [u32],
     work_floats: &mut [f64],
 )
+    requires { ⌜ Placed rows setup p ⌝ }
     requires { ⌜ MatrixFit (csr rows cols (now «row_ptr») (now «col_idx») (now values)) setup (roomIn (now ints) (now floats) (now «work_ints») (now «work_floats»)) ⌝ }
     ensures { λ _. ⌜ (
         let a = csr rows cols (now («row_ptr» .entry)) (now («col_idx» .entry)) (now (values .entry)) in
@@ -34,7 +37,7 @@ fn matrix(
         ) ⌝ }
 {
     let size = setup.block as usize;
-    let nodes = setup.nodes as usize;
+    let nodes = p.pointers;
     let basis = setup.basis;
     match basis {
         TwoLevelBasis::PiecewiseConstant => {
@@ -52,10 +55,10 @@ fn matrix(
             );
         }
         TwoLevelBasis::JacobiSmoothed => {
-            let first = nodes + rows + 1;
+            let first = p.columns;
             let end = first + setup.transfers as usize;
-            let used = rows * size;
-            let stop = used + setup.transfers as usize;
+            let used = p.weights;
+            let stop = p.coarse;
             galerkin_coarse(
                 rows,
                 cols,
@@ -145,6 +148,7 @@ pub(crate) fn coarse(
         Simulates (Weighed a) (coarseStage a) setup x r y
         ) ⌝ }
 {
+    let p = layout::places(setup);
     let c = setup.coarse as usize;
     let few = 2 * c;
     let part = c * c + c;
@@ -155,12 +159,13 @@ pub(crate) fn coarse(
         col_idx,
         values,
         setup,
+        p,
         &ints[..],
         &floats[..],
         &mut work_ints[..few],
         &mut work_floats[..part],
     );
-    let start = rows * setup.block as usize + setup.transfers as usize;
+    let start = p.coarse;
     let stop = start + c * c;
     factor(setup, start, &mut floats[..stop], &mut work_floats[..part])
 }

@@ -92,10 +92,11 @@ pub fn setup(
     match checked {
         Answer::Refused(cause) => SetupAnswer::Refused(cause),
         Answer::Accepted => {
-            if build::entry_fits(
+            if build::has_room(
                 rows,
                 values.len(),
                 options.block,
+                0,
                 ints.len(),
                 floats.len(),
                 work_ints.len(),

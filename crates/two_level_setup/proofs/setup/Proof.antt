@@ -4,16 +4,18 @@ use Rattle.two_level_setup.proofs.FineParts.{bounds}
 use Rattle.definitions.specs.Setup.{lengthsOf, lentOf}
 use Rattle.definitions.specs.Matrix.{csr}
 use mathlib.Core.Path.{refl}
+use native.Mathlib.Omega.{arith}
+use Rattle.two_level_setup.proofs.Rooms.{entry-room}
 use borrow.Author.Needs.{needs}
 use Rattle.two_level_setup.proofs.setup.Statement.{statement}
 use Rattle.two_level_setup.proofs.setup.Tie as tie
 
-entry-fits-requires : tie.Need-entry-fits-requires
-entry-fits-requires c κs =
+has-room-requires : tie.Need-has-room-requires
+has-room-requires c κs =
     let a = c .before .before .before .before .before .before .before .before .before .before .args in
     let m = (csr (a .rows) (a .cols) (a .row-ptr .now) (a .col-idx .now) (a .values .now)) in
     let v = c .before .before .front in
-    bounds m (a .options) (front-holds m (a .options) (lentOf (a .ints .now) (a .floats .now) (a .work-ints .now) (a .work-floats .now)) (v .result) (v .ensures) (c .enum-told .given .1))
+    (bounds m (a .options) (front-holds m (a .options) (lentOf (a .ints .now) (a .floats .now) (a .work-ints .now) (a .work-floats .now)) (v .result) (v .ensures) (c .enum-told .given .1)), omega arith)
 
 build-or-clear-requires : tie.Need-build-or-clear-requires
 unfolding lengthsOf
@@ -21,8 +23,8 @@ build-or-clear-requires c κs =
     let a = c .before .before .before .before .before .before .before .before .before .before .before .before .before .before .before .before .args in
     let m = (csr (a .rows) (a .cols) (a .row-ptr .now) (a .col-idx .now) (a .values .now)) in
     let v = c .before .before .before .before .before .before .before .before .front in
-    let e = c .before .before .before .before .before .entry-fits in
-    fits m (a .options) (lentOf (a .ints .now) (a .floats .now) (a .work-ints .now) (a .work-floats .now)) (v .result) (v .ensures) (c .before .before .before .before .before .before .enum-told .given .1) (e .result) (e .ensures m (a .options) refl refl refl) (c .before .before .before .before .if1 .taken)
+    let e = c .before .before .before .before .before .has-room in
+    fits m (a .options) (lentOf (a .ints .now) (a .floats .now) (a .work-ints .now) (a .work-floats .now)) (v .result) (v .ensures) (c .before .before .before .before .before .before .enum-told .given .1) (e .result) (entry-room _ _ _ (e .ensures m (a .options) refl refl refl)) (c .before .before .before .before .if1 .taken)
 
 returns : tie.Need-returns
 returns c =
@@ -36,8 +38,8 @@ returns-2 c =
     let a = c .before .before .before .before .before .before .before .before .before .before .before .before .before .before .before .before .before .before .before .before .before .before .before .before .before .args in
     let m = (csr (a .rows) (a .cols) (a .row-ptr .now) (a .col-idx .now) (a .values .now)) in
     let v = c .before .before .before .before .before .before .before .before .before .before .before .before .before .before .before .before .before .front in
-    let e = c .before .before .before .before .before .before .before .before .before .before .before .before .before .before .entry-fits in
-    went m (a .options) (lentOf (a .ints .now) (a .floats .now) (a .work-ints .now) (a .work-floats .now)) (v .result) (v .ensures) (c .before .before .before .before .before .before .before .before .before .before .before .before .before .before .before .enum-told .given .1) (e .result) (e .ensures m (a .options) refl refl refl) (c .before .before .before .before .before .before .before .before .before .before .before .before .before .if1 .taken) _ _ (c .before .before .before .before .before .before .before .before .build-or-clear .ensures)
+    let e = c .before .before .before .before .before .before .before .before .before .before .before .before .before .before .has-room in
+    went m (a .options) (lentOf (a .ints .now) (a .floats .now) (a .work-ints .now) (a .work-floats .now)) (v .result) (v .ensures) (c .before .before .before .before .before .before .before .before .before .before .before .before .before .before .before .enum-told .given .1) (e .result) (entry-room _ _ _ (e .ensures m (a .options) refl refl refl)) (c .before .before .before .before .before .before .before .before .before .before .before .before .before .if1 .taken) _ _ (c .before .before .before .before .before .before .before .before .build-or-clear .ensures)
 
 returns-3 : tie.Need-returns-3
 unfolding lengthsOf
@@ -45,8 +47,8 @@ returns-3 c =
     let a = c .before .before .before .before .before .before .before .before .before .before .before .before .args in
     let m = (csr (a .rows) (a .cols) (a .row-ptr .now) (a .col-idx .now) (a .values .now)) in
     let v = c .before .before .before .before .front in
-    let e = c .before .entry-fits in
-    short m (a .options) (lentOf (a .ints .now) (a .floats .now) (a .work-ints .now) (a .work-floats .now)) (v .result) (v .ensures) (c .before .before .enum-told .given .1) (e .result) (e .ensures m (a .options) refl refl refl) (c .if1 .left)
+    let e = c .before .has-room in
+    short m (a .options) (lentOf (a .ints .now) (a .floats .now) (a .work-ints .now) (a .work-floats .now)) (v .result) (v .ensures) (c .before .before .enum-told .given .1) (e .result) (entry-room _ _ _ (e .ensures m (a .options) refl refl refl)) (c .if1 .left)
 
 pub setup-spec : {M : Type 1} → statement M
 setup-spec =
@@ -55,7 +57,7 @@ setup-spec =
     (λ c κs. search needs)
     (λ c. search needs)
     (λ c. search needs)
-    entry-fits-requires
+    has-room-requires
     build-or-clear-requires
     returns
     (λ c. search needs)

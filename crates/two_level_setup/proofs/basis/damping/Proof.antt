@@ -17,20 +17,19 @@ returns : tie.Need-returns
 returns c =
     let a = c .before .before .before .before .before .before .before .before .before .before .before .before .args in
     let d = c .before .before .before .before .before .diagonal in
-    diagonal-refused (csr (a .rows) (a .cols) (a .row-ptr .now) (a .col-idx .now) (a .values .now)) (a .setup) (a .floats .now) (a .work .now) (c .before .before .before .before .before .before .before .before .before .before .before .before .pre) (d .result) (d .ensures .0) _ _ _ (c .before .answer .given .1)
+    diagonal-refused (csr (a .rows) (a .cols) (a .row-ptr .now) (a .col-idx .now) (a .values .now)) (a .used) (a .floats .now) (a .work .now) (c .before .before .before .before .before .before .before .before .before .before .before .before .pre) (d .result) (d .ensures .0) _ _ _ (c .before .answer .given .1)
 
 returns-2 : tie.Need-returns-2
 returns-2 c =
     let a = c .before .before .before .before .before .before .before .before .before .before .before .before .before .before .before .before .before .args in
     let d = c .before .before .before .before .before .before .before .before .before .before .diagonal in
     let e = c .before .before .estimate in
-    damped (csr (a .rows) (a .cols) (a .row-ptr .now) (a .col-idx .now) (a .values .now)) (a .setup) (a .floats .now) (a .work .now) (c .before .before .before .before .before .before .before .before .before .before .before .before .before .before .before .before .before .pre) (d .result) (d .ensures .0) (c .before .before .before .before .before .before .enum-told .given .1) (d .last .1 .1 .1 .1 .1 .0) (d .ensures .1) (e .result) (e .ensures .0) (e .last .1 .1 .1 .1 .1 .1 .0) (e .ensures .1)
+    damped (csr (a .rows) (a .cols) (a .row-ptr .now) (a .col-idx .now) (a .values .now)) (a .used) (a .floats .now) (a .work .now) (c .before .before .before .before .before .before .before .before .before .before .before .before .before .before .before .before .before .pre) (d .result) (d .ensures .0) (c .before .before .before .before .before .before .enum-told .given .1) (d .last .1 .1 .1 .1 .1 .0) (d .ensures .1) (e .result) (e .ensures .0) (e .last .1 .1 .1 .1 .1 .1 .0) (e .ensures .1)
 
 pub damping-spec : {M : Type 1} → statement M
 damping-spec =
     tie.close
     (tie.spec
-    (λ c. search needs)
     (λ c. search needs)
     (λ c. search needs)
     (λ c. search needs)

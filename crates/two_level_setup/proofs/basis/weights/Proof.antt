@@ -34,19 +34,30 @@ add-keep-columns-2 c =
     let b = bounds (csr (a .rows) (a .cols) (a .row-ptr .now) (a .col-idx .now) (a .values .now)) (optionsOf (a .setup)) (c .before .before .before .before .before .before .before .before .before .before .before .before .before .before .before .before .before .before .before .before .before .before .pre .0 .front) in
     omega (arith, b .rowsMost, b .entriesMost, c .at-most .ensures .0)
 
+keep-columns-requires : tie.Need-keep-columns-requires
+keep-columns-requires c κs =
+    let a = c .before .before .before .before .before .before .before .before .before .before .before .before .before .before .before .before .before .before .before .before .before .before .before .before .args in
+    let w = c .before .before .before .before .before .before .before .before .before .before .before .before .before .before .before .before .before .before .before .before .before .before .before .before .pre .0 in
+    let q = c .before .before .before .before .before .before .before .before .before .before .before .before .before .before .before .before .before .before .before .before .before .before .before .before .pre .1 .1 in
+    let k = c .before .before .before .before .before .before .before .before .before .before .smoothed-transfer in
+    let l = length-front (a .work-ints .now) (k .last .1 .1 .1 .1 .1 .1 .1 .1 .1 .1 .0) (a .rows + (a .rows + length (a .values .now)) + 1 + 2 * a .setup .coarse) (k .kept .1 .1 .1 .1 .1 .1 .1 .1 .1 .1 .0) in
+    (omega (arith, q .pointers, w .ints), omega (arith, l, w .workInts, c .before .before .at-most .ensures .0))
+
 keep-weights-requires : tie.Need-keep-weights-requires
 keep-weights-requires c κs =
     let a = c .before .before .before .before .before .before .before .before .before .before .before .before .before .before .before .before .before .before .before .before .before .before .before .before .before .before .before .before .before .before .before .args in
     let w = c .before .before .before .before .before .before .before .before .before .before .before .before .before .before .before .before .before .before .before .before .before .before .before .before .before .before .before .before .before .before .before .pre .0 in
     let k = c .before .before .before .before .before .before .before .before .before .before .before .before .before .before .before .before .before .smoothed-transfer in
     let l = length-front (a .work-floats .now) (k .last .1 .1 .1 .1 .1 .1 .1 .1 .1 .1 .1 .0) (a .rows + length (a .values .now) + a .setup .coarse) (k .kept .1 .1 .1 .1 .1 .1 .1 .1 .1 .1 .1 .0) in
-    (omega arith, (omega (arith, w .floats), omega (arith, l, w .workFloats, c .before .before .before .before .before .before .before .before .before .at-most .ensures .0)))
+    let q = c .before .before .before .before .before .before .before .before .before .before .before .before .before .before .before .before .before .before .before .before .before .before .before .before .before .before .before .before .before .before .before .pre .1 .1 in
+    (omega arith, (omega (arith, w .floats, q .weights), omega (arith, l, w .workFloats, c .before .before .before .before .before .before .before .before .before .at-most .ensures .0)))
 
 returns : tie.Need-returns
 returns c =
     let a = c .before .before .before .before .before .before .before .before .before .before .before .before .before .before .before .before .before .before .before .before .args in
+    let q = c .before .before .before .before .before .before .before .before .before .before .before .before .before .before .before .before .before .before .before .before .pre .1 .1 in
     let k = c .before .before .before .before .before .before .smoothed-transfer in
-    transfer-refused (csr (a .rows) (a .cols) (a .row-ptr .now) (a .col-idx .now) (a .values .now)) (a .setup) (a .damping) (a .ints .now) (a .floats .now) (a .work-ints .now) (a .work-floats .now) (c .before .before .before .before .before .before .before .before .before .before .before .before .before .before .before .before .before .before .before .before .pre .0) (k .result) (k .ensures .0) _ 0 _ (c .enum-told .given .1) (omega arith)
+    transfer-refused (csr (a .rows) (a .cols) (a .row-ptr .now) (a .col-idx .now) (a .values .now)) (a .setup) (a .damping) (a .ints .now) (a .floats .now) (a .work-ints .now) (a .work-floats .now) (c .before .before .before .before .before .before .before .before .before .before .before .before .before .before .before .before .before .before .before .before .pre .0) (k .result) (rw (q .pointers, q .weights) at (k .ensures .0)) _ 0 _ (c .enum-told .given .1) (omega arith)
 
 returns-2 : tie.Need-returns-2
 returns-2 c =
@@ -54,18 +65,18 @@ returns-2 c =
     let h = c .before .before .before .before .before .before .before .before .before .before .before .before .before .before .before .before .before .before .before .before .before .before .before .before .before .before .before .before .before .before .before .before .before .before .before .before .pre in
     let k = c .before .before .before .before .before .before .before .before .before .before .before .before .before .before .before .before .before .before .before .before .before .before .smoothed-transfer in
     let m = c .before .before .before .before .before .before .before .before .before .before .before .before .before .before .at-most in
+    let q = h .1 .1 in
     let i = c .before .before .before .before .before .before .before .before .before .before .before .keep-columns in
     let f = c .before .before .before .before .keep-weights in
     let li = length-front (a .work-ints .now) (k .last .1 .1 .1 .1 .1 .1 .1 .1 .1 .1 .0) (a .rows + (a .rows + length (a .values .now)) + 1 + 2 * a .setup .coarse) (k .kept .1 .1 .1 .1 .1 .1 .1 .1 .1 .1 .0) in
     let lf = length-front (a .work-floats .now) (k .last .1 .1 .1 .1 .1 .1 .1 .1 .1 .1 .1 .0) (a .rows + length (a .values .now) + a .setup .coarse) (k .kept .1 .1 .1 .1 .1 .1 .1 .1 .1 .1 .1 .0) in
-    weights-kept (csr (a .rows) (a .cols) (a .row-ptr .now) (a .col-idx .now) (a .values .now)) (a .setup) (a .damping) (a .ints .now) (a .floats .now) (a .work-ints .now) (a .work-floats .now) (h .0) (k .result) (k .ensures .0) (h .1) _ (m .result) (c .before .before .before .before .before .before .before .before .before .before .before .before .before .before .before .before .answer .given .1) (m .ensures .0) (m .ensures .1)
-    (k .last .1 .1 .1 .1 .1 .1 .1 .1 .1 .1 .0) (k .last .1 .1 .1 .1 .1 .1 .1 .1 .1 .1 .1 .0) (k .ensures .1 .0) (k .ensures .1 .1) (i .last .1 .1 .0) (i .last .1 .1 .1 .0) (f .last .1 .1 .1 .0) (f .last .1 .1 .1 .1 .0) li lf (i .ensures) (f .ensures) (i .kept .1 .1 .0) (f .kept .1 .1 .1 .0) (i .kept .1 .1 .1 .0 ∙ li) (f .kept .1 .1 .1 .1 .0 ∙ lf)
+    weights-kept (csr (a .rows) (a .cols) (a .row-ptr .now) (a .col-idx .now) (a .values .now)) (a .setup) (a .damping) (a .ints .now) (a .floats .now) (a .work-ints .now) (a .work-floats .now) (h .0) (k .result) (rw (q .pointers, q .weights) at (k .ensures .0)) (h .1 .0) _ (m .result) (c .before .before .before .before .before .before .before .before .before .before .before .before .before .before .before .before .answer .given .1) (m .ensures .0) (m .ensures .1)
+    (k .last .1 .1 .1 .1 .1 .1 .1 .1 .1 .1 .0) (k .last .1 .1 .1 .1 .1 .1 .1 .1 .1 .1 .1 .0) (rw (q .pointers, q .weights) at (k .ensures .1 .0)) (rw (q .pointers, q .weights) at (k .ensures .1 .1)) (i .last .1 .1 .0) (i .last .1 .1 .1 .0) (f .last .1 .1 .1 .0) (f .last .1 .1 .1 .1 .0) li lf (rw (q .pointers) at (i .ensures)) (rw (q .weights) at (f .ensures)) (i .kept .1 .1 .0) (f .kept .1 .1 .1 .0) (i .kept .1 .1 .1 .0 ∙ li) (f .kept .1 .1 .1 .1 .0 ∙ lf)
 
 pub weights-spec : {M : Type 1} → statement M
 weights-spec =
     tie.close
     (tie.spec
-    (λ c. search needs)
     (λ c. search needs)
     (λ c. search needs)
     (λ c. search needs)
@@ -91,7 +102,7 @@ weights-spec =
     (λ c κs. search needs)
     add-keep-columns
     add-keep-columns-2
-    (λ c κs. search needs)
+    keep-columns-requires
     keep-weights-requires
     (λ c. search needs)
     (λ c. search needs)

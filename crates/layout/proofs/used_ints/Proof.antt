@@ -1,19 +1,19 @@
--- By the cases of the basis; the numbers of a record whose sizes fit are small.
+-- By the cases of the basis; the sums are of small numbers.
 use native.Mathlib.Omega.{arith}
-use Rattle.setup_record.proofs.Limits.{bounds-of}
+use Rattle.layout.proofs.Sizes.{small-of}
 use Rattle.definitions.specs.Places.{usedInts}
 use borrow.Author.Needs.{needs}
-use Rattle.setup_record.proofs.used_ints.Statement.{statement}
-use Rattle.setup_record.proofs.used_ints.Tie as tie
+use Rattle.layout.proofs.used_ints.Statement.{statement}
+use Rattle.layout.proofs.used_ints.Tie as tie
 
 add-result : tie.Need-add-result
-add-result c = let k = bounds-of _ (c .before .before .before .pre) in omega (arith, k .rows, k .nodes)
+add-result c = omega (arith, small-of _ (c .before .before .before .pre))
 
 add-result-2 : tie.Need-add-result-2
-add-result-2 c = let k = bounds-of _ (c .before .before .before .pre) in omega (arith, k .rows, k .nodes)
+add-result-2 c = omega (arith, small-of _ (c .before .before .before .pre))
 
 add-result-3 : tie.Need-add-result-3
-add-result-3 c = let k = bounds-of _ (c .before .before .before .before .pre) in omega (arith, k .rows, k .nodes, k .transfers)
+add-result-3 c = omega (arith, small-of _ (c .before .before .before .before .pre))
 
 returns : tie.Need-returns
 unfolding usedInts

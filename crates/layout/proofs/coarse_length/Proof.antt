@@ -2,10 +2,10 @@
 use Prim.Native.Nat.{_+_}
 use native.Mathlib.Omega.{arith}
 use Rattle.definitions.specs.Coarse.{coarseLength}
-use Rattle.setup_record.proofs.RowsFit.{square-fits, whole-fits}
+use Rattle.layout.proofs.Sizes.{square-fits, whole-fits}
 use borrow.Author.Needs.{needs}
-use Rattle.setup_record.proofs.coarse_length.Statement.{statement}
-use Rattle.setup_record.proofs.coarse_length.Tie as tie
+use Rattle.layout.proofs.coarse_length.Statement.{statement}
+use Rattle.layout.proofs.coarse_length.Tie as tie
 
 mul-result : tie.Need-mul-result
 mul-result c = omega (arith, square-fits (c .before .before .args .c) (c .before .before .args .c + 1) (omega arith) (omega arith))
