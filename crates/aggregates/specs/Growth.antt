@@ -2,7 +2,7 @@
 use mathlib.Core.List.{List}
 use Prim.Native.Nat.{ℕ, suc, _+_, _-_, _≤_, _<_}
 use lib.ListN.{length, getD}
-use Rattle.aggregates.specs.Lists.{Below}
+use Rattle.laws.specs.Bounds.{Below}
 
 -- the queue ends at `tail`, behind the nodes' groups, and has room below `base` for what node v lists
 pub record Pushes (offsets neighbours w : List ℕ) (base nodes v tail : ℕ) : Type 0 where

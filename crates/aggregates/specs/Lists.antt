@@ -3,10 +3,7 @@ use mathlib.Core.Path.{_≡_}
 use mathlib.Core.List.{List}
 use Prim.Native.Nat.{ℕ, suc, _≤_, _<_}
 use lib.ListN.{length, getD}
-
--- every number of a list is below n
-abbrev pub Below : ℕ → List ℕ → Type 0
-Below n l = (k : ℕ) → k < length l → getD l k 0 < n
+use Rattle.laws.specs.Bounds.{Below}
 
 -- offsets of n nodes' lists in `neighbours`
 pub record Lists (n : ℕ) (offsets neighbours : List ℕ) : Type 0 where

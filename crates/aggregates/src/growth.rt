@@ -1,6 +1,7 @@
 // Growth: from each ungrouped node in turn, first in first out. The groups of the nodes are w[0..nodes], the queue lies behind them, and the neighbour lists from w[base] on.
 use super::stored::neighbour;
 use super::stored::offset;
+use numbers::wide;
 ghost use mathlib.Core.Path.{_≡_};
 ghost use mathlib.Core.List.{[], _∷_, _++_};
 ghost use Prim.Native.Nat.{_+_, _^_, _<_, _≤_};
@@ -9,12 +10,6 @@ ghost use Rattle.definitions.specs.Groups.{free, growGroup, grown, noAnchor};
 ghost use Rattle.aggregates.specs.Lists.{Lists};
 ghost use Rattle.aggregates.specs.Stored.{offsetsAt, neighboursAt, listsAt};
 ghost use Rattle.aggregates.specs.Growth.{Pushes};
-
-fn wide(x: u32) -> usize
-    ensures { λ r. ⌜ r ≡ x ⌝ }
-{
-    x as usize
-}
 
 // Puts the nodes that v lists and that are in no group at the queue's end, and returns the new end.
 fn push_free(w: &mut [u32], base: usize, nodes: usize, v: usize, tail: usize) -> usize

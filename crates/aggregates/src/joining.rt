@@ -9,6 +9,7 @@
 use super::joining_log::log_joining;
 use super::stored::neighbour;
 use super::stored::offset;
+use numbers::wide;
 ghost use mathlib.Core.Path.{_≡_};
 ghost use mathlib.Core.Bool.{_||_};
 ghost use mathlib.Core.List.{_++_};
@@ -22,12 +23,6 @@ ghost use Rattle.aggregates.specs.Stored.{offsetsAt, neighboursAt, lists
 ghost use Rattle.aggregates.specs.JoinChoice.{at, beforeBy, better, bump, othersBy, wipe, Named, Zeros};
 ghost use Rattle.aggregates.specs.Log.{JoinedAt, turnLog};
 ghost use Rattle.aggregates.specs.JoinState.{All, Gathers, HasTurn, Joins, Moves, Reads, Rep, Turned, chainOf, hop, membersOf, moved, namesIn, stateIn, walk};
-
-fn wide(x: u32) -> usize
-    ensures { λ r. ⌜ r ≡ x ⌝ }
-{
-    x as usize
-}
 
 // Counts the groups that w[from..end] names: a count for each group, from w[hits] on.
 pub(crate) fn tally(w: &mut [u32], hits: usize, from: usize, end: usize)

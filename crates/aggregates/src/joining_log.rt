@@ -1,6 +1,7 @@
 // The joining log: by which test a group's taker was chosen, and the three numbers of a joining. Written only where they lie in the log: an empty log costs nothing.
 use super::joining::tally;
 use super::joining::untally;
+use numbers::wide;
 ghost use mathlib.Core.Path.{_≡_};
 ghost use mathlib.Core.List.{[], _∷_};
 ghost use Prim.Native.Nat.{_+_, _-_, _*_, _^_, _<_, _≤_, max};
@@ -8,12 +9,6 @@ ghost use lib.ListN.{length, set};
 ghost use lib.Seq.{slice};
 ghost use Rattle.aggregates.specs.JoinChoice.{at, Named};
 ghost use Rattle.aggregates.specs.Log.{Rules, ruleAgainst, ruleBy, ruleIn, noted};
-
-fn wide(x: u32) -> usize
-    ensures { λ r. ⌜ r ≡ x ⌝ }
-{
-    x as usize
-}
 
 fn larger(a: u32, b: u32) -> u32
     ensures { λ r. ⌜ r ≡ max a b ⌝ }

@@ -1,14 +1,9 @@
 // Numbers by first appearance, from 0. The numbers are w[0..nodes], each at most `top`. A table behind them has, for each number, its new number plus one, and 0 while it has none.
+use numbers::wide;
 ghost use mathlib.Core.Path.{_≡_};
 ghost use lib.ListN.{take};
 ghost use Rattle.definitions.specs.Groups.{renumbered};
 ghost use Rattle.aggregates.specs.Numbered.{Numbered, Blank};
-
-fn wide(x: u32) -> usize
-    ensures { λ r. ⌜ r ≡ x ⌝ }
-{
-    x as usize
-}
 
 // With a cleared table. Returns how many numbers there are.
 fn number_all(w: &mut [u32], nodes: usize, top: u32) -> u32

@@ -1,4 +1,3 @@
-pub mod Scattering
 pub mod Restricting
 pub mod Nodes
 pub mod Prolonging

@@ -7,8 +7,9 @@ use native.Mathlib.Nat.{mul-le-mul-right}
 use lib.ListN.{length, getD}
 use lib.Ieee.{Float, nan}
 use Rattle.definitions.specs.Transfer.{coarseColumn}
-use Rattle.two_level_apply.specs.Scatter.{scattered, partPuts, restrictPuts, prolongPuts, Grouped}
-use Rattle.two_level_apply.proofs.Scattering.{node-step}
+use Rattle.laws.specs.Scatter.{scattered}
+use Rattle.two_level_apply.specs.Scatter.{partPuts, restrictPuts, prolongPuts, Grouped}
+use Rattle.laws.proofs.Scattering.{node-step}
 use Rattle.two_level_apply.proofs.Restricting.{column-at}
 
 module _ {size n c : ℕ} {ids : List ℕ} (g : Grouped size ids n c) (first node : ℕ) (e : first ≡ node * size) where

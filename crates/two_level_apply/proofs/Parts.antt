@@ -20,7 +20,8 @@ use Rattle.definitions.specs.declared.TwoLevelBasis.the-variants.{JacobiSmoothe
 use Rattle.layout.proofs.Sizes.{at}
 use Rattle.setup_record.specs.Sizes.{sizesFit}
 use Rattle.setup_record.proofs.Limits.{and-left, and-right, Bounds, Sized, bounds-of, sized-of, smoothed-room, ids-room}
-use Rattle.two_level_apply.specs.Scatter.{Below, Rows, Grouped}
+use Rattle.laws.specs.Bounds.{Below, Compressed}
+use Rattle.two_level_apply.specs.Scatter.{Grouped}
 
 all-below : (n : ℕ) (xs : List ℕ) → all (λ k. ltb k n) xs ≡ true → Below n xs
 unfolding all
@@ -154,7 +155,7 @@ module _ (s : Setup) (ints : List ℕ) (floats : List Float) (fits : setupFits s
     pointers-long : length (pointersIn s ints) ≡ suc (s .rows)
     pointers-long = simp (length-take, length-drop) (omega (arith, rows-room))
 
-    pub compressed : Rows (s .rows) (s .coarse) (pointersIn s ints) (columnsIn s ints) (s .transfers)
+    pub compressed : Compressed (s .rows) (s .coarse) (pointersIn s ints) (columnsIn s ints) (s .transfers)
     compressed =
         record {
           long = pointers-long;

@@ -12,8 +12,9 @@ use Rattle.definitions.specs.Numbers.{_+ᶠ_, _*ᶠ_, summed}
 use Rattle.definitions.specs.Matrix.{rowOf, stored}
 use Rattle.definitions.specs.Apply.{prolongationTerms}
 use Rattle.laws.proofs.Growing.{tab-none, tab-more, tab-all, tab-unread}
-use Rattle.two_level_apply.specs.Scatter.{put, bump, scatter, scattered, single, gainPuts}
-use Rattle.two_level_apply.proofs.Scattering.{single-step}
+use Rattle.laws.specs.Scatter.{put, bump, scatter, scattered, single}
+use Rattle.two_level_apply.specs.Scatter.{gainPuts}
+use Rattle.laws.proofs.Scattering.{single-step}
 
 module _ (x : ℕ → Float) (z : List Float) where
   abbrev gains : ℕ → Float

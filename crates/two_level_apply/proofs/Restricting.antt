@@ -18,8 +18,10 @@ use Rattle.definitions.specs.Apply.{constantRestrictionTerms, smoothedRestricti
 use Rattle.laws.proofs.Lists.{each-any, flatMap-cong}
 use Rattle.laws.proofs.Kept.{flatMap-keep, flatMap-one}
 use Rattle.csr32.proofs.Stored.{where-hit, where-miss, where-none}
-use Rattle.two_level_apply.specs.Scatter.{put, bump, scatter, scattered, restrictPuts, scaled, scaledPuts, Rows}
-use Rattle.two_level_apply.proofs.Scattering.{putsAt, scatter-law, rows-step}
+use Rattle.laws.specs.Bounds.{Compressed}
+use Rattle.laws.specs.Scatter.{put, bump, scatter, scattered}
+use Rattle.two_level_apply.specs.Scatter.{restrictPuts, scaled, scaledPuts}
+use Rattle.laws.proofs.Scattering.{putsAt, scatter-law, rows-step}
 
 -- the coarse column of a node's row
 pub column-at : (size : ℕ) (ids : List ℕ) (node k : ℕ) → k < size → coarseColumn size ids (node * size + k) ≡ getD ids node 0 * size + k
@@ -89,7 +91,7 @@ pub transfer-step : (r : List Float) (ptr idx : List ℕ) (vals : List Float) (i
 unfolding rowOf
 transfer-step r ptr idx vals i from to l₀ l m e ef et em = rows-step (scaledPuts (rowOf ptr idx vals) r) l₀ l m i e (rw (em, ef, et, add-one))
 
-pub row-span : {n w m : ℕ} {ptr idx : List ℕ} (i from to : ℕ) → Rows n w ptr idx m → i < n → from ≡ getD ptr i 0 → to ≡ getD ptr (i + 1) 0 → (from ≤ to) × (to ≤ m)
+pub row-span : {n w m : ℕ} {ptr idx : List ℕ} (i from to : ℕ) → Compressed n w ptr idx m → i < n → from ≡ getD ptr i 0 → to ≡ getD ptr (i + 1) 0 → (from ≤ to) × (to ≤ m)
 row-span i from to h l ef et =
     let e = rw add-one at et in
     (omega (arith, h .rises i l, e), omega (arith, h .ends (suc i) (omega arith), e))

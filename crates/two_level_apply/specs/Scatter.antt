@@ -1,9 +1,9 @@
--- Loops that add into a list: what they leave, by the numbers put, in order.
-use Prim.Native.Nat.{ℕ, zero, suc, _+_, _*_, _<_, _≤_}
+-- What restriction and prolongation add, row by row, and what they ask of a setup's lists.
+use Prim.Native.Nat.{ℕ, _+_, _*_, _<_, _≤_}
 use mathlib.Core.Path.{_≡_}
 use mathlib.Core.Bool.{true}
-use mathlib.Core.List.{List, [], _∷_, map, foldl}
-use lib.ListN.{length, getD, set}
+use mathlib.Core.List.{List, map}
+use lib.ListN.{length, getD}
 use lib.Ieee.{Float, nan}
 use Rattle.definitions.specs.Lists.{tab}
 use Rattle.definitions.specs.Numbers.{_+ᶠ_, _*ᶠ_, summed}
@@ -13,25 +13,7 @@ use Rattle.definitions.specs.Fits.{setupFits}
 use Rattle.definitions.specs.Apply.{prolongationTerms, gained}
 use Rattle.definitions.specs.declared.Setup.{Setup}
 use Rattle.definitions.specs.declared.Places.{Places}
-
-abbrev pub put : ℕ → Float → Entry
-put k x = record { col = k; value = x }
-
--- l[k] += x
-abbrev pub bump : List Float → Entry → List Float
-bump l e = set l (e .col) (getD l (e .col) nan +ᶠ e .value)
-
-unfoldable pub scatter : List Entry → List Float → List Float
-scatter es l = foldl bump l es
-
--- n rows of puts, row after row
-unfoldable pub scattered : (ℕ → List Entry) → ℕ → List Float → List Float
-scattered puts zero l = l
-scattered puts (suc n) l = scatter (puts n) (scattered puts n l)
-
--- one put for each row: x i at the place p i
-abbrev pub single : (ℕ → ℕ) → (ℕ → Float) → ℕ → List Entry
-single p x i = put (p i) (x i) ∷ []
+use Rattle.laws.specs.Scatter.{put, single}
 
 -- the numbers of one list from a on, added to those of another from b on
 abbrev pub partPuts : List Float → ℕ → ℕ → ℕ → List Entry
@@ -56,18 +38,6 @@ scaledPuts transfer r i = scaled (getD r i nan) (transfer i)
 -- prolongation by weights
 abbrev pub gainPuts : (ℕ → List Entry) → List Float → ℕ → List Entry
 gainPuts transfer sol = single (λ i. i) (λ i. summed (prolongationTerms (transfer i) sol))
-
--- every number of a list is below n
-abbrev pub Below : ℕ → List ℕ → Type 0
-Below n l = (k : ℕ) → k < length l → getD l k 0 < n
-
--- compressed rows
-pub record Rows (n cols : ℕ) (ptr idx : List ℕ) (entries : ℕ) : Type 0 where
-  pub long : length ptr ≡ suc n
-  pub rises : (i : ℕ) → i < n → getD ptr i 0 ≤ getD ptr (suc i) 0
-  pub ends : (i : ℕ) → i < suc n → getD ptr i 0 ≤ entries
-  pub same : length idx ≡ entries
-  pub within : Below cols idx
 
 -- n rows, in nodes of `size` rows each; the coarse columns of every node's group are below c
 pub record Grouped (size : ℕ) (ids : List ℕ) (n c : ℕ) : Type 0 where

@@ -2,13 +2,8 @@
 ghost use mathlib.Core.Path.{_≡_};
 ghost use Prim.Native.Nat.{_+_, _<_, _≤_};
 ghost use lib.ListN.{length};
-ghost use Rattle.two_level_apply.specs.Scatter.{put, bump, scattered, partPuts};
-
-pub(crate) fn wide(x: u32) -> usize
-    ensures { λ r. ⌜ r ≡ x ⌝ }
-{
-    x as usize
-}
+ghost use Rattle.laws.specs.Scatter.{put, bump, scattered};
+ghost use Rattle.two_level_apply.specs.Scatter.{partPuts};
 
 pub(crate) fn add_at(l: &mut [f64], at: usize, x: f64)
     requires { ⌜ at < length (now l) ⌝ }

@@ -1,10 +1,10 @@
 // The coarse solution, added to the rows: z + P sol.
 use crate::adding::add_at;
 use crate::adding::add_part;
-use crate::adding::wide;
 use definitions::Places;
 use definitions::Setup;
 use definitions::TwoLevelBasis;
+use numbers::wide;
 ghost use mathlib.Core.Path.{_≡_};
 ghost use Prim.Native.Nat.{_≤_};
 ghost use lib.ListN.{length, getD};
@@ -15,7 +15,8 @@ ghost use Rattle.definitions.specs.Matrix.{rowOf, stored};
 ghost use Rattle.definitions.specs.Transfer.{coarseColumn};
 ghost use Rattle.definitions.specs.Apply.{prolongationTerms};
 ghost use Rattle.definitions.specs.declared.TwoLevelBasis.the-variants.{PiecewiseConstant, JacobiSmoothed};
-ghost use Rattle.two_level_apply.specs.Scatter.{Below, Rows, Grouped, Laid, prolonged};
+ghost use Rattle.laws.specs.Bounds.{Below, Compressed};
+ghost use Rattle.two_level_apply.specs.Scatter.{Grouped, Laid, prolonged};
 
 // z[i] += sol[coarse column of i], node after node.
 pub(crate) fn prolong_constant(sol: &[f64], ids: &[u32], size: usize, z: &mut [f64])
@@ -48,7 +49,7 @@ fn weight_sum(idx: &[u32], vals: &[f64], sol: &[f64], from: usize, to: usize) ->
 }
 
 pub(crate) fn prolong_smoothed(ptr: &[u32], idx: &[u32], vals: &[f64], sol: &[f64], z: &mut [f64])
-    requires { ⌜ Rows (length (now z)) (length (now sol)) (now ptr) (now idx) (length (now vals)) ⌝ }
+    requires { ⌜ Compressed (length (now z)) (length (now sol)) (now ptr) (now idx) (length (now vals)) ⌝ }
     ensures { λ _. ⌜ (
         let z₀ = now (z .entry) in
         let row = rowOf (now (ptr .entry)) (now (idx .entry)) (now (vals .entry)) in

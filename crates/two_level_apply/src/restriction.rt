@@ -1,10 +1,10 @@
 // The residual, restricted to the coarse columns: Pᵀ r.
 use crate::adding::add_at;
 use crate::adding::add_part;
-use crate::adding::wide;
 use definitions::Places;
 use definitions::Setup;
 use definitions::TwoLevelBasis;
+use numbers::wide;
 ghost use mathlib.Core.Path.{_≡_};
 ghost use mathlib.Core.List.{_++_};
 ghost use Prim.Native.Nat.{_≤_};
@@ -15,7 +15,9 @@ ghost use Rattle.definitions.specs.Matrix.{rowOf, stored};
 ghost use Rattle.definitions.specs.Transfer.{coarseColumn};
 ghost use Rattle.definitions.specs.Apply.{constantRestrictionTerms, smoothedRestrictionTerms, restricted};
 ghost use Rattle.definitions.specs.declared.TwoLevelBasis.the-variants.{PiecewiseConstant, JacobiSmoothed};
-ghost use Rattle.two_level_apply.specs.Scatter.{scatter, scattered, restrictPuts, scaled, scaledPuts, Below, Rows, Grouped, Laid};
+ghost use Rattle.laws.specs.Bounds.{Below, Compressed};
+ghost use Rattle.laws.specs.Scatter.{scatter, scattered};
+ghost use Rattle.two_level_apply.specs.Scatter.{restrictPuts, scaled, scaledPuts, Grouped, Laid};
 
 // rhs[coarse column of i] += r[i], node after node.
 fn add_nodes(r: &[f64], ids: &[u32], size: usize, rhs: &mut [f64])
@@ -56,7 +58,7 @@ fn add_weights(idx: &[u32], vals: &[f64], x: f64, from: usize, to: usize, rhs: &
 
 // The same for every row.
 fn add_transfers(ptr: &[u32], idx: &[u32], vals: &[f64], r: &[f64], rhs: &mut [f64])
-    requires { ⌜ Rows (length (now r)) (length (now rhs)) (now ptr) (now idx) (length (now vals)) ⌝ }
+    requires { ⌜ Compressed (length (now r)) (length (now rhs)) (now ptr) (now idx) (length (now vals)) ⌝ }
     ensures { λ _. ⌜ now (rhs .exit) ≡ scattered (scaledPuts (rowOf (now (ptr .entry)) (now (idx .entry)) (now (vals .entry))) (now (r .entry))) (length (now (r .entry))) (now (rhs .entry)) ⌝ }
 {
     let mut i = 0;
@@ -69,7 +71,7 @@ fn add_transfers(ptr: &[u32], idx: &[u32], vals: &[f64], r: &[f64], rhs: &mut [f
 }
 
 pub(crate) fn restrict_smoothed(ptr: &[u32], idx: &[u32], vals: &[f64], r: &[f64], rhs: &mut [f64])
-    requires { ⌜ Rows (length (now r)) (length (now rhs)) (now ptr) (now idx) (length (now vals)) ⌝ }
+    requires { ⌜ Compressed (length (now r)) (length (now rhs)) (now ptr) (now idx) (length (now vals)) ⌝ }
     ensures { λ _. ⌜ (
         let row = rowOf (now (ptr .entry)) (now (idx .entry)) (now (vals .entry)) in
         now (rhs .exit) ≡ tab (λ j. total (smoothedRestrictionTerms row (now (r .entry)) j)) (length (now (rhs .entry)))

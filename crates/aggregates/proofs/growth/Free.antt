@@ -10,7 +10,8 @@ use lib.Dec.{eqb}
 use lib.ListN.{length, getD, set, take}
 use lib.Seq.{slice, slice-cons, length-slice, take-suc-set, append-snoc, getD-drop, getD-take}
 use Rattle.definitions.specs.Groups.{free, noAnchor}
-use Rattle.aggregates.specs.Lists.{Lists, Below}
+use Rattle.laws.specs.Bounds.{Below}
+use Rattle.aggregates.specs.Lists.{Lists}
 
 -- what holds of every element of a list
 abbrev pub All : (ℕ → Type 0) → List ℕ → Type 0

@@ -13,7 +13,6 @@ use Rattle.aggregates.proofs.growth.push_free.Statement.{statement}
 use Rattle.aggregates.proofs.growth.push_free.Tie as tie
 use Rattle.aggregates.proofs.growth.push_free.Reads as reads
 use Rattle.aggregates.proofs.growth.push_free.Lts as lts
-use Rattle.aggregates.proofs.growth.wide.Reads as wide-reads
 use Rattle.aggregates.proofs.stored.neighbour.Reads as neighbour-reads
 use Rattle.aggregates.proofs.stored.offset.Reads as offset-reads
 

@@ -12,7 +12,6 @@ use Rattle.aggregates.proofs.joining_log.log_joining.Reads as reads
 use Rattle.aggregates.proofs.joining_log.log_joining.Lts as lts
 use Rattle.aggregates.proofs.joining_log.note.Reads as note-reads
 use Rattle.aggregates.proofs.joining_log.rule_of.Reads as rule-of-reads
-use Rattle.aggregates.proofs.joining_log.wide.Reads as wide-reads
 
 returns : tie.Need-returns
 returns c =

@@ -10,7 +10,6 @@ use Rattle.aggregates.proofs.renumber.number_all.Statement.{statement}
 use Rattle.aggregates.proofs.renumber.number_all.Tie as tie
 use Rattle.aggregates.proofs.renumber.number_all.Reads as reads
 use Rattle.aggregates.proofs.renumber.number_all.Lts as lts
-use Rattle.aggregates.proofs.renumber.wide.Reads as wide-reads
 
 abbrev Inv-loop : tie.InvT-loop
 Inv-loop w₀ nodes top count₀ v₀ w count v = Numbering nodes top w₀ w count v

@@ -10,7 +10,6 @@ use Rattle.aggregates.proofs.renumber.renumber.Tie as tie
 use Rattle.aggregates.proofs.renumber.renumber.Reads as reads
 use Rattle.aggregates.proofs.renumber.renumber.Lts as lts
 use Rattle.aggregates.proofs.renumber.number_all.Reads as number-all-reads
-use Rattle.aggregates.proofs.renumber.wide.Reads as wide-reads
 use Rattle.numbers.proofs.zero_ints.Reads as zero-ints-reads
 
 number-all-requires : tie.Need-number-all-requires

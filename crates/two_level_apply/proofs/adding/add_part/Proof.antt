@@ -4,8 +4,9 @@ use mathlib.Core.Path.{_≡_, refl, ap, _∙_}
 use native.Mathlib.Omega.{arith}
 use lib.ListN.{length, getD, length-set}
 use lib.Ieee.{nan}
-use Rattle.two_level_apply.specs.Scatter.{scattered, partPuts}
-use Rattle.two_level_apply.proofs.Scattering.{none-step, single-step}
+use Rattle.laws.specs.Scatter.{scattered}
+use Rattle.two_level_apply.specs.Scatter.{partPuts}
+use Rattle.laws.proofs.Scattering.{none-step, single-step}
 use borrow.Author.Needs.{needs}
 use Rattle.two_level_apply.proofs.adding.add_part.Statement.{statement}
 use Rattle.two_level_apply.proofs.adding.add_part.Tie as tie

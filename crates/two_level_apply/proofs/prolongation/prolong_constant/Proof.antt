@@ -5,8 +5,9 @@ use native.Mathlib.Omega.{arith}
 use lib.ListN.{length, getD}
 use lib.Ieee.{nan}
 use Rattle.definitions.specs.Transfer.{coarseColumn}
-use Rattle.two_level_apply.specs.Scatter.{scattered, prolongPuts}
-use Rattle.two_level_apply.proofs.Scattering.{none-step}
+use Rattle.laws.specs.Scatter.{scattered}
+use Rattle.two_level_apply.specs.Scatter.{prolongPuts}
+use Rattle.laws.proofs.Scattering.{none-step}
 use Rattle.two_level_apply.proofs.Nodes.{rows-within, columns-within, rows-passed, next-node, prolong-node}
 use Rattle.two_level_apply.proofs.Prolonging.{gained-all}
 use borrow.Author.Needs.{needs}

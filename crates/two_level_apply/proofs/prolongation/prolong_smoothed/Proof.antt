@@ -4,8 +4,9 @@ use mathlib.Core.Path.{_≡_, refl, ap, _∙_}
 use native.Mathlib.Omega.{arith}
 use lib.ListN.{length, length-set}
 use Rattle.definitions.specs.Matrix.{rowOf}
-use Rattle.two_level_apply.specs.Scatter.{scattered, gainPuts}
-use Rattle.two_level_apply.proofs.Scattering.{none-step}
+use Rattle.laws.specs.Scatter.{scattered}
+use Rattle.two_level_apply.specs.Scatter.{gainPuts}
+use Rattle.laws.proofs.Scattering.{none-step}
 use Rattle.two_level_apply.proofs.Restricting.{row-span}
 use Rattle.two_level_apply.proofs.Prolonging.{row-gain, gained-all}
 use Rattle.definitions.specs.Numbers.{summed}

@@ -1,12 +1,13 @@
 -- The rows of the nodes passed are added, each at its coarse column.
-use Rattle.two_level_apply.proofs.Scattering.{none-step}
+use Rattle.laws.proofs.Scattering.{none-step}
 use Rattle.two_level_apply.proofs.Nodes.{rows-within, columns-within, rows-passed, next-node, restrict-node}
 use Prim.Native.Nat.{_-_, _*_, _≤_}
 use mathlib.Core.Path.{_≡_, refl, _∙_}
 use native.Mathlib.Omega.{arith}
 use lib.ListN.{length}
 use Rattle.definitions.specs.Transfer.{coarseColumn}
-use Rattle.two_level_apply.specs.Scatter.{scattered, restrictPuts}
+use Rattle.laws.specs.Scatter.{scattered}
+use Rattle.two_level_apply.specs.Scatter.{restrictPuts}
 use borrow.Author.Needs.{needs}
 use Rattle.two_level_apply.proofs.restriction.add_nodes.Statement.{statement}
 use Rattle.two_level_apply.proofs.restriction.add_nodes.Tie as tie

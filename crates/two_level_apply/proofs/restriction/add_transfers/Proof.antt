@@ -4,8 +4,9 @@ use mathlib.Core.Path.{_≡_, refl, _∙_}
 use native.Mathlib.Omega.{arith}
 use lib.ListN.{length}
 use Rattle.definitions.specs.Matrix.{rowOf}
-use Rattle.two_level_apply.specs.Scatter.{scattered, scaledPuts}
-use Rattle.two_level_apply.proofs.Scattering.{none-step}
+use Rattle.laws.specs.Scatter.{scattered}
+use Rattle.two_level_apply.specs.Scatter.{scaledPuts}
+use Rattle.laws.proofs.Scattering.{none-step}
 use Rattle.two_level_apply.proofs.Restricting.{transfer-step, row-span}
 use borrow.Author.Needs.{needs}
 use Rattle.two_level_apply.proofs.restriction.add_transfers.Statement.{statement}
