@@ -11,18 +11,25 @@ use yelomawin::{Aggregation, Basis, BlockJacobi, CoarsePolicy, Matrix, Setup, Wo
 
 /// Runs both in turn, up to 25 times and for about two seconds, once if once takes longer: the shortest times in milliseconds, and the
 /// last results. What an earlier run left is dropped outside the time.
-pub fn both<A, B>(mut rust: impl FnMut() -> A, mut ours: impl FnMut() -> B) -> (f64, A, f64, B) {
+pub fn both<A, B>(rust: impl FnMut() -> A, ours: impl FnMut() -> B) -> (f64, A, f64, B) {
+    let ([r, o, _], (a, b, ())) = three(rust, ours, || ());
+    (r, a, o, b)
+}
+
+/// The same with a third.
+fn three<A, B, C>(mut rust: impl FnMut() -> A, mut ours: impl FnMut() -> B, mut more: impl FnMut() -> C) -> ([f64; 3], (A, B, C)) {
+    fn timed<T>(least: &mut f64, call: &mut impl FnMut() -> T) -> T {
+        let start = Instant::now();
+        let result = black_box(call());
+        *least = least.min(start.elapsed().as_secs_f64() * 1e3);
+        result
+    }
     let begin = Instant::now();
-    let (mut r, mut o) = (f64::INFINITY, f64::INFINITY);
+    let mut least = [f64::INFINITY; 3];
     for k in 0.. {
-        let start = Instant::now();
-        let a = black_box(rust());
-        r = r.min(start.elapsed().as_secs_f64() * 1e3);
-        let start = Instant::now();
-        let b = black_box(ours());
-        o = o.min(start.elapsed().as_secs_f64() * 1e3);
+        let results = (timed(&mut least[0], &mut rust), timed(&mut least[1], &mut ours), timed(&mut least[2], &mut more));
         if k == 24 || begin.elapsed().as_secs_f64() > 2.0 {
-            return (r, a, o, b);
+            return (least, results);
         }
     }
     unreachable!()
@@ -51,23 +58,24 @@ fn residual(rows: usize) -> Vec<f64> {
 pub fn grouping(name: &'static str, lists: Vec<Vec<usize>>, size: usize) -> Vec<Row> {
     let (offsets, neighbours) = ::lent::flat(&lists);
     let neighbours = narrow(&neighbours);
-    let (mut ids, mut log, mut work) = (Vec::new(), Vec::new(), Vec::new());
-    let (rust, (expected, count), ours, found) =
-        both(|| probe::groups(&lists, size).unwrap(), || yelomawin::group_in(size, &offsets, &neighbours, &mut ids, &mut work).unwrap());
-    assert_eq!(found, count, "grouping, {name}: counts differ");
-    assert!(narrow(&expected) == ids, "grouping, {name}: ids differ");
-    let (again, _, logged, (found, joinings)) = both(
+    let (mut ids, mut work) = (Vec::new(), Vec::new());
+    let (mut logged_ids, mut log, mut logged_work) = (Vec::new(), Vec::new(), Vec::new());
+    let ([rust, ours, logged], ((expected, count), found, (logged_count, joinings))) = three(
         || probe::groups(&lists, size).unwrap(),
-        || yelomawin::group_log_in(size, &offsets, &neighbours, &mut ids, &mut log, &mut work).unwrap(),
+        || yelomawin::group_in(size, &offsets, &neighbours, &mut ids, &mut work).unwrap(),
+        || yelomawin::group_log_in(size, &offsets, &neighbours, &mut logged_ids, &mut log, &mut logged_work).unwrap(),
     );
+    let expected = narrow(&expected);
+    assert_eq!(found, count, "grouping, {name}: counts differ");
+    assert!(expected == ids, "grouping, {name}: ids differ");
     let plain = joining::joined(&lists.iter().map(|l| narrow(l)).collect::<Vec<_>>(), size);
-    assert_eq!((found, joinings), (count, plain.log.len()), "grouping with a log, {name}: counts differ");
+    assert_eq!((logged_count, joinings), (count, plain.log.len()), "grouping with a log, {name}: counts differ");
     let rest = log.strip_prefix(plain.log.as_flattened());
-    assert!(narrow(&expected) == ids && rest.is_some_and(|r| r.iter().all(|&x| x == 0)), "grouping with a log, {name}: ids or logs differ");
+    assert!(expected == logged_ids && rest.is_some_and(|r| r.iter().all(|&x| x == 0)), "grouping with a log, {name}: ids or logs differ");
     let nodes = format!("{} nodes, {} neighbours", counted(lists.len()), counted(neighbours.len()));
     vec![
         Row::new(format!("grouping, {name}, size {size}"), nodes.clone(), lists.len(), rust, None, ours),
-        Row::new(format!("grouping with a log, {name}, size {size}"), format!("{nodes}, {} joinings", counted(joinings)), lists.len(), again, None, logged),
+        Row::new(format!("grouping with a log, {name}, size {size}"), format!("{nodes}, {} joinings", counted(joinings)), lists.len(), rust, None, logged),
     ]
 }
 

@@ -74,6 +74,9 @@ pub fn markdown(command: &str, machine: &str, rows: &[Row], memory: &[Memory]) -
         )
         .unwrap();
     }
+    if memory.is_empty() {
+        return out;
+    }
     writeln!(o, "\n## Peak memory\n").unwrap();
     writeln!(
         o,

@@ -13,12 +13,13 @@ use Rattle.definitions.specs.Lists.{tab, padded}
 use Rattle.definitions.specs.Numbers.{zeroᶠ}
 use Rattle.definitions.specs.Refusal.{Outcome, refused, done, _>>=_, numberOf, causeOf, keepsAll, resultLeft, workLeft}
 use Rattle.definitions.specs.Groups.{Grouping, groupingLeft, groupingWorkLeft}
+use Rattle.definitions.specs.JoiningLog.{Logged, groupingIn, logLeft}
 use Rattle.definitions.specs.Setup.{Built, Lent, lentOf, setupLeft}
-use Rattle.definitions.specs.Answers.{answerOf, answerNumber, groupingAnswer, groupingNumber, setupAnswer, setupNumber}
+use Rattle.definitions.specs.Answers.{answerOf, answerNumber, groupingAnswer, groupingNumber, groupingLogAnswer, groupingLogNumber, setupAnswer, setupNumber}
 use Rattle.definitions.specs.declared.Refusal.{Refusal}
 use Rattle.definitions.specs.declared.Refusal.the-variants.{TooLarge, RowListLength, ColumnListLength, FirstPointer, LastPointer, PointerFalls, ColumnOutside, ValueNotFinite, NotSquare, BlockSize, GroupSize, NotMultiple, ListTooShort, BlockNotSymmetric, BlockPivot, NoNode, CoarseTooLarge, CoarseListTooShort, MissingDiagonal, ZeroDiagonal, NegativeDiagonal, EstimateFailed, CoarseScale, CoarsePivot, WrongLength, SetupMisfit, NeighbourOffsets, NeighbourOutside, LogTooShort}
 use Rattle.yelomawin.specs.Boundary.{received, whether}
-use Rattle.yelomawin_bytes.specs.Calls.{writes, after, emptied, bytesLeft, idsLeft, answerLeft, MatrixEmptied, BothEmptied, ResultLeft, AnswerLeft}
+use Rattle.yelomawin_bytes.specs.Calls.{writes, after, emptied, bytesLeft, idsLeft, logBytesLeft, answerLeft, MatrixEmptied, BothEmptied, ResultLeft, AnswerLeft}
 use Rattle.yelomawin_bytes.specs.Results.{LentLeft}
 use Rattle.yelomawin_bytes.specs.Handed.{Read, leavesAll, Handed}
 
@@ -73,6 +74,12 @@ setup-number : (s : Outcome Built) → setupNumber (setupAnswer s) ≡ numberIn 
 unfolding setupNumber setupAnswer numberIn
 setup-number (done x) = refl
 setup-number (refused r) = refl
+
+-- a log changes no number
+log-number : (g : Outcome Logged) → groupingLogNumber (groupingLogAnswer g) ≡ groupingNumber (groupingAnswer (groupingIn g))
+unfolding groupingLogNumber groupingLogAnswer groupingNumber groupingAnswer groupingIn _>>=_
+log-number (done x) = refl
+log-number (refused r) = refl
 
 bind-done : {A : Type 0} (o : Outcome A) → (o >>= (λ x. done x)) ≡ o
 unfolding _>>=_
@@ -200,6 +207,19 @@ module _ {fits : Bool} (e : fits ≡ true) where
   ids-told (done x) {lent = lent} fit same h n t = rw (e) (handed 0 4 (omega arith) bytesOfInts (λ (y : Grouping). y .ids) no-ints ints-padded lent same fit h (done x) (rw (n)) t)
   ids-told (refused r) {lent = lent} fit same h n t =
       let u = by-cause 0 4 (omega arith) bytesOfInts (λ (y : Grouping). y .ids) no-ints ints-padded lent same fit h true (rw (n, left ℕ 0 lent r .2)) t in
+      rw (e) (record { inRoom = u .0; inBytes = u .1 })
+
+  -- and so does grouping with a log
+  pub logged-ids-told : (g : Outcome Logged) {number : ℕ} {lent room room' bytes bytes' : List ℕ} → writes 4 lent bytes ≡ true → length room ≡ length lent → Handed 4 0 bytesOfInts (not (eqb number 0)) room bytes room' bytes'
+      → number ≡ groupingLogNumber (groupingLogAnswer g) → room ≡ groupingLeft (groupingIn g) lent → ResultLeft fits (groupingWorkLeft (groupingIn g)) (idsLeft (groupingIn g)) lent bytes room' bytes'
+  logged-ids-told g fit same h n t = ids-told (groupingIn g) fit same h (n ∙ log-number g) t
+
+  pub log-told : (g : Outcome Logged) {number : ℕ} {lent room room' bytes bytes' : List ℕ} → writes 4 lent bytes ≡ true → length room ≡ length lent → Handed 4 0 bytesOfInts (not (eqb number 0)) room bytes room' bytes'
+      → number ≡ groupingLogNumber (groupingLogAnswer g) → room ≡ logLeft g lent → ResultLeft fits (groupingWorkLeft (groupingIn g)) (logBytesLeft g) lent bytes room' bytes'
+  unfolding groupingLogNumber groupingLogAnswer groupingIn groupingWorkLeft logLeft logBytesLeft _>>=_ numberIn leavesAll resultLeft workLeft bytesLeft
+  log-told (done x) {lent = lent} fit same h n t = rw (e) (handed 0 4 (omega arith) bytesOfInts (λ (y : Logged). y .log) no-ints ints-padded lent same fit h (done x) (rw (n)) t)
+  log-told (refused r) {lent = lent} fit same h n t =
+      let u = by-cause 0 4 (omega arith) bytesOfInts (λ (y : Logged). y .log) no-ints ints-padded lent same fit h true (rw (n, left ℕ 0 lent r .2)) t in
       rw (e) (record { inRoom = u .0; inBytes = u .1 })
 
   pub setup-told : (known : Bool) (s : Outcome Built) (lent : Lent) {number : ℕ} {ints workInts ints' bytes bytes' : List ℕ} {floats workFloats floats' : List Float} {floatBytes floatBytes' : List ℕ}

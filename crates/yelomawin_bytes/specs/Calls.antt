@@ -12,6 +12,7 @@ use Rattle.definitions.specs.Numbers.{zeroᶠ}
 use Rattle.definitions.specs.Refusal.{Outcome, done, _>>=_, resultLeft}
 use Rattle.definitions.specs.Matrix.{Matrix, csr}
 use Rattle.definitions.specs.Groups.{Grouping, groupingLeft}
+use Rattle.definitions.specs.JoiningLog.{Logged, logLeft}
 use Rattle.yelomawin.specs.Boundary.{received}
 
 -- a call with a byte list that is not of whole numbers, or that lacks room, answers this, a number that no cause has, and leaves every list as it was
@@ -49,6 +50,10 @@ bytesLeft spell o bytes = resultLeft 0 (o >>= (λ x. done (spell x))) bytes
 -- and those of group ids are one of grouping alone
 unfoldable pub idsLeft : Outcome Grouping → List ℕ → List ℕ
 idsLeft g bytes = groupingLeft (g >>= (λ x. done (record { ids = bytesOfInts (x .ids); count = x .count }))) bytes
+
+-- and those of a log one of grouping with a log
+unfoldable pub logBytesLeft : Outcome Logged → List ℕ → List ℕ
+logBytesLeft g bytes = logLeft (g >>= (λ x. done (record { grouping = x .grouping; joinings = x .joinings; log = bytesOfInts (x .log) }))) bytes
 
 -- an answer's bytes: its values, as far as its room has place for them, and zeros
 unfoldable pub answerLeft : List ℕ → List ℕ → List ℕ → List ℕ

@@ -94,6 +94,23 @@ pub(crate) fn ints(room: usize, answer_room: usize, bytes: usize, answer: usize)
     both(holds_ints(room, bytes), holds_words(answer_room, answer))
 }
 
+// Group ids, a log, and an answer.
+pub(crate) fn logged(
+    ids_room: usize,
+    log_room: usize,
+    answer_room: usize,
+    ids: usize,
+    log: usize,
+    answer: usize,
+) -> bool
+    ensures { λ r. ⌜ r ≡ (writable 4 «ids_room» ids && (writable 4 «log_room» log && writable 8 «answer_room» answer)) ⌝ }
+{
+    both(
+        holds_ints(ids_room, ids),
+        ints(log_room, answer_room, log, answer),
+    )
+}
+
 // An estimate's diagonal, and its answer.
 pub(crate) fn diagonal(
     diagonal: usize,

@@ -12,15 +12,16 @@ ghost use Rattle.definitions.specs.Matrix.{validOf};
 ghost use Rattle.definitions.specs.Diagonal.{diagonalCall};
 ghost use Rattle.definitions.specs.Block.{blocksCall, blockApplyCall};
 ghost use Rattle.definitions.specs.Groups.{groupingCall, groupingWorkLeft};
+ghost use Rattle.definitions.specs.JoiningLog.{groupingLogCall, groupingIn};
 ghost use Rattle.definitions.specs.Estimate.{estimateCall};
 ghost use Rattle.definitions.specs.Setup.{setupOf, lengthsOf};
 ghost use Rattle.two_level_setup.specs.Contracts.{lentOf};
 ghost use Rattle.definitions.specs.Apply.{applyCall};
-ghost use Rattle.definitions.specs.Answers.{answerOf, answerNumber, groupingAnswer, estimateAnswer, answerValues, groupingNumber, groupingValues, estimateNumber, estimateValues};
+ghost use Rattle.definitions.specs.Answers.{answerOf, answerNumber, groupingAnswer, groupingLogAnswer, estimateAnswer, answerValues, groupingNumber, groupingValues, groupingLogNumber, groupingLogValues, estimateNumber, estimateValues};
 ghost use Rattle.definitions.specs.Record.{arePolicies, recordOf, isRecord};
 ghost use Rattle.yelomawin.specs.Boundary.{optionsOf, whether};
 ghost use Rattle.yelomawin_bytes.specs.Results.{bytesSetup, bytesApply, LentLeft};
-ghost use Rattle.yelomawin_bytes.specs.Calls.{misfit, reads, writes, matrixOf, matrixFits, after, emptied, bytesLeft, idsLeft, MatrixEmptied, BothEmptied, ResultLeft, AnswerLeft};
+ghost use Rattle.yelomawin_bytes.specs.Calls.{misfit, reads, writes, matrixOf, matrixFits, after, emptied, bytesLeft, idsLeft, logBytesLeft, MatrixEmptied, BothEmptied, ResultLeft, AnswerLeft};
 
 mod fits;
 mod rooms;
@@ -294,6 +295,73 @@ pub extern "C" fn yelomawin_bytes_group(
         );
         rooms::clear_graph(offset_room, neighbour_room);
         rooms::hand_ints(number != 0, ids_room, ids);
+        rooms::hand_answer(answer_room, answer);
+        return number;
+    }
+    254
+}
+
+// So does grouping with a log.
+#[no_mangle]
+pub extern "C" fn yelomawin_bytes_group_log(
+    nodes: u64,
+    group_size: u64,
+    offsets: &[u8],
+    neighbours: &[u8],
+    offset_room: &mut [u32],
+    neighbour_room: &mut [u32],
+    ids_room: &mut [u32],
+    log_room: &mut [u32],
+    work: &mut [u32],
+    answer_room: &mut [u64],
+    ids: &mut [u8],
+    log: &mut [u8],
+    answer: &mut [u8],
+) -> u64
+    ensures { λ r. ⌜ (let fits = (reads 4 (now (offsets .entry)) (now («offset_room» .entry)) && reads 4 (now (neighbours .entry)) (now («neighbour_room» .entry)))
+        && (writes 4 (now («ids_room» .entry)) (now (ids .entry)) && (writes 4 (now («log_room» .entry)) (now (log .entry)) && writes 8 (now («answer_room» .entry)) (now (answer .entry)))) in
+        let g = groupingLogCall nodes «group_size» (intsOf (now (offsets .entry))) (intsOf (now (neighbours .entry)))
+        (length (now («ids_room» .entry))) (length (now («log_room» .entry))) (length (now (work .entry))) in
+        (r ≡ cond fits (groupingLogNumber (groupingLogAnswer g)) misfit)
+        × BothEmptied fits 0 (now («offset_room» .entry)) (now («neighbour_room» .entry)) (now («offset_room» .exit)) (now («neighbour_room» .exit))
+        × ResultLeft fits (groupingWorkLeft (groupingIn g)) (idsLeft (groupingIn g)) (now («ids_room» .entry)) (now (ids .entry)) (now («ids_room» .exit)) (now (ids .exit))
+        × ResultLeft fits (groupingWorkLeft (groupingIn g)) (logBytesLeft g) (now («log_room» .entry)) (now (log .entry)) (now («log_room» .exit)) (now (log .exit))
+        × (now (work .exit) ≡ after fits (groupingWorkLeft (groupingIn g)) (now (work .entry)))
+        × AnswerLeft fits (groupingLogValues (groupingLogAnswer g)) (now («answer_room» .entry)) (now (answer .entry)) (now («answer_room» .exit)) (now (answer .exit))) ⌝ }
+{
+    if fits::both(
+        fits::graph(
+            offsets.len(),
+            neighbours.len(),
+            offset_room.len(),
+            neighbour_room.len(),
+        ),
+        fits::logged(
+            ids_room.len(),
+            log_room.len(),
+            answer_room.len(),
+            ids.len(),
+            log.len(),
+            answer.len(),
+        ),
+    ) {
+        rooms::read_graph(offsets, neighbours, offset_room, neighbour_room);
+        let offsets_count = offsets.len() / 4;
+        let neighbours_count = neighbours.len() / 4;
+        let number = yelomawin::yelomawin_group_log(
+            nodes,
+            group_size,
+            &offset_room[..offsets_count],
+            &neighbour_room[..neighbours_count],
+            ids_room,
+            log_room,
+            work,
+            answer_room,
+        );
+        let kept = number != 0;
+        rooms::clear_graph(offset_room, neighbour_room);
+        rooms::hand_ints(kept, ids_room, ids);
+        rooms::hand_ints(kept, log_room, log);
         rooms::hand_answer(answer_room, answer);
         return number;
     }
