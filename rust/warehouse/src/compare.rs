@@ -1,9 +1,9 @@
 //! Iterations and seconds without a preconditioner, with simple ones, and with each grouping and basis.
+use crate::clock::worked;
 use crate::csr::Csr;
 use crate::job::{AGGREGATIONS, BASES, Job};
 use crate::progress::Progress;
 use crate::report::{Report, Stop, counted};
-use std::time::Instant;
 use yelomawin::{Aggregation, BlockJacobi, Ended, Matrix, Options, Parts, Refusal, Setup, solve_telling};
 
 /// How a residual is corrected.
@@ -35,15 +35,15 @@ pub fn compared(job: &Job, a: &Csr, parts: &Parts, load: &[f64], progress: &Prog
     let whole = Parts::whole(a.rows);
     let line = |name: &str, parts: &Parts, build: &dyn Fn(&Matrix) -> Result<Corrects, Refusal>| -> Result<(), Stop> {
         progress.stage(&format!("comparing: {name}"));
-        let start = Instant::now();
+        let start = worked();
         let mut corrects = match build(&a.matrix()) {
             Ok(c) => c,
             Err(r) => return report.say(format!("  {name:<36} refused: cause {}", r.number())),
         };
-        let setup = start.elapsed();
+        let setup = worked() - start;
         let tell = |k, open| progress.at(|| format!("comparing: {name}, iteration {k}, {open} of {} not solved yet", counted(parts.count(), "row")));
         let solved = solve_telling(&a.matrix(), parts, &mut corrects, load, &job.goal, tell).map_err(|r| Stop::Said(r.to_string()))?;
-        let solve = start.elapsed() - setup;
+        let solve = worked() - start - setup;
         let most = solved.iterations.iter().max().unwrap_or(&0);
         let residual = solved.residual.iter().fold(0.0f64, |m, &r| if r > m || r.is_nan() { r } else { m });
         let open = solved.ended.iter().filter(|&&e| e != Ended::Reached).count();
@@ -68,8 +68,6 @@ pub fn compared(job: &Job, a: &Csr, parts: &Parts, load: &[f64], progress: &Prog
         }
     }
     progress.stage("");
-    if parts.count() > 1 {
-        report.say("iterations: of the row that takes most; * its groups may span two rows, so that the step length is one for all".into())?;
-    }
-    Ok(())
+    let of_rows = "; iterations of the row that takes most; * its groups may span two rows, so that the step length is one for all";
+    report.say(format!("seconds of processor time{}", if parts.count() > 1 { of_rows } else { "" }))
 }

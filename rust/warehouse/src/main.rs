@@ -1,4 +1,5 @@
 //! A warehouse of free-standing rows: its setup in figures, and what a new load on one row does to the others.
+mod clock;
 mod compare;
 mod csr;
 mod job;

@@ -144,10 +144,12 @@ fn every_preconditioner_is_compared() {
         let w: Vec<&str> = line[38..].split_whitespace().collect();
         assert!(w.len() == 4 && w[2].parse::<usize>().unwrap() > 0 && w[3].parse::<f64>().unwrap() <= 1e-9, "{line}");
     }
-    // The smoothed transfer asks for a diagonal that the blocks have; a coarse dimension too large is told.
-    let linked = chain("compared", 2100);
-    let o = run(&[&linked.0, "--block", "1", "--aggregation", "contiguous", "--group", "3", "--compare"]);
-    assert!(o.status.success() && out(&o).contains("\n  graph, piecewise-constant"), "{}", err(&o));
+    // What is refused is told in its line, and the others are compared.
+    let apart = matrix("compared", 2100, &(1..=2100).map(|i| (i, i, 1.0)).collect::<Vec<_>>());
+    let text = out(&run(&[&apart.0, "--block", "1", "--aggregation", "contiguous", "--group", "8", "--most", "2", "--compare"]));
+    let line = |name: &str| text.lines().find(|l| l.starts_with(&format!("  {name} "))).unwrap_or_else(|| panic!("{name}: {text}")).to_string();
+    assert!(line("strong-graph, jacobi-smoothed").ends_with(" refused: cause 17"), "{text}");
+    assert!(line("Jacobi").split_whitespace().nth(3) == Some("1"), "{text}");
 }
 
 #[test]
