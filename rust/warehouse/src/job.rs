@@ -1,9 +1,19 @@
 //! What is asked for on the command line.
-use crate::parts::Parts;
 use std::ffi::OsString;
-use yelomawin::{Aggregation, Basis, CoarsePolicy, Options};
+use yelomawin::{Aggregation, Basis, CoarsePolicy, Goal, Options, Parts};
 
 pub const HELP: &str = include_str!("../help.txt");
+
+/// The names of the groupings and of the bases on the command line and in tables.
+pub const AGGREGATIONS: [(&str, Aggregation); 3] =
+    [("graph", Aggregation::Graph), ("strong-graph", Aggregation::StrongGraph), ("contiguous", Aggregation::Contiguous)];
+pub const BASES: [(&str, Basis); 2] = [("piecewise-constant", Basis::PiecewiseConstant), ("jacobi-smoothed", Basis::JacobiSmoothed)];
+
+pub enum Asked {
+    Help,
+    Version,
+    Job(Box<Job>),
+}
 
 pub struct Job {
     /// The sample, if none is named.
@@ -14,9 +24,9 @@ pub struct Job {
     pub figures: Option<String>,
     pub row: usize,
     pub add: f64,
-    pub unknown: Option<usize>,
-    pub tolerance: f64,
-    pub most: usize,
+    unknown: Option<usize>,
+    pub goal: Goal,
+    pub compare: bool,
 }
 
 fn read<T: std::str::FromStr>(option: &str, what: &str, s: &str, taken: impl Fn(&T) -> bool) -> Result<T, String> {
@@ -37,9 +47,8 @@ fn named<T: Copy>(option: &str, names: &[(&str, T)], s: &str) -> Result<T, Strin
 }
 
 impl Job {
-    /// From the arguments of the program; none if help is asked for.
-    pub fn read(args: impl Iterator<Item = OsString>) -> Result<Option<Job>, String> {
-        let mut job = Job {
+    fn new() -> Job {
+        Job {
             file: None,
             options: Options {
                 block_size: 3,
@@ -54,39 +63,54 @@ impl Job {
             row: 0,
             add: -5.0,
             unknown: None,
-            tolerance: 1e-12,
-            most: 20_000,
-        };
-        let args: Result<Vec<String>, OsString> = args.map(OsString::into_string).collect();
-        let mut args = args.map_err(|a| format!("expected an argument in Unicode, found {a:?}"))?.into_iter();
-        while let Some(a) = args.next() {
-            if a == "--help" || a == "-h" {
-                return Ok(None);
-            }
-            if !a.starts_with('-') {
-                if let Some(first) = job.file.replace(a.clone()) {
-                    return Err(format!("expected one file, found '{first}' and '{a}'"));
-                }
-                continue;
-            }
-            let s = args.next().ok_or_else(|| format!("{a}: expected a value after it, or no such option\n{HELP}"))?;
-            job.take(&a, s)?;
-        }
-        let last = job.options.block_size - 1;
-        match job.unknown {
-            Some(k) if k > last => Err(format!("--unknown: expected 0 to {last}, found {k}")),
-            _ => Ok(Some(job)),
+            goal: Goal { tolerance: 1e-9, most: 20_000 },
+            compare: false,
         }
     }
 
+    /// From the arguments of the program.
+    pub fn read(args: impl Iterator<Item = OsString>) -> Result<Asked, String> {
+        let mut job = Job::new();
+        let args: Result<Vec<String>, OsString> = args.map(OsString::into_string).collect();
+        let mut args = args.map_err(|a| format!("expected an argument in Unicode, found {a:?}"))?.into_iter();
+        while let Some(a) = args.next() {
+            match a.as_str() {
+                "--help" | "-h" => return Ok(Asked::Help),
+                "--version" => return Ok(Asked::Version),
+                "--compare" => job.compare = true,
+                _ if a.starts_with('-') && a != "-" => {
+                    let (option, value) = match a.split_once('=') {
+                        Some((option, value)) => (option, Some(value.to_string())),
+                        None => (a.as_str(), None),
+                    };
+                    let value = value.or_else(|| args.next());
+                    job.take(option, value.ok_or_else(|| format!("{a}: expected a value after it, or no such option\n{HELP}"))?)?;
+                }
+                _ => {
+                    if let Some(first) = job.file.replace(a.clone()) {
+                        return Err(format!("expected one file, found '{first}' and '{a}'"));
+                    }
+                }
+            }
+        }
+        let last = job.options.block_size - 1;
+        if let Some(k) = job.unknown.filter(|&k| k > last) {
+            return Err(format!("--unknown: expected 0 to {last}, found {k}"));
+        }
+        if job.file.as_deref() == Some("-") && job.loads.as_deref() == Some("-") {
+            return Err("--loads: standard input is read for the matrix already".into());
+        }
+        Ok(Asked::Job(Box::new(job)))
+    }
+
     fn take(&mut self, option: &str, s: String) -> Result<(), String> {
-        use {Aggregation::*, Basis::*, CoarsePolicy::*};
+        use CoarsePolicy::*;
         let o = &mut self.options;
         match option {
             "--block" => o.block_size = count(option, &s)?,
             "--group" => o.group_size = count(option, &s)?,
-            "--aggregation" => o.aggregation = named(option, &[("graph", Graph), ("strong-graph", StrongGraph), ("contiguous", Contiguous)], &s)?,
-            "--basis" => o.basis = named(option, &[("piecewise-constant", PiecewiseConstant), ("jacobi-smoothed", JacobiSmoothed)], &s)?,
+            "--aggregation" => o.aggregation = named(option, &AGGREGATIONS, &s)?,
+            "--basis" => o.basis = named(option, &BASES, &s)?,
             "--coarse" => o.coarse_policy = named(option, &[("auto", Auto), ("factor", FactorSolve), ("inverse", ExplicitInverse)], &s)?,
             "--loads" => self.loads = Some(s),
             "--groups" => self.groups = Some(s),
@@ -94,17 +118,21 @@ impl Job {
             "--row" => self.row = from_0(option, &s)?,
             "--add" => self.add = read(option, "a finite number", &s, |x: &f64| x.is_finite())?,
             "--unknown" => self.unknown = Some(from_0(option, &s)?),
-            // Below a number's rounding the residual that is carried along says nothing of the true one.
-            "--tolerance" => self.tolerance = read(option, "a number from 1e-16 to below 1", &s, |t| (1e-16..1.0).contains(t))?,
-            "--most" => self.most = count(option, &s)?,
+            "--tolerance" => self.goal.tolerance = read(option, "a number from 1e-16 to below 1", &s, |t| (1e-16..1.0).contains(t))?,
+            "--most" => self.goal.most = count(option, &s)?,
+            "--compare" | "--help" | "--version" => return Err(format!("{option}: expected no value, found '{s}'")),
             _ => return Err(format!("no option '{option}'\n{HELP}")),
         }
         Ok(())
     }
 
+    /// The unknown of a node that own loads act on.
+    pub fn unknown(&self) -> usize {
+        self.unknown.unwrap_or(if self.options.block_size > 1 { 1 } else { 0 })
+    }
+
     fn loaded(&self, i: usize) -> bool {
-        let b = self.options.block_size;
-        i % b == self.unknown.unwrap_or(if b > 1 { 1 } else { 0 })
+        i % self.options.block_size == self.unknown()
     }
 
     /// -1 at every node.
@@ -114,7 +142,13 @@ impl Job {
 
     /// The loads with the new one on its row.
     pub fn with_new_load(&self, load: &[f64], parts: &Parts) -> Result<Vec<f64>, String> {
-        let row = parts.unknowns.get(self.row).ok_or_else(|| format!("--row: expected 0 to {}, found {}", parts.count() - 1, self.row))?;
+        if self.row >= parts.count() {
+            return Err(match parts.count() {
+                1 => format!("--row: expected 0, for one row stands free; found {}", self.row),
+                n => format!("--row: expected 0 to {}, found {}", n - 1, self.row),
+            });
+        }
+        let row = parts.unknowns(self.row);
         let mut more = load.to_vec();
         row.iter().filter(|&&i| self.loaded(i)).for_each(|&i| more[i] += self.add);
         match row.iter().find(|&&i| !more[i].is_finite()) {

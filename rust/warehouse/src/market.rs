@@ -1,6 +1,7 @@
 //! Matrices and load vectors from files in Matrix Market format. Every message names the file, the line, and what was expected there.
 use crate::csr::Csr;
 use crate::progress::Progress;
+use std::io::Read;
 use yelomawin::{MOST_ENTRIES, MOST_ROWS};
 
 /// A file's text, with its name for the messages.
@@ -47,8 +48,16 @@ impl Line<'_> {
 }
 
 impl File {
+    /// The file of a name; - is standard input.
     pub fn read(name: &str) -> Result<File, String> {
-        std::fs::read(name).map(|bytes| File::of(name, bytes)).map_err(|e| format!("{name}: {e}"))
+        let (name, bytes) = match name {
+            "-" => {
+                let mut bytes = Vec::new();
+                ("standard input", std::io::stdin().read_to_end(&mut bytes).map(|_| bytes))
+            }
+            _ => (name, std::fs::read(name)),
+        };
+        bytes.map(|bytes| File::of(name, bytes)).map_err(|e| format!("{name}: {e}"))
     }
 
     /// A comment may be in another encoding than UTF-8, and a byte-order mark may stand first.

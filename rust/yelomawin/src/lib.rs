@@ -34,17 +34,21 @@ pub mod ffi;
 mod grouping;
 mod lengths;
 mod matrix;
+mod parts;
 mod record;
 mod refusal;
 mod setup;
+mod solve;
 
 pub use blocks::BlockJacobi;
 pub use grouping::{Grouping, Joining, Rule, group, group_in, group_log, group_log_in};
 pub use lengths::{Lengths, lengths};
 pub use matrix::{Estimate, Matrix};
+pub use parts::Parts;
 pub use record::{Layout, RECORD, Record};
 pub use refusal::Refusal;
-pub use setup::{Aggregation, Basis, CoarsePolicy, Options, Setup, Workspace};
+pub use setup::{Aggregation, Basis, CoarsePolicy, Options, Setup, Workspace, coarse_dimension};
+pub use solve::{Ended, Goal, Solved, solve, solve_telling};
 
 /// The library's limits: larger numbers it refuses.
 pub const MOST_ROWS: usize = 1 << 20;

@@ -20,6 +20,11 @@ pub struct Estimate {
 }
 
 impl Matrix<'_> {
+    /// Where the entries of a row stand; of a matrix that was validated.
+    pub(crate) fn row(&self, i: usize) -> std::ops::Range<usize> {
+        self.row_ptr[i] as usize..self.row_ptr[i + 1] as usize
+    }
+
     /// Whether the lists make a matrix of finite values within the limits.
     pub fn validate(&self) -> Result<(), Refusal> {
         // Sound: every list is lent as a Rust slice, and the library reads no further than the length says.

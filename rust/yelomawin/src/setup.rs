@@ -214,6 +214,24 @@ fn likely_coarse(a: &Matrix, o: &Options) -> usize {
     if o.aggregation == Aggregation::Contiguous { least } else { 2 * least }
 }
 
+/// The coarse dimension that a setup would have, without the work of the coarse part; also where it is above the limit.
+///
+/// ```
+/// # use yelomawin::*;
+/// # let (row_ptr, col_idx, values) = ([0, 1, 2], [0, 1], [16.0, 4.0]);
+/// # let a = Matrix { rows: 2, cols: 2, row_ptr: &row_ptr, col_idx: &col_idx, values: &values };
+/// # let (aggregation, basis, coarse_policy) = (Aggregation::Graph, Basis::PiecewiseConstant, CoarsePolicy::Auto);
+/// let options = Options { block_size: 1, group_size: 1, aggregation, basis, coarse_policy };
+/// assert_eq!(coarse_dimension(&a, &options, &mut Workspace::default()), Ok(2));
+/// ```
+pub fn coarse_dimension(a: &Matrix, o: &Options, w: &mut Workspace) -> Result<usize, Refusal> {
+    // With no room for a coarse part the library refuses as soon as it knows the dimension.
+    match build_with(a, o, w, 0) {
+        Err(Refusal::CoarseTooLarge { dimension } | Refusal::CoarseListTooShort { dimension }) => Ok(dimension as usize),
+        answer => answer.map(|_| 0),
+    }
+}
+
 /// One call of the library, with lists of the lengths that it asks for and room for a coarse dimension.
 fn build_with(a: &Matrix, o: &Options, w: &mut Workspace, coarse: usize) -> Result<[u64; RECORD], Refusal> {
     let l = lengths(a.rows, a.values.len(), o.block_size, coarse);

@@ -1,4 +1,4 @@
-//! Every call from safe code: results of document 01's examples, refusals, numbers far above the limits, lists used again.
+//! Every call from safe code: results of examples worked by hand, refusals, numbers far above the limits, lists used again.
 use yelomawin::*;
 
 const DIAG: ([u32; 3], [u32; 2], [f64; 2]) = ([0, 1, 2], [0, 1], [16.0, 4.0]);
