@@ -1,10 +1,8 @@
 -- What small numbers leave of sums and products, and when a record's numbers are small.
 use Prim.Native.Nat.{ℕ, _+_, _*_, _≤_}
-use native.Mathlib.Omega.{arith}
 use native.Mathlib.Nat.{mul-le-mul}
-use mathlib.Core.Path.{_≡_, sym}
+use mathlib.Core.Path.{_≡_}
 use mathlib.Core.Bool.{true, false}
-use lib.Dec.{leb}
 use borrow.Author.Tests.{leb-true, le-leb}
 use Rattle.definitions.specs.Places.{placesOf, usedInts, usedFloats}
 use Rattle.definitions.specs.declared.Places.{Places}

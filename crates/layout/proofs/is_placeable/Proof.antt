@@ -1,5 +1,4 @@
 -- The five tests, one after the other.
-use native.Mathlib.Omega.{arith}
 use Rattle.layout.specs.Layout.{placeable}
 use borrow.Author.Needs.{needs}
 use Rattle.layout.proofs.is_placeable.Statement.{statement}

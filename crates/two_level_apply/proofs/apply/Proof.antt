@@ -1,5 +1,4 @@
 -- Each way out is one of the four checks that fails, or the correction.
-use mathlib.Core.Path.{sym, _∙_}
 use native.Mathlib.Omega.{arith}
 use lib.ListN.{length}
 use Rattle.definitions.specs.declared.Refusal.the-variants.{ListTooShort, WrongLength, SetupMisfit}
