@@ -31,7 +31,7 @@ fn with(number: u64, value: u64) -> Cause {
     }
 }
 
-// The Rust tells no row with 14, 15, 21 and 24, and does not know 1, 13, 17, 18 and 26 to 28.
+// The Rust tells no row with 14, 15, 21 and 24, and does not know 1, 13, 17, 18 and 26 to 29.
 fn told(cause: Refusal) -> Cause {
     match cause {
         Refusal::TooLarge => plain(1),
