@@ -1,6 +1,6 @@
 // The lists of all nodes, end to end.
 use super::node::node_list;
-use super::words::wide;
+use numbers::wide;
 ghost use mathlib.Core.Path.{_≡_};
 ghost use Prim.Native.Nat.{_+_, _*_, _^_, _<_, _≤_};
 ghost use lib.ListN.{length, set, drop};

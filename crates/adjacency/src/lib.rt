@@ -8,7 +8,6 @@ mod norms; // norms.rt: the diagonal norms
 mod order; // order.rt: merge sort by strength
 mod strengths; // strengths.rt: the strengths of a node's links
 mod sums; // sums.rt: sums of squares towards nodes
-mod words; // words.rt: indices
 
 use build::build;
 use checks::fits;

@@ -1,5 +1,5 @@
 // The nodes that a node's entries name.
-use super::words::wide;
+use numbers::wide;
 ghost use mathlib.Core.Path.{_≡_};
 ghost use mathlib.Core.List.{_++_};
 ghost use Prim.Native.Nat.{_+_, _-_, _/_, _<_, _≤_};

@@ -2,7 +2,7 @@
 use super::links::collect;
 use super::order::sort;
 use super::strengths::strengths;
-use super::words::wide;
+use numbers::wide;
 ghost use mathlib.Core.Path.{_≡_};
 ghost use mathlib.Core.List.{_++_};
 ghost use Prim.Native.Nat.{_+_, _-_, _*_, _^_, _<_, _≤_};

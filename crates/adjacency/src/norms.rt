@@ -1,7 +1,7 @@
 // The diagonal norms of all nodes, from floats[nodes..] on.
 use super::node::start;
 use super::sums::own;
-use super::words::wide;
+use numbers::wide;
 use root::root_by;
 ghost use mathlib.Core.Path.{_≡_};
 ghost use mathlib.Core.Bool.{true};

@@ -1,7 +1,7 @@
 // The strengths of a node's links. The list of floats holds the sums of squares from 0 on, the diagonal norms from `nodes` on, the strengths from 2 * nodes on.
 use super::sums::clear;
 use super::sums::weigh;
-use super::words::wide;
+use numbers::wide;
 use root::root_by;
 ghost use mathlib.Core.Path.{_≡_};
 ghost use Prim.Native.Nat.{_*_, _<_, _≤_};

@@ -1,5 +1,6 @@
 // The coarse matrix of the basis that is constant over a group.
 use averaging::average;
+use numbers::wide;
 use numbers::zero_floats;
 ghost use mathlib.Core.Path.{_≡_};
 ghost use Prim.Native.Nat.{_+_, _*_, _/_, _<_, _≤_, _^_};
@@ -12,12 +13,6 @@ ghost use Rattle.definitions.specs.Coarse.{constantEntry, averagedSquare};
 ghost use Rattle.laws.specs.Bounds.{Grouped, Compressed, Below};
 ghost use Rattle.laws.specs.Scatter.{put, bump, scattered, scatter};
 ghost use Rattle.coarse_matrix.specs.Scatter.{moved, rowPuts};
-
-pub(crate) fn wide(x: u32) -> usize
-    ensures { λ r. ⌜ r ≡ x ⌝ }
-{
-    x as usize
-}
 
 // The coarse column of a row.
 fn coarse_of(ids: &[u32], size: usize, row: usize) -> usize

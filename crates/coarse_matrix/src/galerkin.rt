@@ -1,7 +1,7 @@
 // The coarse matrix of the smoothed basis: for each row of A P, weight times accumulator at the touched columns.
 use crate::constant::add_at;
-use crate::constant::wide;
 use averaging::average;
+use numbers::wide;
 use numbers::zero_floats;
 use numbers::zero_ints;
 ghost use mathlib.Core.Path.{_≡_};

@@ -149,11 +149,11 @@ fn transfer_fits(rows: usize, c: usize, ptr: &[u32], idx: &[u32], count: usize) 
     if idx.len() != count {
         return false;
     }
-    let first = constant::wide(ptr[0]);
+    let first = numbers::wide(ptr[0]);
     if first != 0 {
         return false;
     }
-    let last = constant::wide(ptr[rows]);
+    let last = numbers::wide(ptr[rows]);
     if last != count {
         return false;
     }

@@ -3,6 +3,7 @@ use definitions::Answer;
 use definitions::MAX_ENTRIES;
 use definitions::MAX_ROWS;
 use definitions::Refusal;
+use numbers::wide;
 ghost use mathlib.Core.Path.{_≡_};
 ghost use Prim.Native.Nat.{_≤_, _<_};
 ghost use lib.Dec.{eqb};
@@ -15,12 +16,6 @@ ghost use Rattle.definitions.specs.Diagonal.{diagonalOf, diagonalCall, diagonal
 ghost use Rattle.definitions.specs.Answers.{answerOf};
 ghost use Rattle.csr32.specs.Rows.{Rows, outside, unreal};
 ghost use Rattle.csr32.specs.Found.{some};
-
-fn wide(x: u32) -> usize
-    ensures { λ r. ⌜ r ≡ x ⌝ }
-{
-    x as usize
-}
 
 // Whether some pointer is above the one after it.
 pub fn pointer_falls(row_ptr: &[u32]) -> bool

@@ -2,6 +2,7 @@
 use crate::vectors::dot;
 use definitions::EstimateAnswer;
 use definitions::Refusal;
+use numbers::wide;
 ghost use mathlib.Core.Path.{_≡_};
 ghost use mathlib.Core.List.{_++_, map, zipWith};
 ghost use Prim.Native.Nat.{_+_, _<_, _≤_};
@@ -13,12 +14,6 @@ ghost use Rattle.definitions.specs.Answers.{estimateAnswer};
 ghost use Rattle.csr32.specs.Rows.{Rows};
 ghost use Rattle.laws.specs.Bounds.{Below};
 ghost use Rattle.spectral_radius.specs.Power.{vectorIn, imageIn, imageAt, products, outcomeOf, finishedOf};
-
-fn wide(x: u32) -> usize
-    ensures { λ r. ⌜ r ≡ x ⌝ }
-{
-    x as usize
-}
 
 // The sum of (value * s[col]) * x[col] over the entries from..to.
 fn row_sum(idx: &[u32], vals: &[f64], from: usize, to: usize, s: &[f64], x: &[f64]) -> f64

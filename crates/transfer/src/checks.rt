@@ -1,9 +1,9 @@
 // The checks of the call that follow those of the matrix.
-use crate::touched::wide;
 use definitions::Answer;
 use definitions::MAX_BLOCK;
 use definitions::MAX_COARSE;
 use definitions::Refusal;
+use numbers::wide;
 ghost use mathlib.Core.Path.{_≡_};
 ghost use Prim.Native.Nat.{_≤_};
 ghost use lib.Dec.{leb};

@@ -2,9 +2,9 @@
 use crate::stored::put_columns;
 use crate::stored::put_weights;
 use crate::touched::coarse_of;
-use crate::touched::wide;
 use crate::weights::compress;
 use crate::weights::weigh_row;
+use numbers::wide;
 ghost use mathlib.Core.Path.{_≡_};
 ghost use Prim.Native.Nat.{_+_, _^_, _<_, _≤_};
 ghost use lib.ListN.{length, getD, set};

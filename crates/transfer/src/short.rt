@@ -2,8 +2,8 @@
 use crate::touched::coarse_of;
 use crate::touched::find;
 use crate::touched::insert;
-use crate::touched::wide;
 use crate::weights::take_off;
+use numbers::wide;
 ghost use mathlib.Core.Path.{_≡_};
 ghost use Prim.Native.Nat.{_<_, _≤_};
 ghost use lib.ListN.{length, take};

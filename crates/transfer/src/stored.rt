@@ -1,5 +1,5 @@
 // A row's columns and weights, behind those of the rows before it.
-use crate::touched::wide;
+use numbers::wide;
 ghost use mathlib.Core.Path.{_≡_};
 ghost use mathlib.Core.List.{_++_, map};
 ghost use Prim.Native.Nat.{_+_, _-_, _≤_};

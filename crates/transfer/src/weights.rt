@@ -2,7 +2,7 @@
 use crate::short::accumulate;
 use crate::touched::coarse_of;
 use crate::touched::fill;
-use crate::touched::wide;
+use numbers::wide;
 ghost use mathlib.Core.Path.{_≡_};
 ghost use Prim.Native.Nat.{_+_, _^_, _≤_, _<_};
 ghost use mathlib.Core.Bool.{cond};

@@ -2,9 +2,6 @@
 use borrow.Author.Needs.{needs}
 use Rattle.aggregates.proofs.build.Statement.{statement}
 use Rattle.aggregates.proofs.build.Tie as tie
-use Rattle.aggregates.proofs.build.Reads as reads
-use Rattle.aggregates.proofs.build.Lts as lts
-use Rattle.aggregates.proofs.build_log.Reads as build-log-reads
 
 returns : tie.Need-returns
 returns c = let b = c .before .before .before .before .build-log .ensures in (b .number, (b .ids, b .long))

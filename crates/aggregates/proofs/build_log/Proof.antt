@@ -15,12 +15,6 @@ use Rattle.aggregates.proofs.Stages.{front-zero, front-length, front-st
 use borrow.Author.Needs.{needs}
 use Rattle.aggregates.proofs.build_log.Statement.{statement}
 use Rattle.aggregates.proofs.build_log.Tie as tie
-use Rattle.aggregates.proofs.build_log.Reads as reads
-use Rattle.aggregates.proofs.build_log.Lts as lts
-use Rattle.aggregates.proofs.floor_of.Reads as floor-of-reads
-use Rattle.aggregates.proofs.growth.grow_all.Reads as grow-all-reads
-use Rattle.aggregates.proofs.settle.Reads as settle-reads
-use Rattle.numbers.proofs.zero_ints.Reads as zero-ints-reads
 
 part-zero-ints-end : tie.Need-part-zero-ints-end
 part-zero-ints-end c = let s = c .before .before in let a = s .args in omega (arith, s .pre .room, base-fits (a .base) (a .nodes) (a .w .now) (s .pre .lists))

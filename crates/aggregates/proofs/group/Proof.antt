@@ -16,13 +16,6 @@ use Rattle.aggregates.proofs.Answered.{refused-answer, refused-left, re
 use borrow.Author.Needs.{needs}
 use Rattle.aggregates.proofs.group.Statement.{statement}
 use Rattle.aggregates.proofs.group.Tie as tie
-use Rattle.aggregates.proofs.group.Reads as reads
-use Rattle.aggregates.proofs.group.Lts as lts
-use Rattle.aggregates.proofs.build.Reads as build-reads
-use Rattle.aggregates.proofs.place.Reads as place-reads
-use Rattle.aggregates.proofs.checks.check.Reads as check-reads
-use Rattle.aggregates.proofs.checks.room_for.Reads as room-for-reads
-use Rattle.aggregates.proofs.hand_over.Reads as hand-over-reads
 
 -- the call is accepted
 accepted : (c : tie.After-enum-told) → Accepted ≡ answerOf (groupingCall (c .before .before .before .before .before .before .before .args .nodes) (c .before .before .before .before .before .before .before .args .size) (c .before .before .before .before .before .before .before .args .offsets .now) (c .before .before .before .before .before .before .before .args .neighbours .now) (length (c .before .before .before .before .before .before .before .args .ids .now)) (length (c .before .before .before .before .before .before .before .args .work .now)))

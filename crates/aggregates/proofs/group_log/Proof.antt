@@ -10,10 +10,6 @@ use Rattle.aggregates.proofs.LogAnswered.{log-refused, log-short, log-a
 use borrow.Author.Needs.{needs}
 use Rattle.aggregates.proofs.group_log.Statement.{statement}
 use Rattle.aggregates.proofs.group_log.Tie as tie
-use Rattle.aggregates.proofs.group_log.Reads as reads
-use Rattle.aggregates.proofs.group_log.Lts as lts
-use Rattle.aggregates.proofs.group_logged.Reads as group-logged-reads
-use Rattle.aggregates.proofs.checks.check.Reads as check-reads
 
 -- grouping alone accepts the call
 accepted : (c : tie.After-enum-told) → Accepted ≡ answerOf (groupingCall (c .before .before .before .before .before .before .before .before .args .nodes) (c .before .before .before .before .before .before .before .before .args .size) (c .before .before .before .before .before .before .before .before .args .offsets .now) (c .before .before .before .before .before .before .before .before .args .neighbours .now) (length (c .before .before .before .before .before .before .before .before .args .ids .now)) (length (c .before .before .before .before .before .before .before .before .args .work .now)))

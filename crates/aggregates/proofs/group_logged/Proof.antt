@@ -16,13 +16,6 @@ use Rattle.aggregates.proofs.Stages.{padded-front, log-fits}
 use borrow.Author.Needs.{needs}
 use Rattle.aggregates.proofs.group_logged.Statement.{statement}
 use Rattle.aggregates.proofs.group_logged.Tie as tie
-use Rattle.aggregates.proofs.group_logged.Reads as reads
-use Rattle.aggregates.proofs.group_logged.Lts as lts
-use Rattle.aggregates.proofs.build_log.Reads as build-log-reads
-use Rattle.aggregates.proofs.place.Reads as place-reads
-use Rattle.aggregates.proofs.checks.room_for.Reads as room-for-reads
-use Rattle.aggregates.proofs.hand_over.Reads as hand-over-reads
-use Rattle.numbers.proofs.zero_ints.Reads as zero-ints-reads
 
 room-for-requires : tie.Need-room-for-requires
 room-for-requires c κs =

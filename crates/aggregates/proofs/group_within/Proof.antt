@@ -8,10 +8,6 @@ use Rattle.aggregates.proofs.Answered.{refused-answer, refused-left, ac
 use borrow.Author.Needs.{needs}
 use Rattle.aggregates.proofs.group_within.Statement.{statement}
 use Rattle.aggregates.proofs.group_within.Tie as tie
-use Rattle.aggregates.proofs.group_within.Reads as reads
-use Rattle.aggregates.proofs.group_within.Lts as lts
-use Rattle.aggregates.proofs.build.Reads as build-reads
-use Rattle.aggregates.proofs.checks.check_within.Reads as check-within-reads
 
 build-requires : tie.Need-build-requires
 build-requires c κs =

@@ -6,10 +6,6 @@ use Rattle.aggregates.proofs.Stages.{zeros-behind, copy-front}
 use borrow.Author.Needs.{needs}
 use Rattle.aggregates.proofs.hand_over.Statement.{statement}
 use Rattle.aggregates.proofs.hand_over.Tie as tie
-use Rattle.aggregates.proofs.hand_over.Reads as reads
-use Rattle.aggregates.proofs.hand_over.Lts as lts
-use Rattle.numbers.proofs.copy_ints.Reads as copy-ints-reads
-use Rattle.numbers.proofs.zero_ints.Reads as zero-ints-reads
 
 returns : tie.Need-returns
 returns c =

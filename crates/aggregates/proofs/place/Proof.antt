@@ -4,9 +4,6 @@ use Rattle.aggregates.proofs.Placed.{once-length, twice-length, twice-o
 use borrow.Author.Needs.{needs}
 use Rattle.aggregates.proofs.place.Statement.{statement}
 use Rattle.aggregates.proofs.place.Tie as tie
-use Rattle.aggregates.proofs.place.Reads as reads
-use Rattle.aggregates.proofs.place.Lts as lts
-use Rattle.numbers.proofs.copy_ints.Reads as copy-ints-reads
 
 add-start : tie.Need-add-start
 add-start c = omega (arith, c .before .before .before .pre .1)

@@ -4,10 +4,6 @@ use Rattle.aggregates.specs.Stored.{offsetsAt, neighboursAt}
 use borrow.Author.Needs.{needs}
 use Rattle.aggregates.proofs.settle.Statement.{statement}
 use Rattle.aggregates.proofs.settle.Tie as tie
-use Rattle.aggregates.proofs.settle.Reads as reads
-use Rattle.aggregates.proofs.settle.Lts as lts
-use Rattle.aggregates.proofs.joining.join_groups.Reads as join-groups-reads
-use Rattle.aggregates.proofs.renumber.renumber.Reads as renumber-reads
 
 join-groups-requires : tie.Need-join-groups-requires
 join-groups-requires c κs = c .before .before .before .before .pre .joins

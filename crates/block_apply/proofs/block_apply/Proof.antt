@@ -4,10 +4,6 @@ use Rattle.block_apply.proofs.Calling.{wrong-residual, wrong-correction
 use borrow.Author.Needs.{needs}
 use Rattle.block_apply.proofs.block_apply.Statement.{statement}
 use Rattle.block_apply.proofs.block_apply.Tie as tie
-use Rattle.block_apply.proofs.block_apply.Reads as reads
-use Rattle.block_apply.proofs.block_apply.Lts as lts
-use Rattle.block_apply.proofs.blocks.solve_blocks.Reads as solve-blocks-reads
-use Rattle.block_apply.proofs.fits.Reads as fits-reads
 
 returns : tie.Need-returns
 returns c = let a = c .before .before .before .before .args in wrong-residual (a .rows) (a .block-size) (a .factors .now) (a .residual .now) (a .correction .now) (c .if1 .taken)

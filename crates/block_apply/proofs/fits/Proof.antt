@@ -2,8 +2,6 @@ use native.Mathlib.Omega.{arith}
 use Rattle.block_apply.proofs.Calling.{product-small, many-rows, no-size, large-size, by-room}
 use Rattle.block_apply.proofs.fits.Statement.{statement}
 use Rattle.block_apply.proofs.fits.Tie as tie
-use Rattle.block_apply.proofs.fits.Reads as reads
-use Rattle.block_apply.proofs.fits.Lts as lts
 
 mul-result : tie.Need-mul-result
 mul-result c = let a = c .before .before .before .args in omega (arith, product-small (a .rows) (a .size) (omega arith) (omega arith))

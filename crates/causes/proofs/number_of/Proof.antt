@@ -5,9 +5,6 @@ use Rattle.causes.specs.declared.Row.{Row}
 use borrow.Author.Needs.{needs}
 use Rattle.causes.proofs.number_of.Statement.{statement}
 use Rattle.causes.proofs.number_of.Tie as tie
-use Rattle.causes.proofs.number_of.Reads as reads
-use Rattle.causes.proofs.number_of.Lts as lts
-use Rattle.causes.proofs.told.Reads as told-reads
 
 returns : tie.Need-returns
 unfolding toldOf

@@ -4,8 +4,6 @@ use Rattle.causes.specs.Told.{toldOf}
 use borrow.Author.Needs.{needs}
 use Rattle.causes.proofs.told.Statement.{statement}
 use Rattle.causes.proofs.told.Tie as tie
-use Rattle.causes.proofs.told.Reads as reads
-use Rattle.causes.proofs.told.Lts as lts
 
 returns : tie.Need-returns
 unfolding toldOf numberOf valuesOf causeOf

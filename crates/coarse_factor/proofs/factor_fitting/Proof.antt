@@ -3,13 +3,6 @@ use mathlib.Core.Path.{sym, _∙_}
 use borrow.Author.Needs.{needs}
 use Rattle.coarse_factor.proofs.factor_fitting.Statement.{statement}
 use Rattle.coarse_factor.proofs.factor_fitting.Tie as tie
-use Rattle.coarse_factor.proofs.factor_fitting.Reads as reads
-use Rattle.coarse_factor.proofs.factor_fitting.Lts as lts
-use Rattle.coarse_factor.proofs.factor.factor_rows.Reads as factor-rows-reads
-use Rattle.coarse_factor.proofs.factor.scale.Reads as scale-reads
-use Rattle.numbers.proofs.larger.Reads as larger-reads
-use Rattle.numbers.proofs.usable.Reads as usable-reads
-use Rattle.numbers.proofs.zero_floats.Reads as zero-floats-reads
 
 returns : tie.Need-returns
 returns c =

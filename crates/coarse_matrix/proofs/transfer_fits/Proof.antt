@@ -4,11 +4,6 @@ use mathlib.Core.Path.{sym, _∙_}
 use borrow.Author.Needs.{needs}
 use Rattle.coarse_matrix.proofs.transfer_fits.Statement.{statement}
 use Rattle.coarse_matrix.proofs.transfer_fits.Tie as tie
-use Rattle.coarse_matrix.proofs.transfer_fits.Reads as reads
-use Rattle.coarse_matrix.proofs.transfer_fits.Lts as lts
-use Rattle.coarse_matrix.proofs.constant.wide.Reads as wide-reads
-use Rattle.csr32.proofs.column_outside.Reads as column-outside-reads
-use Rattle.csr32.proofs.pointer_falls.Reads as pointer-falls-reads
 
 returns : tie.Need-returns
 returns c =

@@ -7,11 +7,6 @@ use lib.Seq.{length-take-le}
 use borrow.Author.Needs.{needs}
 use Rattle.grouping.proofs.main.Statement.{statement}
 use Rattle.grouping.proofs.main.Tie as tie
-use Rattle.grouping.proofs.main.Reads as reads
-use Rattle.grouping.proofs.main.Lts as lts
-use Rattle.grouping.proofs.read_all.Reads as read-all-reads
-use Rattle.grouping_text.proofs.finish.Reads as finish-reads
-use Rattle.io.proofs.write_all.Reads as write-all-reads
 
 slice-aggregate-write-all : tie.Need-slice-aggregate-write-all
 slice-aggregate-write-all c =

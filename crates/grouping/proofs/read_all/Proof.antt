@@ -5,12 +5,6 @@ use lib.ListN.{length}
 use borrow.Author.Needs.{needs}
 use Rattle.grouping.proofs.read_all.Statement.{statement}
 use Rattle.grouping.proofs.read_all.Tie as tie
-use Rattle.grouping.proofs.read_all.Reads as reads
-use Rattle.grouping.proofs.read_all.Lts as lts
-use Rattle.grouping_text.proofs.feed.Reads as feed-reads
-use Rattle.grouping_text.proofs.start.Reads as start-reads
-use Rattle.io.proofs.large_buffer.Reads as large-buffer-reads
-use Rattle.io.proofs.read_full.Reads as read-full-reads
 
 abbrev Inv-loop : tie.InvT-loop
 Inv-loop numbers₀ piece₀ reader₀ turns₀ numbers piece reader turns = (length numbers ≡ length numbers₀) × (65_536 ≡ length piece)

@@ -8,9 +8,6 @@ use Rattle.grouping_text.proofs.reading.Bytes.{fed-next, fed-over}
 use borrow.Author.Needs.{needs}
 use Rattle.grouping_text.proofs.feed.Statement.{statement}
 use Rattle.grouping_text.proofs.feed.Tie as tie
-use Rattle.grouping_text.proofs.feed.Reads as reads
-use Rattle.grouping_text.proofs.feed.Lts as lts
-use Rattle.grouping_text.proofs.reading.byte_in.Reads as byte-in-reads
 
 abbrev Inv-loop : tie.InvT-loop
 Inv-loop piece numbers₀ last₀ i₀ numbers last i = (length numbers ≡ length numbers₀) × (fed (drop i piece) (held last numbers) ≡ fed piece (held last₀ numbers₀))

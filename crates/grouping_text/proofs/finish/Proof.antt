@@ -9,11 +9,6 @@ use Rattle.grouping_text.specs.Feeding.{held, said}
 use Rattle.grouping_text.proofs.Program.{puts-whole, said-is}
 use Rattle.grouping_text.proofs.finish.Statement.{statement}
 use Rattle.grouping_text.proofs.finish.Tie as tie
-use Rattle.grouping_text.proofs.finish.Reads as reads
-use Rattle.grouping_text.proofs.finish.Lts as lts
-use Rattle.grouping_text.proofs.least.Reads as least-reads
-use Rattle.grouping_text.proofs.reading.close.Reads as close-reads
-use Rattle.grouping_text.proofs.say.Reads as say-reads
 
 returns : tie.Need-returns
 returns c =

@@ -8,11 +8,6 @@ use Rattle.grouping_text.proofs.Program.{text-said}
 use borrow.Author.Needs.{needs}
 use Rattle.grouping_text.proofs.grouping_text.Statement.{statement}
 use Rattle.grouping_text.proofs.grouping_text.Tie as tie
-use Rattle.grouping_text.proofs.grouping_text.Reads as reads
-use Rattle.grouping_text.proofs.grouping_text.Lts as lts
-use Rattle.grouping_text.proofs.feed.Reads as feed-reads
-use Rattle.grouping_text.proofs.finish.Reads as finish-reads
-use Rattle.grouping_text.proofs.start.Reads as start-reads
 
 returns : tie.Need-returns
 returns c =

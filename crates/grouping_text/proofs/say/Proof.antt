@@ -11,11 +11,6 @@ use Rattle.grouping_text.proofs.Program.{prints-answer, prints-large, p
 use borrow.Author.Needs.{needs}
 use Rattle.grouping_text.proofs.say.Statement.{statement}
 use Rattle.grouping_text.proofs.say.Tie as tie
-use Rattle.grouping_text.proofs.say.Reads as reads
-use Rattle.grouping_text.proofs.say.Lts as lts
-use Rattle.grouping_text.proofs.answers.answer.Reads as answer-reads
-use Rattle.grouping_text.proofs.printing.put_head.Reads as put-head-reads
-use Rattle.grouping_text.proofs.whole.ask.Reads as ask-reads
 
 returns : tie.Need-returns
 returns c =

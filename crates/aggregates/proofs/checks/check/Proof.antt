@@ -14,9 +14,6 @@ use Rattle.aggregates.proofs.checks.Order.{roomy, call-is, room-refused
 use borrow.Author.Needs.{needs}
 use Rattle.aggregates.proofs.checks.check.Statement.{statement}
 use Rattle.aggregates.proofs.checks.check.Tie as tie
-use Rattle.aggregates.proofs.checks.check.Reads as reads
-use Rattle.aggregates.proofs.checks.check.Lts as lts
-use Rattle.aggregates.proofs.checks.check_lists.Reads as check-lists-reads
 
 -- the lists have passed
 listed-ok : (c : tie.After-enum-told) → Accepted ≡ answerOf (listsCall (c .before .before .before .before .before .args .nodes) (c .before .before .before .before .before .args .size) (c .before .before .before .before .before .args .offsets .now) (c .before .before .before .before .before .args .neighbours .now))

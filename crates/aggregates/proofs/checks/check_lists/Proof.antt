@@ -12,10 +12,6 @@ use Rattle.aggregates.proofs.checks.Order.{large, sized, proper, inside
 use borrow.Author.Needs.{needs}
 use Rattle.aggregates.proofs.checks.check_lists.Statement.{statement}
 use Rattle.aggregates.proofs.checks.check_lists.Tie as tie
-use Rattle.aggregates.proofs.checks.check_lists.Reads as reads
-use Rattle.aggregates.proofs.checks.check_lists.Lts as lts
-use Rattle.aggregates.proofs.checks.neighbour_outside.Reads as neighbour-outside-reads
-use Rattle.aggregates.proofs.checks.offsets_fit.Reads as offsets-fit-reads
 
 -- what is known where a test has passed
 large-ok : (c : tie.Else2) → large (c .before .before .before .before .args .nodes) (c .before .before .before .before .args .size) (c .before .before .before .before .args .offsets .now) (c .before .before .before .before .args .neighbours .now) ≡ true

@@ -18,11 +18,6 @@ use Rattle.aggregates.proofs.checks.Cut.{count-read, count-none, cut-co
 use borrow.Author.Needs.{needs}
 use Rattle.aggregates.proofs.checks.check_within.Statement.{statement}
 use Rattle.aggregates.proofs.checks.check_within.Tie as tie
-use Rattle.aggregates.proofs.checks.check_within.Reads as reads
-use Rattle.aggregates.proofs.checks.check_within.Lts as lts
-use Rattle.aggregates.proofs.checks.check_lists.Reads as check-lists-reads
-use Rattle.aggregates.proofs.checks.lesser.Reads as lesser-reads
-use Rattle.aggregates.proofs.checks.room_for.Reads as room-for-reads
 
 -- how many neighbours the last offset says
 counted : (c : tie.Joined2) → c .if2 .count ≡ getD (drop (c .before .before .lesser .result) (c .before .before .before .before .before .args .w .now)) (c .before .before .before .before .before .args .nodes) 0

@@ -10,8 +10,6 @@ use Rattle.aggregates.proofs.checks.Scan.{any-found, any-passed, any-en
 use borrow.Author.Needs.{needs}
 use Rattle.aggregates.proofs.checks.neighbour_outside.Statement.{statement}
 use Rattle.aggregates.proofs.checks.neighbour_outside.Tie as tie
-use Rattle.aggregates.proofs.checks.neighbour_outside.Reads as reads
-use Rattle.aggregates.proofs.checks.neighbour_outside.Lts as lts
 
 abbrev Inv-loop : tie.InvT-loop
 Inv-loop neighbours nodes i₀ i = (i ≤ length neighbours) × (any (λ k. leb nodes k) neighbours ≡ any (λ k. leb nodes k) (drop i neighbours))

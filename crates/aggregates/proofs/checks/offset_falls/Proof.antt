@@ -8,8 +8,6 @@ use Rattle.aggregates.proofs.checks.Scan.{falls-found, falls-passed, fa
 use borrow.Author.Needs.{needs}
 use Rattle.aggregates.proofs.checks.offset_falls.Statement.{statement}
 use Rattle.aggregates.proofs.checks.offset_falls.Tie as tie
-use Rattle.aggregates.proofs.checks.offset_falls.Reads as reads
-use Rattle.aggregates.proofs.checks.offset_falls.Lts as lts
 
 abbrev Inv-loop : tie.InvT-loop
 Inv-loop offsets i₀ i = (i < length offsets) × (falls offsets ≡ falls (drop i offsets))

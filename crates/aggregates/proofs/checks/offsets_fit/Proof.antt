@@ -5,9 +5,6 @@ use Rattle.aggregates.proofs.checks.Scan.{fit-empty, fit-long, fit-star
 use borrow.Author.Needs.{needs}
 use Rattle.aggregates.proofs.checks.offsets_fit.Statement.{statement}
 use Rattle.aggregates.proofs.checks.offsets_fit.Tie as tie
-use Rattle.aggregates.proofs.checks.offsets_fit.Reads as reads
-use Rattle.aggregates.proofs.checks.offsets_fit.Lts as lts
-use Rattle.aggregates.proofs.checks.offset_falls.Reads as offset-falls-reads
 
 returns : tie.Need-returns
 returns c = let a = c .before .before .args in fit-empty (a .offsets .now) (a .nodes) (a .count) (c .if1 .taken)

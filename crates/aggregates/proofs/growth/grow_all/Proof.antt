@@ -13,9 +13,6 @@ use Rattle.aggregates.proofs.growth.Seeding.{Seeding, seed-first, seed-
 use borrow.Author.Needs.{needs}
 use Rattle.aggregates.proofs.growth.grow_all.Statement.{statement}
 use Rattle.aggregates.proofs.growth.grow_all.Tie as tie
-use Rattle.aggregates.proofs.growth.grow_all.Reads as reads
-use Rattle.aggregates.proofs.growth.grow_all.Lts as lts
-use Rattle.aggregates.proofs.growth.grow_group.Reads as grow-group-reads
 
 abbrev Inv-loop : tie.InvT-loop
 Inv-loop w₀ base nodes size g₀ v₀ w g v = Seeding (offsetsAt base nodes w₀) (neighboursAt base nodes w₀) base nodes w₀ size w g v

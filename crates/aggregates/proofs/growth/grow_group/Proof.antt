@@ -13,9 +13,6 @@ use Rattle.aggregates.proofs.growth.Seeded.{seeded-still, seeded-lists,
 use borrow.Author.Needs.{needs}
 use Rattle.aggregates.proofs.growth.grow_group.Statement.{statement}
 use Rattle.aggregates.proofs.growth.grow_group.Tie as tie
-use Rattle.aggregates.proofs.growth.grow_group.Reads as reads
-use Rattle.aggregates.proofs.growth.grow_group.Lts as lts
-use Rattle.aggregates.proofs.growth.push_free.Reads as push-free-reads
 
 abbrev Inv-loop : tie.InvT-loop
 Inv-loop w₀ base nodes seed g size head₀ tail₀ room₀ w head tail room = Queue (offsetsAt base nodes w₀) (neighboursAt base nodes w₀) base nodes w₀ seed g size w head tail room

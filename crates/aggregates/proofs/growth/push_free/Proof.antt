@@ -11,10 +11,6 @@ use Rattle.aggregates.proofs.growth.Pushing.{Pushing, push-first, push-
 use borrow.Author.Needs.{needs}
 use Rattle.aggregates.proofs.growth.push_free.Statement.{statement}
 use Rattle.aggregates.proofs.growth.push_free.Tie as tie
-use Rattle.aggregates.proofs.growth.push_free.Reads as reads
-use Rattle.aggregates.proofs.growth.push_free.Lts as lts
-use Rattle.aggregates.proofs.stored.neighbour.Reads as neighbour-reads
-use Rattle.aggregates.proofs.stored.offset.Reads as offset-reads
 
 abbrev Inv-loop : tie.InvT-loop
 Inv-loop w₀ base nodes v tail end₀ i₀ to w end i = Pushing (listsAt base nodes w₀) (neighboursAt base nodes w₀) w₀ base nodes i₀ to tail w end i

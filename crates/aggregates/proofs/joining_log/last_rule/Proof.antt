@@ -6,10 +6,6 @@ use Rattle.aggregates.proofs.joining_log.Ruling.{Ruling, rule-step, rul
 use borrow.Author.Needs.{needs}
 use Rattle.aggregates.proofs.joining_log.last_rule.Statement.{statement}
 use Rattle.aggregates.proofs.joining_log.last_rule.Tie as tie
-use Rattle.aggregates.proofs.joining_log.last_rule.Reads as reads
-use Rattle.aggregates.proofs.joining_log.last_rule.Lts as lts
-use Rattle.aggregates.proofs.joining_log.larger.Reads as larger-reads
-use Rattle.aggregates.proofs.joining_log.rule_against.Reads as rule-against-reads
 
 abbrev Inv-loop : tie.InvT-loop
 Inv-loop w counts hits from end b rule₀ i₀ rule i = Ruling w counts hits from end b rule i

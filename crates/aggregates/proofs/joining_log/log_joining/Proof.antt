@@ -8,10 +8,6 @@ use Rattle.aggregates.proofs.joining.Noted.{noted-outside}
 use borrow.Author.Needs.{needs}
 use Rattle.aggregates.proofs.joining_log.log_joining.Statement.{statement}
 use Rattle.aggregates.proofs.joining_log.log_joining.Tie as tie
-use Rattle.aggregates.proofs.joining_log.log_joining.Reads as reads
-use Rattle.aggregates.proofs.joining_log.log_joining.Lts as lts
-use Rattle.aggregates.proofs.joining_log.note.Reads as note-reads
-use Rattle.aggregates.proofs.joining_log.rule_of.Reads as rule-of-reads
 
 returns : tie.Need-returns
 returns c =

@@ -7,9 +7,6 @@ use Rattle.aggregates.specs.Log.{noted}
 use borrow.Author.Needs.{needs}
 use Rattle.aggregates.proofs.joining_log.note.Statement.{statement}
 use Rattle.aggregates.proofs.joining_log.note.Tie as tie
-use Rattle.aggregates.proofs.joining_log.note.Reads as reads
-use Rattle.aggregates.proofs.joining_log.note.Lts as lts
-use Rattle.aggregates.proofs.joining_log.put.Reads as put-reads
 
 returns : tie.Need-returns
 unfolding noted

@@ -5,8 +5,6 @@ use lib.Seq.{set-out}
 use borrow.Author.Needs.{needs}
 use Rattle.aggregates.proofs.joining_log.put.Statement.{statement}
 use Rattle.aggregates.proofs.joining_log.put.Tie as tie
-use Rattle.aggregates.proofs.joining_log.put.Reads as reads
-use Rattle.aggregates.proofs.joining_log.put.Lts as lts
 
 returns-2 : tie.Need-returns-2
 returns-2 c = let a = c .before .args in sym (set-out (a .log .now) (a .at) (a .x) (omega (arith, c .if1 .left)))

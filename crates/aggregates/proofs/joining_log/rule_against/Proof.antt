@@ -5,8 +5,6 @@ use Rattle.aggregates.proofs.joining_log.Ruling.{against-same, against-
 use borrow.Author.Needs.{needs}
 use Rattle.aggregates.proofs.joining_log.rule_against.Statement.{statement}
 use Rattle.aggregates.proofs.joining_log.rule_against.Tie as tie
-use Rattle.aggregates.proofs.joining_log.rule_against.Reads as reads
-use Rattle.aggregates.proofs.joining_log.rule_against.Lts as lts
 
 returns : tie.Need-returns
 returns c = let a = c .before .before .args in sym (against-same (at (a .hits) (a .w .now)) (at (a .counts) (a .w .now)) (a .b) (a .a) (c .if1 .taken))

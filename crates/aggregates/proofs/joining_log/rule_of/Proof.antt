@@ -8,11 +8,6 @@ use Rattle.aggregates.proofs.joining_log.Ruling.{rule-by}
 use borrow.Author.Needs.{needs}
 use Rattle.aggregates.proofs.joining_log.rule_of.Statement.{statement}
 use Rattle.aggregates.proofs.joining_log.rule_of.Tie as tie
-use Rattle.aggregates.proofs.joining_log.rule_of.Reads as reads
-use Rattle.aggregates.proofs.joining_log.rule_of.Lts as lts
-use Rattle.aggregates.proofs.joining.tally.Reads as tally-reads
-use Rattle.aggregates.proofs.joining.untally.Reads as untally-reads
-use Rattle.aggregates.proofs.joining_log.last_rule.Reads as last-rule-reads
 
 last-rule-requires : tie.Need-last-rule-requires
 last-rule-requires c κs =

@@ -8,8 +8,6 @@ use Rattle.aggregates.proofs.renumber.Numbering.{Numbering, number-firs
 use borrow.Author.Needs.{needs}
 use Rattle.aggregates.proofs.renumber.number_all.Statement.{statement}
 use Rattle.aggregates.proofs.renumber.number_all.Tie as tie
-use Rattle.aggregates.proofs.renumber.number_all.Reads as reads
-use Rattle.aggregates.proofs.renumber.number_all.Lts as lts
 
 abbrev Inv-loop : tie.InvT-loop
 Inv-loop w₀ nodes top count₀ v₀ w count v = Numbering nodes top w₀ w count v

@@ -7,10 +7,6 @@ use Rattle.aggregates.proofs.renumber.Table.{clear-front, clear-numbere
 use borrow.Author.Needs.{needs}
 use Rattle.aggregates.proofs.renumber.renumber.Statement.{statement}
 use Rattle.aggregates.proofs.renumber.renumber.Tie as tie
-use Rattle.aggregates.proofs.renumber.renumber.Reads as reads
-use Rattle.aggregates.proofs.renumber.renumber.Lts as lts
-use Rattle.aggregates.proofs.renumber.number_all.Reads as number-all-reads
-use Rattle.numbers.proofs.zero_ints.Reads as zero-ints-reads
 
 number-all-requires : tie.Need-number-all-requires
 number-all-requires c κs =

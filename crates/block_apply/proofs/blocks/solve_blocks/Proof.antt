@@ -11,10 +11,6 @@ use Rattle.block_apply.proofs.Calling.{product-small}
 use borrow.Author.Needs.{needs}
 use Rattle.block_apply.proofs.blocks.solve_blocks.Statement.{statement}
 use Rattle.block_apply.proofs.blocks.solve_blocks.Tie as tie
-use Rattle.block_apply.proofs.blocks.solve_blocks.Reads as reads
-use Rattle.block_apply.proofs.blocks.solve_blocks.Lts as lts
-use Rattle.block_apply.proofs.blocks.width.Reads as width-reads
-use Rattle.block_apply.proofs.solve.solve_block.Reads as solve-block-reads
 
 abbrev Inv-loop : tie.InvT-loop
 Inv-loop rows size factors r z₀ count k₀ z k = (k ≤ count) × (length z ≡ length z₀) × (z ≡ solvedBlocks rows size factors r k ++ drop (k * size) z₀)

@@ -9,9 +9,6 @@ use Rattle.block_apply.proofs.Triangles.{row-inside, square-small, back
 use borrow.Author.Needs.{needs}
 use Rattle.block_apply.proofs.solve.backward.Statement.{statement}
 use Rattle.block_apply.proofs.solve.backward.Tie as tie
-use Rattle.block_apply.proofs.solve.backward.Reads as reads
-use Rattle.block_apply.proofs.solve.backward.Lts as lts
-use Rattle.block_apply.proofs.solve.column_rest.Reads as column-rest-reads
 
 abbrev Inv-loop : tie.InvT-loop
 Inv-loop l w z₀ k₀ z k = (k ≤ w) × (length z ≡ length z₀) × (z ≡ take (w - k) z₀ ++ backward l w z₀ k)

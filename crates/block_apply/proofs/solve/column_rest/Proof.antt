@@ -7,8 +7,6 @@ use Rattle.block_apply.proofs.Triangles.{row-inside, square-small, colu
 use borrow.Author.Needs.{needs}
 use Rattle.block_apply.proofs.solve.column_rest.Statement.{statement}
 use Rattle.block_apply.proofs.solve.column_rest.Tie as tie
-use Rattle.block_apply.proofs.solve.column_rest.Reads as reads
-use Rattle.block_apply.proofs.solve.column_rest.Lts as lts
 
 abbrev Inv-loop : tie.InvT-loop
 Inv-loop l w z x i sum₀ m₀ sum m = (suc i ≤ m) × (m ≤ w) × (sum ≡ reduced x (tab (columnTerm l w z i) (m - suc i)))

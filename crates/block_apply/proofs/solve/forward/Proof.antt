@@ -9,9 +9,6 @@ use Rattle.block_apply.proofs.Triangles.{row-inside, square-small, forw
 use borrow.Author.Needs.{needs}
 use Rattle.block_apply.proofs.solve.forward.Statement.{statement}
 use Rattle.block_apply.proofs.solve.forward.Tie as tie
-use Rattle.block_apply.proofs.solve.forward.Reads as reads
-use Rattle.block_apply.proofs.solve.forward.Lts as lts
-use Rattle.block_apply.proofs.solve.row_rest.Reads as row-rest-reads
 
 abbrev Inv-loop : tie.InvT-loop
 Inv-loop l w r z₀ i₀ z i = (i ≤ w) × (length z ≡ length z₀) × (z ≡ forward l w r i ++ drop i z₀)

@@ -9,8 +9,6 @@ use Rattle.laws.proofs.Growing.{reduced-none, reduced-more}
 use borrow.Author.Needs.{needs}
 use Rattle.block_apply.proofs.solve.row_rest.Statement.{statement}
 use Rattle.block_apply.proofs.solve.row_rest.Tie as tie
-use Rattle.block_apply.proofs.solve.row_rest.Reads as reads
-use Rattle.block_apply.proofs.solve.row_rest.Lts as lts
 
 abbrev Inv-loop : tie.InvT-loop
 Inv-loop l z x start n sum₀ k₀ sum k = (k ≤ n) × (sum ≡ reduced x (tab (λ j. getD l (start + j) nan *ᶠ getD z j nan) k))

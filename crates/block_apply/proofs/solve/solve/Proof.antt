@@ -2,10 +2,6 @@ use Rattle.block_apply.proofs.Triangles.{forward-length, solve-law}
 use borrow.Author.Needs.{needs}
 use Rattle.block_apply.proofs.solve.solve.Statement.{statement}
 use Rattle.block_apply.proofs.solve.solve.Tie as tie
-use Rattle.block_apply.proofs.solve.solve.Reads as reads
-use Rattle.block_apply.proofs.solve.solve.Lts as lts
-use Rattle.block_apply.proofs.solve.backward.Reads as backward-reads
-use Rattle.block_apply.proofs.solve.forward.Reads as forward-reads
 
 backward-requires : tie.Need-backward-requires
 backward-requires c κs =

@@ -12,12 +12,6 @@ use native.Mathlib.Omega.{arith}
 use borrow.Author.Needs.{needs}
 use Rattle.coarse_factor.proofs.factor.factor_rows.Statement.{statement}
 use Rattle.coarse_factor.proofs.factor.factor_rows.Tie as tie
-use Rattle.coarse_factor.proofs.factor.factor_rows.Reads as reads
-use Rattle.coarse_factor.proofs.factor.factor_rows.Lts as lts
-use Rattle.coarse_factor.proofs.factor.fill_row.Reads as fill-row-reads
-use Rattle.coarse_factor.proofs.factor.rest.Reads as rest-reads
-use Rattle.numbers.proofs.above.Reads as above-reads
-use Rattle.root.proofs.root.Reads as root-reads
 
 abbrev Inv-loop : tie.InvT-loop
 Inv-loop m l₀ c tol start₀ i₀ l start i = (i ≤ c) × (length l ≡ length l₀) × (start ≡ packedLength i) × (factorRows packed (λ k. CoarsePivot k) (entryIn m c) tol (c - i) i l ≡ factorRows packed (λ k. CoarsePivot k) (entryIn m c) tol c 0 l₀)

@@ -10,12 +10,6 @@ use mathlib.Core.Path.{_≡_, refl, ap, _∙_}
 use native.Mathlib.Omega.{arith}
 use Rattle.coarse_factor.proofs.factor.fill_fours.Statement.{statement}
 use Rattle.coarse_factor.proofs.factor.fill_fours.Tie as tie
-use Rattle.coarse_factor.proofs.factor.fill_fours.Reads as reads
-use Rattle.coarse_factor.proofs.factor.fill_fours.Lts as lts
-use Rattle.coarse_factor.proofs.factor.four_at.Reads as four-at-reads
-use Rattle.coarse_factor.proofs.factor.put_four.Reads as put-four-reads
-use Rattle.coarse_factor.proofs.factor.rest_four.Reads as rest-four-reads
-use Rattle.coarse_factor.proofs.factor.solved_four.Reads as solved-four-reads
 
 abbrev Inv-loop : tie.InvT-loop
 Inv-loop m l₀ c i start base row₀ j₀ l row j = (j ≤ i) × (row ≡ packedLength j) × (length l ≡ length l₀) × (l ≡ belowDiagonal packed (entryIn m c) i j l₀)

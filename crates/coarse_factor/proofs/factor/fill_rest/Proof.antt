@@ -12,9 +12,6 @@ use native.Mathlib.Omega.{arith}
 use borrow.Author.Needs.{needs}
 use Rattle.coarse_factor.proofs.factor.fill_rest.Statement.{statement}
 use Rattle.coarse_factor.proofs.factor.fill_rest.Tie as tie
-use Rattle.coarse_factor.proofs.factor.fill_rest.Reads as reads
-use Rattle.coarse_factor.proofs.factor.fill_rest.Lts as lts
-use Rattle.coarse_factor.proofs.factor.rest.Reads as rest-reads
 
 abbrev Inv-loop : tie.InvT-loop
 Inv-loop m l₀ c i start from base row₀ j₀ l row j = (j ≤ i) × (length l ≡ length l₀) × (row ≡ packedLength j) × ((k : List Float) → l₀ ≡ belowDiagonal packed (entryIn m c) i from k → l ≡ belowDiagonal packed (entryIn m c) i j k)

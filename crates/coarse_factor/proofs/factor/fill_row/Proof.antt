@@ -4,10 +4,6 @@ use Rattle.coarse_factor.proofs.Cholesky.{length-left}
 use mathlib.Core.Path.{ap, _∙_}
 use Rattle.coarse_factor.proofs.factor.fill_row.Statement.{statement}
 use Rattle.coarse_factor.proofs.factor.fill_row.Tie as tie
-use Rattle.coarse_factor.proofs.factor.fill_row.Reads as reads
-use Rattle.coarse_factor.proofs.factor.fill_row.Lts as lts
-use Rattle.coarse_factor.proofs.factor.fill_fours.Reads as fill-fours-reads
-use Rattle.coarse_factor.proofs.factor.fill_rest.Reads as fill-rest-reads
 
 fill-rest-requires : tie.Need-fill-rest-requires
 fill-rest-requires c κs =

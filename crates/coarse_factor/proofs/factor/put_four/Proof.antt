@@ -4,8 +4,6 @@ use native.Mathlib.Omega.{arith}
 use borrow.Author.Needs.{needs}
 use Rattle.coarse_factor.proofs.factor.put_four.Statement.{statement}
 use Rattle.coarse_factor.proofs.factor.put_four.Tie as tie
-use Rattle.coarse_factor.proofs.factor.put_four.Reads as reads
-use Rattle.coarse_factor.proofs.factor.put_four.Lts as lts
 
 returns : tie.Need-returns
 returns c = refl

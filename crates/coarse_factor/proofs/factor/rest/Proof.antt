@@ -10,8 +10,6 @@ use native.Mathlib.Omega.{arith}
 use borrow.Author.Needs.{needs}
 use Rattle.coarse_factor.proofs.factor.rest.Statement.{statement}
 use Rattle.coarse_factor.proofs.factor.rest.Tie as tie
-use Rattle.coarse_factor.proofs.factor.rest.Reads as reads
-use Rattle.coarse_factor.proofs.factor.rest.Lts as lts
 
 abbrev Inv-loop : tie.InvT-loop
 Inv-loop l x a b n sum₀ k₀ sum k = (k ≤ n) × (sum ≡ reduced x (tab (λ t. getD l (a + t) nan *ᶠ getD l (b + t) nan) k))

@@ -9,8 +9,6 @@ use mathlib.Core.Path.{_≡_, refl}
 use native.Mathlib.Omega.{arith}
 use Rattle.coarse_factor.proofs.factor.rest_four.Statement.{statement}
 use Rattle.coarse_factor.proofs.factor.rest_four.Tie as tie
-use Rattle.coarse_factor.proofs.factor.rest_four.Reads as reads
-use Rattle.coarse_factor.proofs.factor.rest_four.Lts as lts
 
 abbrev Inv-loop : tie.InvT-loop
 Inv-loop l a b c d e n s₀ t₀ u₀ v₀ k₀ s t u v k = (k ≤ n) × (s ≡ restOf l s₀ a b k) × (t ≡ restOf l t₀ a c k) × (u ≡ restOf l u₀ a d k) × (v ≡ restOf l v₀ a e k)

@@ -7,10 +7,6 @@ use native.Mathlib.Omega.{arith}
 use borrow.Author.Needs.{needs}
 use Rattle.coarse_factor.proofs.factor.scale.Statement.{statement}
 use Rattle.coarse_factor.proofs.factor.scale.Tie as tie
-use Rattle.coarse_factor.proofs.factor.scale.Reads as reads
-use Rattle.coarse_factor.proofs.factor.scale.Lts as lts
-use Rattle.numbers.proofs.larger.Reads as larger-reads
-use Rattle.numbers.proofs.magnitude.Reads as magnitude-reads
 
 abbrev Inv-loop : tie.InvT-loop
 Inv-loop m top₀ k₀ k-end top k = (k ≤ k-end) × (k-end ≡ length m) × (top ≡ largest (take k m))

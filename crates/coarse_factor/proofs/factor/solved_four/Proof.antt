@@ -3,8 +3,6 @@ use mathlib.Core.Path.{refl}
 use native.Mathlib.Omega.{arith}
 use Rattle.coarse_factor.proofs.factor.solved_four.Statement.{statement}
 use Rattle.coarse_factor.proofs.factor.solved_four.Tie as tie
-use Rattle.coarse_factor.proofs.factor.solved_four.Reads as reads
-use Rattle.coarse_factor.proofs.factor.solved_four.Lts as lts
 
 returns : tie.Need-returns
 unfolding solvedFour

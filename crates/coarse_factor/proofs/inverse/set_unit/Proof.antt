@@ -2,9 +2,6 @@ use Rattle.coarse_factor.proofs.Rows.{unit-law}
 use borrow.Author.Needs.{needs}
 use Rattle.coarse_factor.proofs.inverse.set_unit.Statement.{statement}
 use Rattle.coarse_factor.proofs.inverse.set_unit.Tie as tie
-use Rattle.coarse_factor.proofs.inverse.set_unit.Reads as reads
-use Rattle.coarse_factor.proofs.inverse.set_unit.Lts as lts
-use Rattle.numbers.proofs.zero_floats.Reads as zero-floats-reads
 
 returns : tie.Need-returns
 returns c = unit-law (c .before .before .before .before .before .args .y .now) (c .before .before .zero-floats .last .0) (c .before .before .before .before .before .args .i) (c .before .before .before .before .before .pre) (c .before .before .zero-floats .ensures)

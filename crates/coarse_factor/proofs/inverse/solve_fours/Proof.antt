@@ -10,9 +10,6 @@ use native.Mathlib.Omega.{arith}
 use borrow.Author.Needs.{needs}
 use Rattle.coarse_factor.proofs.inverse.solve_fours.Statement.{statement}
 use Rattle.coarse_factor.proofs.inverse.solve_fours.Tie as tie
-use Rattle.coarse_factor.proofs.inverse.solve_fours.Reads as reads
-use Rattle.coarse_factor.proofs.inverse.solve_fours.Lts as lts
-use Rattle.coarse_factor.proofs.lanes.solve_four.Reads as solve-four-reads
 
 abbrev Inv-loop : tie.InvT-loop
 Inv-loop c lower inverse₀ block from₀ i₀ inverse from i = (i ≤ c) × (from ≡ i * c) × (length inverse ≡ length inverse₀) × (inverse ≡ solvedRows c lower i ++ drop (i * c) inverse₀)

@@ -14,9 +14,6 @@ use native.Mathlib.Omega.{arith}
 use borrow.Author.Needs.{needs}
 use Rattle.coarse_factor.proofs.inverse.solve_rest.Statement.{statement}
 use Rattle.coarse_factor.proofs.inverse.solve_rest.Tie as tie
-use Rattle.coarse_factor.proofs.inverse.solve_rest.Reads as reads
-use Rattle.coarse_factor.proofs.inverse.solve_rest.Lts as lts
-use Rattle.coarse_factor.proofs.inverse.unit_solve.Reads as unit-solve-reads
 
 abbrev Inv-loop : tie.InvT-loop
 Inv-loop c lower inverse₀ first from₀ i₀ inverse from i = (i ≤ c) × (from ≡ i * c) × (length inverse ≡ length inverse₀) × ((w : List Float) → inverse₀ ≡ solvedRows c lower first ++ drop (first * c) w → inverse ≡ solvedRows c lower i ++ drop (i * c) w)

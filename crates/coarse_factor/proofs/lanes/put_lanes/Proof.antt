@@ -3,8 +3,6 @@ use mathlib.Core.Path.{refl}
 use native.Mathlib.Omega.{arith}
 use Rattle.coarse_factor.proofs.lanes.put_lanes.Statement.{statement}
 use Rattle.coarse_factor.proofs.lanes.put_lanes.Tie as tie
-use Rattle.coarse_factor.proofs.lanes.put_lanes.Reads as reads
-use Rattle.coarse_factor.proofs.lanes.put_lanes.Lts as lts
 
 returns : tie.Need-returns
 returns c = refl

@@ -9,8 +9,6 @@ use mathlib.Core.Path.{_≡_}
 use native.Mathlib.Omega.{arith}
 use Rattle.coarse_factor.proofs.lanes.row_dots.Statement.{statement}
 use Rattle.coarse_factor.proofs.lanes.row_dots.Tie as tie
-use Rattle.coarse_factor.proofs.lanes.row_dots.Reads as reads
-use Rattle.coarse_factor.proofs.lanes.row_dots.Lts as lts
 
 abbrev Inv-loop : tie.InvT-loop
 Inv-loop l w n start c third fourth s₀ t₀ u₀ v₀ k₀ s t u v k = (k ≤ n) × (s ≡ rowSum l w k start) × (t ≡ rowSum l (drop c w) k start) × (u ≡ rowSum l (drop (c + c) w) k start) × (v ≡ rowSum l (drop (c + c + c) w) k start)

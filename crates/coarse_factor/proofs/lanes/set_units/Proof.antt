@@ -6,9 +6,6 @@ use native.Mathlib.Omega.{arith}
 use borrow.Author.Needs.{needs}
 use Rattle.coarse_factor.proofs.lanes.set_units.Statement.{statement}
 use Rattle.coarse_factor.proofs.lanes.set_units.Tie as tie
-use Rattle.coarse_factor.proofs.lanes.set_units.Reads as reads
-use Rattle.coarse_factor.proofs.lanes.set_units.Lts as lts
-use Rattle.numbers.proofs.zero_floats.Reads as zero-floats-reads
 
 zeros : (c : tie.After-zero-floats) → length (c .zero-floats .last .0) ≡ length (c .before .before .before .args .w .now)
 zeros c = ap length (c .zero-floats .ensures) ∙ length-replicate (length (c .before .before .before .args .w .now)) zeroᶠ

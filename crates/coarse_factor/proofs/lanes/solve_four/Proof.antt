@@ -2,11 +2,6 @@ use Rattle.coarse_factor.proofs.Sides.{four-solved}
 use mathlib.Core.Path.{_∙_}
 use Rattle.coarse_factor.proofs.lanes.solve_four.Statement.{statement}
 use Rattle.coarse_factor.proofs.lanes.solve_four.Tie as tie
-use Rattle.coarse_factor.proofs.lanes.solve_four.Reads as reads
-use Rattle.coarse_factor.proofs.lanes.solve_four.Lts as lts
-use Rattle.coarse_factor.proofs.lanes.backward_four.Reads as backward-four-reads
-use Rattle.coarse_factor.proofs.lanes.forward_four.Reads as forward-four-reads
-use Rattle.coarse_factor.proofs.lanes.set_units.Reads as set-units-reads
 
 forward-four-requires : tie.Need-forward-four-requires
 forward-four-requires c κs = (c .before .before .before .before .before .before .before .pre .1, c .before .before .before .set-units .ensures .0 ∙ c .before .before .before .before .before .before .before .pre .2, c .before .before .before .before .before .before .before .pre .3)

@@ -9,8 +9,6 @@ use native.Mathlib.Omega.{arith}
 use borrow.Author.Needs.{needs}
 use Rattle.coarse_factor.proofs.solve.row_dot.Statement.{statement}
 use Rattle.coarse_factor.proofs.solve.row_dot.Tie as tie
-use Rattle.coarse_factor.proofs.solve.row_dot.Reads as reads
-use Rattle.coarse_factor.proofs.solve.row_dot.Lts as lts
 
 abbrev Inv-loop : tie.InvT-loop
 Inv-loop l y n start sum₀ k₀ sum k = (k ≤ n) × (sum ≡ rowSum l y k start)

@@ -4,10 +4,6 @@ use Rattle.coarse_factor.proofs.Packed.{length-forward, solve-law}
 use borrow.Author.Needs.{needs}
 use Rattle.coarse_factor.proofs.solve.solve.Statement.{statement}
 use Rattle.coarse_factor.proofs.solve.solve.Tie as tie
-use Rattle.coarse_factor.proofs.solve.solve.Reads as reads
-use Rattle.coarse_factor.proofs.solve.solve.Lts as lts
-use Rattle.coarse_factor.proofs.solve.backward.Reads as backward-reads
-use Rattle.coarse_factor.proofs.solve.forward.Reads as forward-reads
 
 backward-requires : tie.Need-backward-requires
 backward-requires c κs =

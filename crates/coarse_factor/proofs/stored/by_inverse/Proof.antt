@@ -3,11 +3,6 @@ use native.Mathlib.Omega.{arith}
 use borrow.Author.Needs.{needs}
 use Rattle.coarse_factor.proofs.stored.by_inverse.Statement.{statement}
 use Rattle.coarse_factor.proofs.stored.by_inverse.Tie as tie
-use Rattle.coarse_factor.proofs.stored.by_inverse.Reads as reads
-use Rattle.coarse_factor.proofs.stored.by_inverse.Lts as lts
-use Rattle.coarse_factor.proofs.stored.inverse_rows.Reads as inverse-rows-reads
-use Rattle.coarse_factor.proofs.stored.move_front.Reads as move-front-reads
-use Rattle.numbers.proofs.zero_floats.Reads as zero-floats-reads
 
 mul-zero-floats : tie.Need-mul-zero-floats
 mul-zero-floats c = omega (arith, c .before .before .move-front .ensures .long, c .before .before .before .before .before .before .inverse-rows .ensures .long)

@@ -6,8 +6,6 @@ use native.Mathlib.Omega.{arith}
 use borrow.Author.Needs.{needs}
 use Rattle.coarse_factor.proofs.stored.move_front.Statement.{statement}
 use Rattle.coarse_factor.proofs.stored.move_front.Tie as tie
-use Rattle.coarse_factor.proofs.stored.move_front.Reads as reads
-use Rattle.coarse_factor.proofs.stored.move_front.Lts as lts
 
 abbrev Inv-loop : tie.InvT-loop
 Inv-loop c work₀ i₀ work i = (i ≤ c) × Moved c work₀ work i

@@ -4,10 +4,6 @@ use mathlib.Core.Path.{_∙_}
 use borrow.Author.Needs.{needs}
 use Rattle.coarse_factor.proofs.stored.solve_stored.Statement.{statement}
 use Rattle.coarse_factor.proofs.stored.solve_stored.Tie as tie
-use Rattle.coarse_factor.proofs.stored.solve_stored.Reads as reads
-use Rattle.coarse_factor.proofs.stored.solve_stored.Lts as lts
-use Rattle.coarse_factor.proofs.stored.by_factor.Reads as by-factor-reads
-use Rattle.coarse_factor.proofs.stored.by_inverse.Reads as by-inverse-reads
 
 by-factor-requires : tie.Need-by-factor-requires
 by-factor-requires c κs = let a = c .before .before .before .before .before .args in let p = c .before .before .before .before .before .pre in (p .0 ∙ length-auto (a .policy) (a .c) (c .before .enum-told .given .1), p .1, p .2)

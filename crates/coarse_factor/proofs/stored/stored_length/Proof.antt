@@ -5,8 +5,6 @@ use native.Mathlib.Omega.{arith}
 use borrow.Author.Needs.{needs}
 use Rattle.coarse_factor.proofs.stored.stored_length.Statement.{statement}
 use Rattle.coarse_factor.proofs.stored.stored_length.Tie as tie
-use Rattle.coarse_factor.proofs.stored.stored_length.Reads as reads
-use Rattle.coarse_factor.proofs.stored.stored_length.Lts as lts
 
 returns : tie.Need-returns
 unfolding coarseLength

@@ -7,11 +7,6 @@ use Rattle.coarse_matrix.proofs.Squares.{rest, entry-step, span-done}
 use borrow.Author.Needs.{needs}
 use Rattle.coarse_matrix.proofs.constant.add_entries.Statement.{statement}
 use Rattle.coarse_matrix.proofs.constant.add_entries.Tie as tie
-use Rattle.coarse_matrix.proofs.constant.add_entries.Reads as reads
-use Rattle.coarse_matrix.proofs.constant.add_entries.Lts as lts
-use Rattle.coarse_matrix.proofs.constant.add_at.Reads as add-at-reads
-use Rattle.coarse_matrix.proofs.constant.coarse_of.Reads as coarse-of-reads
-use Rattle.coarse_matrix.proofs.constant.wide.Reads as wide-reads
 
 abbrev Inv-loop : tie.InvT-loop
 Inv-loop idx vals ids size cols c from to base coarse₀ k₀ coarse k = (from ≤ k) × (k ≤ to) × (length coarse ≡ length coarse₀) × (rest idx vals (λ w. base + coarseColumn size ids w) to k coarse ≡ rest idx vals (λ w. base + coarseColumn size ids w) to from coarse₀)

@@ -12,11 +12,6 @@ use Rattle.coarse_matrix.proofs.Squares.{row-fits, row-stored, matrix-s
 use borrow.Author.Needs.{needs}
 use Rattle.coarse_matrix.proofs.constant.add_matrix.Statement.{statement}
 use Rattle.coarse_matrix.proofs.constant.add_matrix.Tie as tie
-use Rattle.coarse_matrix.proofs.constant.add_matrix.Reads as reads
-use Rattle.coarse_matrix.proofs.constant.add_matrix.Lts as lts
-use Rattle.coarse_matrix.proofs.constant.add_entries.Reads as add-entries-reads
-use Rattle.coarse_matrix.proofs.constant.coarse_of.Reads as coarse-of-reads
-use Rattle.coarse_matrix.proofs.constant.wide.Reads as wide-reads
 
 abbrev Inv-loop : tie.InvT-loop
 Inv-loop ptr idx vals ids size n c coarse₀ r₀ coarse r = (r ≤ n) × (length coarse ≡ length coarse₀) × (coarse ≡ scattered (rowPuts (coarseColumn size ids) c (rowOf ptr idx vals)) r coarse₀)

@@ -9,11 +9,6 @@ use native.Mathlib.Omega.{arith}
 use borrow.Author.Needs.{needs}
 use Rattle.coarse_matrix.proofs.constant.constant_into.Statement.{statement}
 use Rattle.coarse_matrix.proofs.constant.constant_into.Tie as tie
-use Rattle.coarse_matrix.proofs.constant.constant_into.Reads as reads
-use Rattle.coarse_matrix.proofs.constant.constant_into.Lts as lts
-use Rattle.averaging.proofs.average.Reads as average-reads
-use Rattle.coarse_matrix.proofs.constant.add_matrix.Reads as add-matrix-reads
-use Rattle.numbers.proofs.zero_floats.Reads as zero-floats-reads
 
 add-matrix-requires : tie.Need-add-matrix-requires
 add-matrix-requires c κs =

@@ -10,11 +10,6 @@ use native.Mathlib.Omega.{arith}
 use borrow.Author.Needs.{needs}
 use Rattle.coarse_matrix.proofs.galerkin.add_products.Statement.{statement}
 use Rattle.coarse_matrix.proofs.galerkin.add_products.Tie as tie
-use Rattle.coarse_matrix.proofs.galerkin.add_products.Reads as reads
-use Rattle.coarse_matrix.proofs.galerkin.add_products.Lts as lts
-use Rattle.coarse_matrix.proofs.constant.add_at.Reads as add-at-reads
-use Rattle.coarse_matrix.proofs.constant.wide.Reads as wide-reads
-use Rattle.coarse_matrix.proofs.galerkin.mark.Reads as mark-reads
 
 abbrev Inv-loop : tie.InvT-loop
 Inv-loop idx weights value from to c base token count ints₀ floats₀ n₀ q₀ ints floats n q = (from ≤ q) × (q ≤ to) × Put c base token ints₀ floats₀ count ints floats n (scaled value (stored idx weights from q))

@@ -8,10 +8,6 @@ use native.Mathlib.Omega.{arith}
 use borrow.Author.Needs.{needs}
 use Rattle.coarse_matrix.proofs.galerkin.add_row.Statement.{statement}
 use Rattle.coarse_matrix.proofs.galerkin.add_row.Tie as tie
-use Rattle.coarse_matrix.proofs.galerkin.add_row.Reads as reads
-use Rattle.coarse_matrix.proofs.galerkin.add_row.Lts as lts
-use Rattle.coarse_matrix.proofs.constant.wide.Reads as wide-reads
-use Rattle.coarse_matrix.proofs.galerkin.add_products.Reads as add-products-reads
 
 abbrev Inv-loop : tie.InvT-loop
 Inv-loop idx vals from to n tptr tidx weights c base token ints₀ floats₀ count₀ p₀ ints floats count p = (from ≤ p) × (p ≤ to) × Put c base token ints₀ floats₀ 0 ints floats count (productPuts (rowOf tptr tidx weights) (stored idx vals from p))

@@ -11,11 +11,6 @@ use native.Mathlib.Omega.{arith}
 use borrow.Author.Needs.{needs}
 use Rattle.coarse_matrix.proofs.galerkin.galerkin_row.Statement.{statement}
 use Rattle.coarse_matrix.proofs.galerkin.galerkin_row.Tie as tie
-use Rattle.coarse_matrix.proofs.galerkin.galerkin_row.Reads as reads
-use Rattle.coarse_matrix.proofs.galerkin.galerkin_row.Lts as lts
-use Rattle.coarse_matrix.proofs.constant.wide.Reads as wide-reads
-use Rattle.coarse_matrix.proofs.galerkin.add_row.Reads as add-row-reads
-use Rattle.coarse_matrix.proofs.galerkin.weigh_row.Reads as weigh-row-reads
 
 -- what the accumulator holds, by the definition's row
 put : (c : tie.After-add-row) → Put (c .before .before .before .before .before .before .before .before .before .before .before .before .before .before .before .args .c) (c .before .before .before .before .before .before .before .before .before .before .before .before .before .before .before .args .c * c .before .before .before .before .before .before .before .before .before .before .before .before .before .before .before .args .c) (c .before .before .before .before .before .before .before .before .before .before .before .before .before .before .before .args .r + 1) (c .before .before .before .before .before .before .before .before .before .before .before .before .before .before .before .args .ints .now) (c .before .before .before .before .before .before .before .before .before .before .before .before .before .before .before .args .floats .now) 0 (c .add-row .last .1 .1 .1 .1 .1 .1 .1 .1 .1 .1 .1 .0) (c .add-row .last .1 .1 .1 .1 .1 .1 .1 .1 .1 .1 .1 .1 .0) (c .add-row .result) (productPuts (rowOf (c .before .before .before .before .before .before .before .before .before .before .before .before .before .before .before .args .tptr .now) (c .before .before .before .before .before .before .before .before .before .before .before .before .before .before .before .args .tidx .now) (c .before .before .before .before .before .before .before .before .before .before .before .before .before .before .before .args .weights .now)) (entriesOf (csr (c .before .before .before .before .before .before .before .before .before .before .before .before .before .before .before .args .n) (c .before .before .before .before .before .before .before .before .before .before .before .before .before .before .before .args .n) (c .before .before .before .before .before .before .before .before .before .before .before .before .before .before .before .args .ptr .now) (c .before .before .before .before .before .before .before .before .before .before .before .before .before .before .before .args .idx .now) (c .before .before .before .before .before .before .before .before .before .before .before .before .before .before .before .args .vals .now)) (c .before .before .before .before .before .before .before .before .before .before .before .before .before .before .before .args .r)))

@@ -7,9 +7,6 @@ use native.Mathlib.Omega.{arith}
 use borrow.Author.Needs.{needs}
 use Rattle.coarse_matrix.proofs.galerkin.galerkin_rows.Statement.{statement}
 use Rattle.coarse_matrix.proofs.galerkin.galerkin_rows.Tie as tie
-use Rattle.coarse_matrix.proofs.galerkin.galerkin_rows.Reads as reads
-use Rattle.coarse_matrix.proofs.galerkin.galerkin_rows.Lts as lts
-use Rattle.coarse_matrix.proofs.galerkin.galerkin_row.Reads as galerkin-row-reads
 
 abbrev Inv-loop : tie.InvT-loop
 Inv-loop ptr idx vals n tptr tidx weights c ints₀ floats₀ r₀ ints floats r = (r ≤ n) × RowsAdded (csr n n ptr idx vals) (rowOf tptr tidx weights) c r ints₀ ints floats₀ floats

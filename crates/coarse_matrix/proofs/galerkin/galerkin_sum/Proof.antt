@@ -8,11 +8,6 @@ use native.Mathlib.Omega.{arith}
 use borrow.Author.Needs.{needs}
 use Rattle.coarse_matrix.proofs.galerkin.galerkin_sum.Statement.{statement}
 use Rattle.coarse_matrix.proofs.galerkin.galerkin_sum.Tie as tie
-use Rattle.coarse_matrix.proofs.galerkin.galerkin_sum.Reads as reads
-use Rattle.coarse_matrix.proofs.galerkin.galerkin_sum.Lts as lts
-use Rattle.coarse_matrix.proofs.galerkin.galerkin_rows.Reads as galerkin-rows-reads
-use Rattle.numbers.proofs.zero_floats.Reads as zero-floats-reads
-use Rattle.numbers.proofs.zero_ints.Reads as zero-ints-reads
 
 galerkin-rows-requires : tie.Need-galerkin-rows-requires
 galerkin-rows-requires c κs =

@@ -5,8 +5,6 @@ use native.Mathlib.Omega.{arith}
 use borrow.Author.Needs.{needs}
 use Rattle.coarse_matrix.proofs.galerkin.mark.Statement.{statement}
 use Rattle.coarse_matrix.proofs.galerkin.mark.Tie as tie
-use Rattle.coarse_matrix.proofs.galerkin.mark.Reads as reads
-use Rattle.coarse_matrix.proofs.galerkin.mark.Lts as lts
 
 returns : tie.Need-returns
 returns c = let a = c .before .before .args in sym (marked-there (a .c) (a .base) (a .token) (a .k) (marksOf (a .ints .now) (a .floats .now) (a .count)) (c .if1 .taken))

@@ -11,10 +11,6 @@ use native.Mathlib.Omega.{arith}
 use borrow.Author.Needs.{needs}
 use Rattle.coarse_matrix.proofs.galerkin.weigh.Statement.{statement}
 use Rattle.coarse_matrix.proofs.galerkin.weigh.Tie as tie
-use Rattle.coarse_matrix.proofs.galerkin.weigh.Reads as reads
-use Rattle.coarse_matrix.proofs.galerkin.weigh.Lts as lts
-use Rattle.coarse_matrix.proofs.constant.add_at.Reads as add-at-reads
-use Rattle.coarse_matrix.proofs.constant.wide.Reads as wide-reads
 
 abbrev Inv-loop : tie.InvT-loop
 Inv-loop ints c count weight dst base floats₀ t₀ floats t = (t ≤ count) × (floats ≡ scatter (weightPuts base floats₀ dst weight (take t (drop c ints))) floats₀)

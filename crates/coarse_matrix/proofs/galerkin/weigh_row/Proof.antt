@@ -10,10 +10,6 @@ use native.Mathlib.Omega.{arith}
 use borrow.Author.Needs.{needs}
 use Rattle.coarse_matrix.proofs.galerkin.weigh_row.Statement.{statement}
 use Rattle.coarse_matrix.proofs.galerkin.weigh_row.Tie as tie
-use Rattle.coarse_matrix.proofs.galerkin.weigh_row.Reads as reads
-use Rattle.coarse_matrix.proofs.galerkin.weigh_row.Lts as lts
-use Rattle.coarse_matrix.proofs.constant.wide.Reads as wide-reads
-use Rattle.coarse_matrix.proofs.galerkin.weigh.Reads as weigh-reads
 
 abbrev Inv-loop : tie.InvT-loop
 Inv-loop tidx weights from to ints c count base floats₀ q₀ floats q = (from ≤ q) × (q ≤ to) × (floats ≡ scatter (weighedPuts c base floats₀ (take count (drop c ints)) (stored tidx weights from q)) floats₀)

@@ -5,10 +5,6 @@ use Rattle.grouping_text.proofs.printing.Bytes.{puts-then}
 use borrow.Author.Needs.{needs}
 use Rattle.grouping_text.proofs.answers.put_groups.Statement.{statement}
 use Rattle.grouping_text.proofs.answers.put_groups.Tie as tie
-use Rattle.grouping_text.proofs.answers.put_groups.Reads as reads
-use Rattle.grouping_text.proofs.answers.put_groups.Lts as lts
-use Rattle.grouping_text.proofs.printing.put_head.Reads as put-head-reads
-use Rattle.grouping_text.proofs.printing.put_ids.Reads as put-ids-reads
 
 returns : tie.Need-returns
 returns c =

@@ -11,12 +11,6 @@ use Rattle.grouping_text.proofs.answers.Printed.{printed-refused, print
 use borrow.Author.Needs.{needs}
 use Rattle.grouping_text.proofs.answers.run.Statement.{statement}
 use Rattle.grouping_text.proofs.answers.run.Tie as tie
-use Rattle.grouping_text.proofs.answers.run.Reads as reads
-use Rattle.grouping_text.proofs.answers.run.Lts as lts
-use Rattle.aggregates.proofs.group.Reads as group-reads
-use Rattle.causes.proofs.number_of.Reads as number-of-reads
-use Rattle.grouping_text.proofs.answers.put_groups.Reads as put-groups-reads
-use Rattle.grouping_text.proofs.printing.put_head.Reads as put-head-reads
 
 returns : tie.Need-returns
 returns c =

@@ -4,9 +4,6 @@ use Rattle.grouping_text.specs.Steps.{gotOf}
 use Rattle.grouping_text.proofs.lists.Nodes.{got-none, got-large, got-short, got-lists}
 use Rattle.grouping_text.proofs.lists.node_of.Statement.{statement}
 use Rattle.grouping_text.proofs.lists.node_of.Tie as tie
-use Rattle.grouping_text.proofs.lists.node_of.Reads as reads
-use Rattle.grouping_text.proofs.lists.node_of.Lts as lts
-use Rattle.numbers.proofs.copy_ints.Reads as copy-ints-reads
 
 returns : tie.Need-returns
 unfolding gotOf

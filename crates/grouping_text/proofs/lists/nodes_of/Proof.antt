@@ -7,9 +7,6 @@ use Rattle.grouping_text.proofs.lists.Nodes.{Noting, noting-first, noti
 use borrow.Author.Needs.{needs}
 use Rattle.grouping_text.proofs.lists.nodes_of.Statement.{statement}
 use Rattle.grouping_text.proofs.lists.nodes_of.Tie as tie
-use Rattle.grouping_text.proofs.lists.nodes_of.Reads as reads
-use Rattle.grouping_text.proofs.lists.nodes_of.Lts as lts
-use Rattle.grouping_text.proofs.lists.node_of.Reads as node-of-reads
 
 abbrev Inv-loop : tie.InvT-loop
 Inv-loop numbers at nodes offsets₀ neighbours₀ i₀ have₀ pos₀ offsets neighbours i have pos = Noting numbers at nodes offsets₀ neighbours₀ offsets neighbours i have pos

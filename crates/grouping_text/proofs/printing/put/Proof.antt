@@ -3,8 +3,6 @@ use Rattle.grouping_text.proofs.printing.Bytes.{puts-one, puts-over}
 use borrow.Author.Needs.{needs}
 use Rattle.grouping_text.proofs.printing.put.Statement.{statement}
 use Rattle.grouping_text.proofs.printing.put.Tie as tie
-use Rattle.grouping_text.proofs.printing.put.Reads as reads
-use Rattle.grouping_text.proofs.printing.put.Lts as lts
 
 returns : tie.Need-returns
 returns c = puts-one (c .before .args .out .now) (c .before .args .at) (c .before .args .b) (c .if1 .taken)

@@ -6,9 +6,6 @@ use Rattle.grouping_text.proofs.printing.Bytes.{Copying, copy-first, co
 use borrow.Author.Needs.{needs}
 use Rattle.grouping_text.proofs.printing.put_all.Statement.{statement}
 use Rattle.grouping_text.proofs.printing.put_all.Tie as tie
-use Rattle.grouping_text.proofs.printing.put_all.Reads as reads
-use Rattle.grouping_text.proofs.printing.put_all.Lts as lts
-use Rattle.grouping_text.proofs.printing.put.Reads as put-reads
 
 abbrev Inv-loop : tie.InvT-loop
 Inv-loop out₀ at bytes end₀ i₀ out end i = Copying out₀ at bytes out end i

@@ -4,11 +4,6 @@ use Rattle.grouping_text.proofs.printing.Bytes.{puts-line, puts-decimal
 use borrow.Author.Needs.{needs}
 use Rattle.grouping_text.proofs.printing.put_head.Statement.{statement}
 use Rattle.grouping_text.proofs.printing.put_head.Tie as tie
-use Rattle.grouping_text.proofs.printing.put_head.Reads as reads
-use Rattle.grouping_text.proofs.printing.put_head.Lts as lts
-use Rattle.grouping_text.proofs.printing.put.Reads as put-reads
-use Rattle.grouping_text.proofs.printing.put_all.Reads as put-all-reads
-use Rattle.grouping_text.proofs.printing.put_decimal.Reads as put-decimal-reads
 
 returns : tie.Need-returns
 returns c =

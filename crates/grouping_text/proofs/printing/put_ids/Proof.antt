@@ -6,9 +6,6 @@ use Rattle.grouping_text.proofs.printing.Bytes.{Listing, list-first, li
 use borrow.Author.Needs.{needs}
 use Rattle.grouping_text.proofs.printing.put_ids.Statement.{statement}
 use Rattle.grouping_text.proofs.printing.put_ids.Tie as tie
-use Rattle.grouping_text.proofs.printing.put_ids.Reads as reads
-use Rattle.grouping_text.proofs.printing.put_ids.Lts as lts
-use Rattle.grouping_text.proofs.printing.put_line.Reads as put-line-reads
 
 abbrev Inv-loop : tie.InvT-loop
 Inv-loop out₀ at ids end₀ v₀ out end v = Listing out₀ at ids out end v

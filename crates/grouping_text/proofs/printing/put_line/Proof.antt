@@ -4,10 +4,6 @@ use Rattle.grouping_text.proofs.printing.Bytes.{puts-line, puts-decimal
 use borrow.Author.Needs.{needs}
 use Rattle.grouping_text.proofs.printing.put_line.Statement.{statement}
 use Rattle.grouping_text.proofs.printing.put_line.Tie as tie
-use Rattle.grouping_text.proofs.printing.put_line.Reads as reads
-use Rattle.grouping_text.proofs.printing.put_line.Lts as lts
-use Rattle.grouping_text.proofs.printing.put.Reads as put-reads
-use Rattle.grouping_text.proofs.printing.put_decimal.Reads as put-decimal-reads
 
 returns : tie.Need-returns
 returns c =

@@ -2,8 +2,6 @@
 use Rattle.grouping_text.proofs.reading.Bytes.{blank-1, blank-2, blank-3, blank-4}
 use Rattle.grouping_text.proofs.reading.blank.Statement.{statement}
 use Rattle.grouping_text.proofs.reading.blank.Tie as tie
-use Rattle.grouping_text.proofs.reading.blank.Reads as reads
-use Rattle.grouping_text.proofs.reading.blank.Lts as lts
 
 returns : tie.Need-returns
 returns c = blank-1 (c .before .args .b) (c .if1 .taken)

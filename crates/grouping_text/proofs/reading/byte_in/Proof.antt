@@ -4,12 +4,6 @@ use Rattle.grouping_text.proofs.reading.Bytes.{digit-range, byte-grown,
 use borrow.Author.Needs.{needs}
 use Rattle.grouping_text.proofs.reading.byte_in.Statement.{statement}
 use Rattle.grouping_text.proofs.reading.byte_in.Tie as tie
-use Rattle.grouping_text.proofs.reading.byte_in.Reads as reads
-use Rattle.grouping_text.proofs.reading.byte_in.Lts as lts
-use Rattle.grouping_text.proofs.reading.blank.Reads as blank-reads
-use Rattle.grouping_text.proofs.reading.close.Reads as close-reads
-use Rattle.grouping_text.proofs.reading.digit.Reads as digit-reads
-use Rattle.grouping_text.proofs.reading.more.Reads as more-reads
 
 returns : tie.Need-returns
 returns c =

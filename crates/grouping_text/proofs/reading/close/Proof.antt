@@ -3,8 +3,6 @@ use Rattle.grouping_text.proofs.reading.Bytes.{close-put, close-full, c
 use borrow.Author.Needs.{needs}
 use Rattle.grouping_text.proofs.reading.close.Statement.{statement}
 use Rattle.grouping_text.proofs.reading.close.Tie as tie
-use Rattle.grouping_text.proofs.reading.close.Reads as reads
-use Rattle.grouping_text.proofs.reading.close.Lts as lts
 
 returns : tie.Need-returns
 returns c = let a = c .before .before .args in close-put (a .reader) (a .numbers .now) (c .before .if1 .taken) (c .if2 .taken)

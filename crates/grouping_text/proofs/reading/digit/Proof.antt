@@ -2,8 +2,6 @@
 use Rattle.grouping_text.proofs.reading.Bytes.{digit-no, digit-is}
 use Rattle.grouping_text.proofs.reading.digit.Statement.{statement}
 use Rattle.grouping_text.proofs.reading.digit.Tie as tie
-use Rattle.grouping_text.proofs.reading.digit.Reads as reads
-use Rattle.grouping_text.proofs.reading.digit.Lts as lts
 
 returns : tie.Need-returns
 returns c = digit-no (c .before .args .b) (c .if1 .taken)

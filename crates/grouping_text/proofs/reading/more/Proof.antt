@@ -6,9 +6,6 @@ use Rattle.grouping_text.specs.Numbers.{cap}
 use Rattle.grouping_text.proofs.reading.Bytes.{cap-over, cap-under}
 use Rattle.grouping_text.proofs.reading.more.Statement.{statement}
 use Rattle.grouping_text.proofs.reading.more.Tie as tie
-use Rattle.grouping_text.proofs.reading.more.Reads as reads
-use Rattle.grouping_text.proofs.reading.more.Lts as lts
-use Rattle.grouping_text.proofs.reading.wide.Reads as wide-reads
 
 returns : tie.Need-returns
 returns c =

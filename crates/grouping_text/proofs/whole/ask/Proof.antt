@@ -8,9 +8,6 @@ use Rattle.grouping_text.proofs.whole.Asks.{asks-1, asks-2, asks-3, ask
 use borrow.Author.Needs.{needs}
 use Rattle.grouping_text.proofs.whole.ask.Statement.{statement}
 use Rattle.grouping_text.proofs.whole.ask.Tie as tie
-use Rattle.grouping_text.proofs.whole.ask.Reads as reads
-use Rattle.grouping_text.proofs.whole.ask.Lts as lts
-use Rattle.grouping_text.proofs.lists.nodes_of.Reads as nodes-of-reads
 
 returns : tie.Need-returns
 unfolding askedOf
