@@ -1,5 +1,6 @@
 //! The program as a student meets it: the example, the figures of every rule, graphs that are refused.
 use std::process::{Command, Output};
+use std::sync::atomic::{AtomicUsize, Ordering};
 
 fn run(args: &[&str]) -> Output {
     Command::new(env!("CARGO_BIN_EXE_joinings")).args(args).output().unwrap()
@@ -9,9 +10,10 @@ fn out(o: &Output) -> &str {
     std::str::from_utf8(&o.stdout).unwrap()
 }
 
-/// What the program makes of a text in a file that is gone afterwards.
+/// What the program makes of a text in a file of its own that is gone afterwards: tests run side by side.
 fn of(name: &str, text: &str) -> Output {
-    let path = std::env::temp_dir().join(format!("joinings-{}-{name}", std::process::id()));
+    static FILES: AtomicUsize = AtomicUsize::new(0);
+    let path = std::env::temp_dir().join(format!("joinings-{}-{}-{name}", std::process::id(), FILES.fetch_add(1, Ordering::Relaxed)));
     std::fs::write(&path, text).unwrap();
     let o = run(&[path.to_str().unwrap()]);
     std::fs::remove_file(path).unwrap();
