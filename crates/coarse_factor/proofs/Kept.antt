@@ -12,8 +12,7 @@ use lib.Ieee.{Float, nan}
 use Rattle.definitions.specs.Numbers.{_*ᶠ_, summed}
 use Rattle.definitions.specs.Coarse.{packed, packedEntry, packedLength}
 use Rattle.laws.proofs.Lists.{tab-cong}
-use Rattle.coarse_factor.specs.declared.Four.{Four}
-use Rattle.coarse_factor.specs.Lanes.{rowSum, colSum, Column, KeptBefore, RowFour, ColFour}
+use Rattle.coarse_factor.specs.Lanes.{rowSum, colSum, Column, KeptBefore}
 use Rattle.coarse_factor.proofs.Cholesky.{triangle-small}
 use Rattle.coarse_factor.proofs.Packed.{tri-row, tri-back}
 use Rattle.coarse_factor.proofs.Products.{upto}
@@ -66,15 +65,6 @@ kept-sum l w kept a i c k =
     rw (add-one i, r)
     (ap summed (tab-cong (λ m. getD kept (suc i + m) nan *ᶠ getD (drop a (drop (suc i) w)) m nan) (λ m. packedEntry l (suc i + m) i *ᶠ getD (drop a w) (suc i + m) nan) (c - suc i)
     (λ m h. let z : suc i + (a + m) ≡ a + (suc i + m) = omega arith in rw (k (suc i + m) (omega arith) (omega arith), getD-drop a (drop (suc i) w) m nan, getD-drop (suc i) w (a + m) nan, getD-drop a w (suc i + m) nan, z))))
-
-pub kept-sums : (l w kept : List Float) (i c : ℕ) (r : Four) → Column l i c kept → RowFour kept (take (length w - (i + 1)) (drop (i + 1) w)) (c - (i + 1)) (i + 1) c r → ColFour l w i c r
-kept-sums l w kept i c r k s =
-    record {
-      first = s .first ∙ kept-sum l w kept 0 i c k;
-      second = s .second ∙ kept-sum l w kept c i c k;
-      third = s .third ∙ kept-sum l w kept (c + c) i c k;
-      fourth = s .fourth ∙ kept-sum l w kept (c + c + c) i c k;
-    }
 
 -- ---- from one column of the solve to the next, n the length of a list of c numbers
 

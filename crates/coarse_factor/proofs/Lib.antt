@@ -1,9 +1,12 @@
 pub mod Packed
 pub mod Cholesky
-pub mod Columns
 pub mod Fitting
+pub mod Fronts
+pub mod RowByRow
 pub mod Kept
 pub mod Products
 pub mod Rows
 pub mod Sides
-pub mod TwoRows
+pub mod RowSums
+pub mod Zeros
+pub mod Starting

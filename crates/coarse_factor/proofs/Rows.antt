@@ -17,26 +17,18 @@ use Rattle.definitions.specs.Coarse.{packedSolve, unit, inverseOf, averagedSqua
 use Rattle.definitions.specs.Refusal.{resultLeft}
 use Rattle.averaging.specs.Averaging.{averageCall}
 use Rattle.averaging.proofs.Laws.{average-fits}
-use Rattle.laws.proofs.Lists.{tab-is, length-tab}
+use Rattle.laws.proofs.Lists.{tab-is}
 use Rattle.laws.proofs.Growing.{tab-snoc, flatMap-snoc}
 use Rattle.coarse_factor.specs.Stored.{solvedRows}
-use Rattle.coarse_factor.specs.Lanes.{fourSolved}
 use Rattle.coarse_factor.proofs.Products.{length-solve}
 
-pub unit-law : (y z : List Float) (i : ℕ) → i < length y → z ≡ replicate (length y) zeroᶠ → set z i oneᶠ ≡ unit (length y) i
+pub unit-of : (c i : ℕ) → i < c → set (replicate c zeroᶠ) i oneᶠ ≡ unit c i
 unfolding unit
-unit-law y z i h ez = rw ez (tab-is nan (set (replicate n zeroᶠ) i oneᶠ) (λ j. cond (eqb j i) oneᶠ zeroᶠ) n (length-set (replicate n zeroᶠ) i oneᶠ ∙ length-replicate n zeroᶠ) (λ j q. step j q (ℕ-discrete j i)))
+unit-of c i h = tab-is nan (set (replicate c zeroᶠ) i oneᶠ) (λ j. cond (eqb j i) oneᶠ zeroᶠ) c (length-set (replicate c zeroᶠ) i oneᶠ ∙ length-replicate c zeroᶠ) (λ j q. step j q (ℕ-discrete j i))
   where
-    n : ℕ
-    n = length y
-
-    step : (j : ℕ) → j < n → Dec (j ≡ i) → getD (set (replicate n zeroᶠ) i oneᶠ) j nan ≡ cond (eqb j i) oneᶠ zeroᶠ
-    step j q (yes e) = rw (e, eq-eqb i i refl) (getD-set-same (replicate n zeroᶠ) i oneᶠ nan (rw (length-replicate n zeroᶠ) h))
-    step j q (no d) = rw (ne-eqb j i d) (getD-set-other (replicate n zeroᶠ) i j oneᶠ nan d ∙ getD-replicate n j zeroᶠ nan q)
-
-pub length-unit : (c i : ℕ) → length (unit c i) ≡ c
-unfolding unit
-length-unit c i = length-tab (λ j. cond (eqb j i) oneᶠ zeroᶠ) c
+    step : (j : ℕ) → j < c → Dec (j ≡ i) → getD (set (replicate c zeroᶠ) i oneᶠ) j nan ≡ cond (eqb j i) oneᶠ zeroᶠ
+    step j q (yes e) = rw (e, eq-eqb i i refl) (getD-set-same (replicate c zeroᶠ) i oneᶠ nan (rw (length-replicate c zeroᶠ) h))
+    step j q (no d) = rw (ne-eqb j i d) (getD-set-other (replicate c zeroᶠ) i j oneᶠ nan d ∙ getD-replicate c j zeroᶠ nan q)
 
 module _ (c : ℕ) (l : List Float) where
   pub solved-none : (w : List Float) → w ≡ solvedRows c l 0 ++ drop (0 * c) w
@@ -53,39 +45,14 @@ module _ (c : ℕ) (l : List Float) where
   length-solved (suc i) = ap length (solved-snoc i) ∙ length-append (solvedRows c l i) (packedSolve c l (unit c i)) ∙ rw (length-solved i, length-solve c l (unit c i)) (omega arith)
 
   -- a row more, put in place of what lay there
-  pub solved-more : (w u r : List Float) (i from to : ℕ) → from ≡ i * c → to ≡ from + c → (i + 1) * c ≤ length u → u ≡ solvedRows c l i ++ drop (i * c) w
-      → r ≡ packedSolve (length (take (to - from) (drop from u))) l (unit (length (take (to - from) (drop from u))) i)
+  pub solved-more : (w u r : List Float) (i from to : ℕ) → from ≡ i * c → to ≡ from + c → u ≡ solvedRows c l i ++ drop (i * c) w → r ≡ packedSolve c l (unit c i)
       → take from u ++ (r ++ drop (to - from) (drop from u)) ≡ solvedRows c l (i + 1) ++ drop ((i + 1) * c) w
-  solved-more w u r i from to ef et h eu er =
+  solved-more w u r i from to ef et eu er =
       let k : to - from ≡ c = omega arith in
-      let n : length (take c (drop (i * c) u)) ≡ c = length-take-le c (drop (i * c) u) (rw (length-drop (i * c) u) (omega arith)) in
       let t : take (i * c) u ≡ solvedRows c l i = rw eu (take-at (solvedRows c l i) (drop (i * c) w) (i * c) (length-solved i)) in
       let d : drop (i * c) u ≡ drop (i * c) w = rw eu (drop-at (solvedRows c l i) (drop (i * c) w) (i * c) (length-solved i)) in
       let s : (i + 1) * c ≡ i * c + c = omega arith in
-      let r′ : r ≡ packedSolve c l (unit c i) = er ∙ rw (k, ef, n) in
-      rw (k, ef, t, d, drop-drop c (i * c) w, r′, s, add-one, solved-snoc i) (sym (append-assoc (solvedRows c l i) (packedSolve c l (unit c i)) (drop (i * c + c) w)))
-
-module _ (c : ℕ) (l : List Float) where
-  rows-four : (i : ℕ) → solvedRows c l (i + 4) ≡ solvedRows c l i ++ fourSolved l c i
-  rows-four i =
-      let n4 : i + 4 ≡ suc (suc (suc (suc i))) = omega arith in
-      let m1 : i + 1 ≡ suc i = omega arith in
-      let m2 : i + 2 ≡ suc (suc i) = omega arith in
-      let m3 : i + 3 ≡ suc (suc (suc i)) = omega arith in
-      rw (n4, solved-snoc c l (suc (suc (suc i))), solved-snoc c l (suc (suc i)), solved-snoc c l (suc i), solved-snoc c l i, m1, m2, m3) (simp append-assoc)
-
-  -- four rows more, put in place of what lay there
-  pub solved-four : (w u r : List Float) (i from to : ℕ) → from ≡ i * c → to ≡ from + (c + c + c + c) → u ≡ solvedRows c l i ++ drop (i * c) w → r ≡ fourSolved l c i
-      → take from u ++ (r ++ drop (to - from) (drop from u)) ≡ solvedRows c l (i + 4) ++ drop ((i + 4) * c) w
-  solved-four w u r i from to ef et eu er =
-      let k : to - from ≡ c + c + c + c = omega arith in
-      let t : take (i * c) u ≡ solvedRows c l i = rw eu (take-at (solvedRows c l i) (drop (i * c) w) (i * c) (length-solved c l i)) in
-      let d : drop (i * c) u ≡ drop (i * c) w = rw eu (drop-at (solvedRows c l i) (drop (i * c) w) (i * c) (length-solved c l i)) in
-      let s : (i + 4) * c ≡ i * c + (c + c + c + c) = omega arith in
-      rw (k, ef, t, d, drop-drop (c + c + c + c) (i * c) w, er, s, rows-four i) (sym (append-assoc (solvedRows c l i) (fourSolved l c i) (drop (i * c + (c + c + c + c)) w)))
-
-pub length-four : (l : List Float) (c i : ℕ) → length (fourSolved l c i) ≡ c + c + c + c
-length-four l c i = simp (length-append, length-solve) (omega arith)
+      rw (k, ef, t, d, drop-drop c (i * c) w, er, s, add-one, solved-snoc i) (sym (append-assoc (solvedRows c l i) (packedSolve c l (unit c i)) (drop (i * c + c) w)))
 
 -- c elements lent from a place on
 pub row-length : (u : List Float) (from c : ℕ) → from + c ≤ length u → length (take (from + c - from) (drop from u)) ≡ c

@@ -1,218 +1,226 @@
--- Four right-hand sides in one list: a write at number i of one leaves the others, so that each goes its own way through the solve.
-use Prim.Native.Nat.{ℕ, suc, _+_, _-_, _<_, _≤_}
+-- Right-hand sides side by side, number k of lane r of m at k * m + r: a write at number i of every lane, or at a number of one lane,
+-- is a write in each lane's own list, so that each goes its own way through the solve.
+use Prim.Native.Nat.{ℕ, suc, _+_, _-_, _*_, _<_, _≤_}
 use mathlib.Core.Path.{_≡_, refl, ap, sym, _∙_}
-use mathlib.Core.List.{List, [], _++_, append-nil}
+use mathlib.Core.List.{List, _++_}
 use native.Mathlib.Omega.{arith}
-use lib.ListN.{length, getD, set, take, drop, length-set, length-drop, length-replicate, replicate, take-append-drop}
-use lib.Seq.{getD-take, getD-drop, take-set-le, take-set-lt, drop-set-lt, drop-set-add, length-take-le, drop-length, drop-drop, take-all}
+use native.Mathlib.Decide.{ℕ-discrete, decLt}
+use native.Mathlib.Numerals.{add-one}
+use native.Mathlib.Nat.{mul-le-mul-right}
+use lib.ListN.{length, getD, set, take, replicate, length-set, length-replicate, getD-replicate, List·getD-append}
+use lib.Seq.{getD-set-same, getD-set-other, getD-take, getD-drop, getD-append-add, length-take-le, paste, paste-suc, take-paste, drop-paste}
 use lib.Ieee.{Float, nan}
-use Rattle.definitions.specs.Numbers.{_+ᶠ_, _-ᶠ_, _*ᶠ_, _/ᶠ_, summed, zeroᶠ, oneᶠ}
-use Rattle.definitions.specs.Coarse.{packed, packedEntry, packedLength, packedForward, packedBackward, packedSolve, unit}
-use Rattle.averaging.proofs.Lists.{take-zeros, drop-zeros}
-use Rattle.laws.proofs.Lists.{tab-cong}
-use Rattle.laws.proofs.Growing.{summed-more}
-use Rattle.coarse_factor.specs.declared.Four.{Four}
-use Rattle.coarse_factor.specs.Lanes.{rowSum, colSum, RowFour, ColFour, setLanes, lanesOf, lane, Ahead, Back, Forward4, Backward4, Units4, fourSolved}
-use Rattle.coarse_factor.proofs.Packed.{forward-none, forward-step, backward-none, backward-step, col-step}
-use Rattle.coarse_factor.proofs.Products.{rowSum-ext}
-use Rattle.coarse_factor.proofs.Rows.{unit-law, length-unit}
+use Rattle.definitions.specs.Lists.{tab}
+use Rattle.definitions.specs.Numbers.{_+ᶠ_, _-ᶠ_, _*ᶠ_, _/ᶠ_, minusZero, summed, zeroᶠ, oneᶠ}
+use Rattle.definitions.specs.Coarse.{packedEntry, packedLength, packedForward, packedBackward, packedSolve, unit}
+use Rattle.averaging.proofs.Places.{same-row, same-col, place}
+use Rattle.laws.proofs.Lists.{tab-cong, tab-is, tab-same, getD-tab, length-tab}
+use Rattle.laws.proofs.Growing.{summed-none}
+use Rattle.coarse_factor.specs.Lanes.{Column, lane, EachLane, ahead, LanesStart, laneSums, lanesLess, putLanes, Units, Solved}
+use Rattle.coarse_factor.proofs.Packed.{forward-step, forward-all, backward-none, backward-step, summed-from}
+use Rattle.coarse_factor.proofs.Products.{upto}
+use Rattle.coarse_factor.proofs.Rows.{unit-of}
 
--- ---- one write
+-- ---- what a part that is replaced leaves
 
-lane-here : (w : List Float) (c a i : ℕ) (v : Float) → i < c → lane c a (set w (a + i) v) ≡ set (lane c a w) i v
-lane-here w c a i v h = ap (λ t. take c t) (drop-set-add a w i v) ∙ take-set-lt c (drop a w) i v h
+module _ (d : List Float) (at : ℕ) (s : List Float) (n : ℕ) (hd : at + n ≤ length d) (hs : n ≤ length s) where
+  front-at : (p : ℕ) → p < at + n → getD (paste d at s n) p nan ≡ getD (take at d ++ take n s) p nan
+  front-at p h = sym (getD-take (at + n) (paste d at s n) p nan h) ∙ ap (λ t. getD t p nan) (take-paste d at s n (omega arith) hs)
 
-lane-before : (w : List Float) (c a p : ℕ) (v : Float) → p < a → lane c a (set w p v) ≡ lane c a w
-lane-before w c a p v h = ap (λ t. take c t) (drop-set-lt a w p v h)
+  pub paste-before : (p : ℕ) → p < at → getD (paste d at s n) p nan ≡ getD d p nan
+  paste-before p h =
+      let e : length (take at d) ≡ at = length-take-le at d (omega arith) in
+      front-at p (omega arith) ∙ List·getD-append (take at d) (take n s) nan p (rw e h) ∙ getD-take at d p nan h
 
-lane-after : (w : List Float) (c a p : ℕ) (v : Float) → a + c ≤ p → lane c a (set w p v) ≡ lane c a w
-lane-after w c a p v h =
-    let e : p ≡ a + (p - a) = omega arith in
-    ap (λ n. lane c a (set w n v)) e ∙ ap (λ t. take c t) (drop-set-add a w (p - a) v) ∙ take-set-le c (drop a w) (p - a) v (omega arith)
+  pub paste-here : (r : ℕ) → r < n → getD (paste d at s n) (at + r) nan ≡ getD s r nan
+  paste-here r h =
+      let e : length (take at d) ≡ at = length-take-le at d (omega arith) in
+      front-at (at + r) (omega arith) ∙ ap (λ k. getD (take at d ++ take n s) (k + r) nan) (sym e) ∙ getD-append-add (take at d) (take n s) r nan ∙ getD-take n s r nan h
 
-pub lane-at : (w : List Float) (c a k : ℕ) → k < c → getD (lane c a w) k nan ≡ getD w (a + k) nan
-lane-at w c a k h = getD-take c (drop a w) k nan h ∙ getD-drop a w k nan
+  pub paste-after : (p : ℕ) → at + n ≤ p → getD (paste d at s n) p nan ≡ getD d p nan
+  paste-after p h =
+      let q : p ≡ at + n + (p - (at + n)) = omega arith in
+      ap (λ k. getD (paste d at s n) k nan) q ∙ sym (getD-drop (at + n) (paste d at s n) (p - (at + n)) nan) ∙ ap (λ t. getD t (p - (at + n)) nan) (drop-paste d at s n (omega arith) hs)
+      ∙ getD-drop (at + n) d (p - (at + n)) nan ∙ ap (λ k. getD d k nan) (sym q)
 
-pub lane-long : (w : List Float) (c a : ℕ) → a + c ≤ length w → length (lane c a w) ≡ c
-lane-long w c a h = length-take-le c (drop a w) (rw (length-drop a w) (omega arith))
+-- ---- writes
 
--- ---- four writes: each lane has its own
+module _ (m c : ℕ) (w : List Float) where
+  pub lane-at : (r k : ℕ) → k < c → getD (lane m c w r) k nan ≡ getD w (k * m + r) nan
+  lane-at r k h = getD-tab (λ k. getD w (k * m + r) nan) c k nan h
 
-module _ (w : List Float) (c i : ℕ) (x : Four) (h : i < c) where
-  w1 : List Float
-  w1 = set w i (x .a)
+  pub length-lane : (r : ℕ) → length (lane m c w r) ≡ c
+  length-lane r = length-tab (λ k. getD w (k * m + r) nan) c
 
-  w2 : List Float
-  w2 = set w1 (c + i) (x .b)
+  -- a list that differs in one number of the lane
+  lane-by : (u : List Float) (r i : ℕ) (v : Float) → i < c → getD u (i * m + r) nan ≡ v → ((k : ℕ) → (k ≡ i → ⊥) → getD u (k * m + r) nan ≡ getD w (k * m + r) nan)
+      → lane m c u r ≡ set (lane m c w r) i v
+  lane-by u r i v h here there =
+      sym (tab-is nan (set (lane m c w r) i v) (λ k. getD u (k * m + r) nan) c (length-set (lane m c w r) i v ∙ length-lane r) (λ k q. step k q (ℕ-discrete k i)))
+    where
+      step : (k : ℕ) → k < c → Dec (k ≡ i) → getD (set (lane m c w r) i v) k nan ≡ getD u (k * m + r) nan
+      step k q (yes e) = rw e (getD-set-same (lane m c w r) i v nan (rw (length-lane r) h) ∙ sym here)
+      step k q (no d) = getD-set-other (lane m c w r) i k v nan d ∙ lane-at r k q ∙ sym (there k d)
 
-  w3 : List Float
-  w3 = set w2 (c + c + i) (x .c)
+  module _ (long : length w ≡ c * m) (i : ℕ) (h : i < c) where
+    -- number i of every lane
+    pub lane-paste : (vs : List Float) (r : ℕ) → m ≤ length vs → r < m → lane m c (paste w (i * m) vs m) r ≡ set (lane m c w r) i (getD vs r nan)
+    lane-paste vs r n q =
+        lane-by (paste w (i * m) vs m) r i (getD vs r nan) h (paste-here w (i * m) vs m b n r q) (λ k d. other k d (decLt k i))
+      where
+        b : i * m + m ≤ length w
+        b = omega (arith, mul-le-mul-right m h)
 
-  pub set-first : lane c 0 (setLanes w c i x) ≡ set (lane c 0 w) i (x .a)
-  unfolding w1 w2 w3
-  set-first =
-      lane-after w3 c 0 (c + c + c + i) (x .d) (omega arith) ∙ lane-after w2 c 0 (c + c + i) (x .c) (omega arith) ∙ lane-after w1 c 0 (c + i) (x .b) (omega arith)
-      ∙ (let z : i ≡ 0 + i = omega arith in ap (λ n. lane c 0 (set w n (x .a))) z ∙ lane-here w c 0 i (x .a) h)
+        other : (k : ℕ) → (k ≡ i → ⊥) → Dec (k < i) → getD (paste w (i * m) vs m) (k * m + r) nan ≡ getD w (k * m + r) nan
+        other k d (yes p) = paste-before w (i * m) vs m b n (k * m + r) (place k r i m p q)
+        other k d (no p) = let g : i < k = omega arith in paste-after w (i * m) vs m b n (k * m + r) (omega (arith, mul-le-mul-right m g))
 
-  pub set-second : lane c c (setLanes w c i x) ≡ set (lane c c w) i (x .b)
-  unfolding w1 w2 w3
-  set-second =
-      lane-after w3 c c (c + c + c + i) (x .d) (omega arith) ∙ lane-after w2 c c (c + c + i) (x .c) (omega arith) ∙ lane-here w1 c c i (x .b) h
-      ∙ ap (λ t. set t i (x .b)) (lane-before w c c i (x .a) h)
+    -- number i of one lane
+    pub lane-set : (r : ℕ) (v : Float) → r < m → lane m c (set w (i * m + r) v) r ≡ set (lane m c w r) i v
+    lane-set r v q =
+        lane-by (set w (i * m + r) v) r i v h (getD-set-same w (i * m + r) v nan (rw long (place i r c m h q)))
+        (λ k d. getD-set-other w (i * m + r) (k * m + r) v nan (λ e. d (same-row k i r r m q q e)))
 
-  pub set-third : lane c (c + c) (setLanes w c i x) ≡ set (lane c (c + c) w) i (x .c)
-  unfolding w1 w2 w3
-  set-third =
-      lane-after w3 c (c + c) (c + c + c + i) (x .d) (omega arith) ∙ lane-here w2 c (c + c) i (x .c) h
-      ∙ ap (λ t. set t i (x .c)) (lane-before w1 c (c + c) (c + i) (x .b) (omega arith) ∙ lane-before w c (c + c) i (x .a) (omega arith))
-
-  pub set-fourth : lane c (c + c + c) (setLanes w c i x) ≡ set (lane c (c + c + c) w) i (x .d)
-  unfolding w1 w2 w3
-  set-fourth =
-      lane-here w3 c (c + c + c) i (x .d) h
-      ∙ ap (λ t. set t i (x .d)) (lane-before w2 c (c + c + c) (c + c + i) (x .c) (omega arith) ∙ lane-before w1 c (c + c + c) (c + i) (x .b) (omega arith) ∙ lane-before w c (c + c + c) i (x .a) (omega arith))
-
--- ---- a lane of the forward solve, one number more
-
-sum-lane : (l w : List Float) (c a n start : ℕ) → n ≤ c → rowSum l (drop a w) n start ≡ rowSum l (lane c a w) n start
-sum-lane l w c a n start h = rowSum-ext l (drop a w) (lane c a w) n start (λ k q. sym (getD-take c (drop a w) k nan (omega arith)))
-
-ahead-more : (l w₀ w : List Float) (c a i start : ℕ) (s v p : Float) → i < c → a + c ≤ length w₀ → start ≡ packedLength i → Ahead l c a w₀ w i → s ≡ rowSum l (drop a w) i start → p ≡ getD l (start + i) nan
-    → v ≡ (getD w (a + i) nan -ᶠ s) /ᶠ p → set (lane c a w) i v ≡ packedForward l (lane c a w₀) (i + 1) ++ drop (i + 1) (lane c a w₀)
-ahead-more l w₀ w c a i start s v p h big es e el ep ev =
-    forward-step l (lane c a w₀) (lane c a w) i (rw (lane-long w₀ c a big) h) e s v
-    (el ∙ sum-lane l w c a i start (omega arith) ∙ ap (λ n. rowSum l (lane c a w) i n) es)
-    (ev ∙ rw (ep, es, sym (lane-at w c a i h)))
-
-pub forward4-none : (l : List Float) (c : ℕ) (w : List Float) → Forward4 l c w w 0
-forward4-none l c w =
-    record { long = refl; first = forward-none l (lane c 0 w); second = forward-none l (lane c c w); third = forward-none l (lane c (c + c) w); fourth = forward-none l (lane c (c + c + c) w) }
-
-pub forward4-more : (l : List Float) (c : ℕ) (w₀ w u : List Float) (i start : ℕ) (x : Four) (p : Float) → i < c → length w₀ ≡ c + c + c + c → start ≡ packedLength i → Forward4 l c w₀ w i → RowFour l w i start c x
-    → p ≡ getD l (start + i) nan → u ≡ setLanes w c i (lanesOf w c i x p) → Forward4 l c w₀ u (i + 1)
-forward4-more l c w₀ w u i start x p h big es f r ep eu =
-    record {
-      long = ap length eu ∙ simp length-set (f .long);
-      first = rw eu (set-first w c i y h ∙ ahead-more l w₀ w c 0 i start (x .a) (y .a) p h (omega arith) es (f .first) (r .first) ep (let z : 0 + i ≡ i = omega arith in rw z));
-      second = rw eu (set-second w c i y h ∙ ahead-more l w₀ w c c i start (x .b) (y .b) p h (omega arith) es (f .second) (r .second) ep refl);
-      third = rw eu (set-third w c i y h ∙ ahead-more l w₀ w c (c + c) i start (x .c) (y .c) p h (omega arith) es (f .third) (r .third) ep refl);
-      fourth = rw eu (set-fourth w c i y h ∙ ahead-more l w₀ w c (c + c + c) i start (x .d) (y .d) p h (omega arith) es (f .fourth) (r .fourth) ep refl);
-    }
-  where
-    y : Four
-    y = lanesOf w c i x p
+  pub lane-other : (i q r : ℕ) (v : Float) → q < m → r < m → (r ≡ q → ⊥) → lane m c (set w (i * m + q) v) r ≡ lane m c w r
+  lane-other i q r v hq hr d =
+      tab-cong (λ k. getD (set w (i * m + q) v) (k * m + r) nan) (λ k. getD w (k * m + r) nan) c
+      (λ k _. getD-set-other w (i * m + q) (k * m + r) v nan (λ e. d (same-col k i r q m hr hq e)))
 
 -- ---- the sums that run
 
-pub row-more : (l w : List Float) (a k start : ℕ) (s : Float) → s ≡ rowSum l (drop a w) k start → s +ᶠ getD l (start + k) nan *ᶠ getD w (a + k) nan ≡ rowSum l (drop a w) (k + 1) start
-row-more l w a k start s e =
-    summed-more (λ n. getD l (start + n) nan *ᶠ getD (drop a w) n nan) k s (s +ᶠ getD l (start + k) nan *ᶠ getD w (a + k) nan) (getD l (start + k) nan *ᶠ getD w (a + k) nan) e (rw (getD-drop a w k nan)) refl
+module _ (m : ℕ) (x : ℕ → Float) (w : List Float) (first : ℕ) where
+  abbrev pub laneTerm : ℕ → ℕ → Float
+  laneTerm r k = x (first + k) *ᶠ getD w ((first + k) * m + r) nan
 
-pub col-more : (l w : List Float) (a i j at : ℕ) (s : Float) → i < j → at ≡ packed j i → s ≡ colSum l (drop a w) i (j - suc i) → s +ᶠ getD l at nan *ᶠ getD w (a + j) nan ≡ colSum l (drop a w) i (j + 1 - suc i)
-col-more l w a i j at s h ea e = ap (λ t. s +ᶠ getD l at nan *ᶠ t) (sym (getD-drop a w j nan)) ∙ col-step l (drop a w) i j at s h ea e
+  pub sums-none : (n : ℕ) → n ≡ first → replicate m minusZero ≡ laneSums m x w first n
+  sums-none n e = let z : n - first ≡ 0 = omega arith in sym (tab-same (λ r. summed (tab (laneTerm r) (n - first))) minusZero m (λ r. rw z (sym (summed-none (laneTerm r)))))
 
--- ---- a lane of the backward solve, one number more
+  pub sums-more : (k : ℕ) (s : List Float) → first ≤ k → s ≡ laneSums m x w first k → tab (λ r. getD s r nan +ᶠ x k *ᶠ getD w (k * m + r) nan) m ≡ laneSums m x w first (k + 1)
+  sums-more k s h e =
+      let z : first + (k - first) ≡ k = omega arith in
+      tab-cong (λ r. getD s r nan +ᶠ x k *ᶠ getD w (k * m + r) nan) (λ r. summed (tab (laneTerm r) (k + 1 - first))) m
+      (λ r q. summed-from (laneTerm r) first k (getD s r nan) (getD s r nan +ᶠ x k *ᶠ getD w (k * m + r) nan) h (rw e (getD-tab (λ r. summed (tab (laneTerm r) (k - first))) m r nan q)) (rw z))
 
-sum-column : (l w : List Float) (c a i : ℕ) → i < c → colSum l (drop a w) i (c - suc i) ≡ colSum l (lane c a w) i (c - suc i)
-sum-column l w c a i h =
-    ap summed (tab-cong (λ m. packedEntry l (suc i + m) i *ᶠ getD (drop a w) (suc i + m) nan) (λ m. packedEntry l (suc i + m) i *ᶠ getD (lane c a w) (suc i + m) nan) (c - suc i)
-    (λ m q. rw (getD-take c (drop a w) (suc i + m) nan (omega arith))))
+  pub sums-long : (n : ℕ) (s : List Float) → s ≡ laneSums m x w first n → length s ≡ m
+  sums-long n s e = ap length e ∙ length-tab (λ r. summed (tab (laneTerm r) (n - first))) m
 
-back-more : (l w₀ w : List Float) (c a k i : ℕ) (s v p : Float) → k < c → i ≡ c - suc k → a + c ≤ length w₀ → length w ≡ length w₀ → Back l c a w₀ w k → s ≡ colSum l (drop a w) i (c - suc i) → p ≡ packedEntry l i i
-    → v ≡ (getD w (a + i) nan -ᶠ s) /ᶠ p → set (lane c a w) i v ≡ take (c - (k + 1)) (lane c a w₀) ++ packedBackward l c (lane c a w₀) (k + 1)
-back-more l w₀ w c a k i s v p h ei big nw e es ep ev =
-    let n : length (lane c a w₀) ≡ c = lane-long w₀ c a big in
-    let m : length (lane c a w) ≡ c = lane-long w c a (omega arith) in
-    let hi : i < c = omega arith in
-    backward-step l (lane c a w₀) (lane c a w) k i (rw n h) (rw n ei) (e ∙ rw n) s v (m ∙ sym n) (es ∙ sum-column l w c a i hi ∙ rw m) (ev ∙ rw (ep, lane-at w c a i hi)) ∙ rw n
+  -- each is a sum over its lane
+  pub sum-of : (n c r : ℕ) → n ≤ c → r < m → getD (laneSums m x w first n) r nan ≡ summed (tab (λ k. x (first + k) *ᶠ getD (lane m c w r) (first + k) nan) (n - first))
+  sum-of n c r h q =
+      getD-tab (λ r. summed (tab (laneTerm r) (n - first))) m r nan q
+      ∙ ap summed (tab-cong (laneTerm r) (λ k. x (first + k) *ᶠ getD (lane m c w r) (first + k) nan) (n - first) (λ k b. rw (lane-at m c w r (first + k) (omega arith))))
 
-pub backward4-none : (l : List Float) (c : ℕ) (w : List Float) → length w ≡ c + c + c + c → Backward4 l c w w 0
-backward4-none l c w big =
-    record { long = refl; first = none 0 (omega arith); second = none c (omega arith); third = none (c + c) (omega arith); fourth = none (c + c + c) (omega arith) }
-  where
-    none : (a : ℕ) → a + c ≤ length w → Back l c a w w 0
-    none a h = let n : length (lane c a w) ≡ c = lane-long w c a h in backward-none l (lane c a w) c ∙ rw n
+-- the column that is kept gives the sums of the column
+pub sums-kept : (m : ℕ) (l kept w : List Float) (i c : ℕ) → Column l i c kept → laneSums m (λ k. getD kept (0 + k) nan) w (i + 1) c ≡ laneSums m (λ j. packedEntry l j i) w (suc i) c
+sums-kept m l kept w i c k =
+    rw (add-one i) (tab-cong _ _ m (λ r q. ap summed (tab-cong (laneTerm m (λ k. getD kept (0 + k) nan) w (suc i) r) (laneTerm m (λ j. packedEntry l j i) w (suc i) r) (c - suc i)
+    (λ n b. let z : 0 + (suc i + n) ≡ suc i + n = omega arith in rw (z, k (suc i + n) (omega arith) (omega arith))))))
 
-pub backward4-more : (l : List Float) (c : ℕ) (w₀ w u : List Float) (k i : ℕ) (x : Four) (p : Float) → k < c → i ≡ c - suc k → length w₀ ≡ c + c + c + c → Backward4 l c w₀ w k → ColFour l w i c x
-    → p ≡ packedEntry l i i → u ≡ setLanes w c i (lanesOf w c i x p) → Backward4 l c w₀ u (k + 1)
-backward4-more l c w₀ w u k i x p h ei big f r ep eu =
-    record {
-      long = ap length eu ∙ simp length-set (f .long);
-      first = rw eu (set-first w c i y hi ∙ back-more l w₀ w c 0 k i (x .a) (y .a) p h ei (omega arith) (f .long) (f .first) (r .first) ep (let z : 0 + i ≡ i = omega arith in rw z));
-      second = rw eu (set-second w c i y hi ∙ back-more l w₀ w c c k i (x .b) (y .b) p h ei (omega arith) (f .long) (f .second) (r .second) ep refl);
-      third = rw eu (set-third w c i y hi ∙ back-more l w₀ w c (c + c) k i (x .c) (y .c) p h ei (omega arith) (f .long) (f .third) (r .third) ep refl);
-      fourth = rw eu (set-fourth w c i y hi ∙ back-more l w₀ w c (c + c + c) k i (x .d) (y .d) p h ei (omega arith) (f .long) (f .fourth) (r .fourth) ep refl);
-    }
-  where
-    y : Four
-    y = lanesOf w c i x p
+-- ---- the numbers less their sums
 
-    hi : i < c
-    hi = omega arith
+module _ (m : ℕ) (w : List Float) (at : ℕ) (sums : List Float) (p : Float) where
+  abbrev pub less : List Float
+  less = lanesLess m w at sums p
+
+  long-less : length less ≡ m
+  long-less = length-tab (λ r. (getD w (at + r) nan -ᶠ getD sums r nan) /ᶠ p) m
+
+  pub put-more : (r : ℕ) (u : List Float) → r < m → at + m ≤ length w → u ≡ paste w at less r → set u (at + r) ((getD u (at + r) nan -ᶠ getD sums r nan) /ᶠ p) ≡ paste w at less (r + 1)
+  put-more r u h b e =
+      let t : getD u (at + r) nan ≡ getD w (at + r) nan = rw e (paste-after w at less r (omega arith) (rw long-less (omega arith)) (at + r) (omega arith)) in
+      rw (t, e, add-one r, ← getD-tab (λ r. (getD w (at + r) nan -ᶠ getD sums r nan) /ᶠ p) m r nan h) (paste-suc w at less r nan (omega arith) (rw long-less h))
+
+-- number i of lane r
+pub lane-put : (m c : ℕ) (w : List Float) (i : ℕ) (sums : List Float) (p : Float) (r : ℕ) → length w ≡ c * m → i < c → r < m
+    → lane m c (putLanes m w (i * m) sums p) r ≡ set (lane m c w r) i ((getD (lane m c w r) i nan -ᶠ getD sums r nan) /ᶠ p)
+lane-put m c w i sums p r long h q =
+    lane-paste m c w long i h (less m w (i * m) sums p) r (rw (length-tab (λ r. (getD w (i * m + r) nan -ᶠ getD sums r nan) /ᶠ p) m) (omega arith)) q
+    ∙ rw (getD-tab (λ r. (getD w (i * m + r) nan -ᶠ getD sums r nan) /ᶠ p) m r nan q, lane-at m c w r i h)
+
+-- ---- forward
+
+-- the first i numbers of each lane are solved
+abbrev pub Ahead : ℕ → List Float → ℕ → ℕ → List Float → List Float → Type 0
+Ahead m l c i w₀ w = EachLane m c (λ b. ahead l b i) w₀ w
+
+module _ (m : ℕ) (l : List Float) (c first : ℕ) (w₀ : List Float) (begins : LanesStart m c l first w₀) where
+  pub ahead-none : Ahead m l c first w₀ w₀
+  ahead-none r q = begins r q .front
+
+  pub ahead-more : (w u : List Float) (i start : ℕ) (sums : List Float) → first ≤ i → i < c → length w ≡ c * m → start ≡ packedLength i → Ahead m l c i w₀ w
+      → sums ≡ laneSums m (λ k. getD l (start + k) nan) w first i → u ≡ putLanes m w (i * m) sums (getD l (start + i) nan) → Ahead m l c (i + 1) w₀ u
+  ahead-more w u i start sums from h long es f e eu r q =
+      ap (λ t. lane m c t r) eu ∙ lane-put m c w i sums (getD l (start + i) nan) r long h q
+      ∙ forward-step l b y i (rw (length-lane m c w₀ r) h) (f r q) (summed (tab (λ k. packedEntry l i k *ᶠ getD y k nan) i)) _ refl (rw (less, es))
+    where
+      b : List Float
+      b = lane m c w₀ r
+
+      y : List Float
+      y = lane m c w r
+
+      sum : getD sums r nan ≡ summed (tab (λ k. packedEntry l i (first + k) *ᶠ getD y (first + k) nan) (i - first))
+      sum = ap (λ t. getD t r nan) e ∙ sum-of m (λ k. getD l (start + k) nan) w first i c r (omega arith) q ∙ rw es
+
+      less : getD y i nan -ᶠ getD sums r nan ≡ getD y i nan -ᶠ summed (tab (λ k. packedEntry l i k *ᶠ getD y k nan) i)
+      less = rw sum (rw (f r q) (begins r q .less i from h))
+
+  pub ahead-all : (w : List Float) (i : ℕ) → i ≡ c → Ahead m l c i w₀ w → EachLane m c (λ b. packedForward l b c) w₀ w
+  ahead-all w i e f r q =
+      let n : length (lane m c w₀ r) ≡ c = length-lane m c w₀ r in
+      forward-all l (lane m c w₀ r) (lane m c w r) i (e ∙ sym n) (f r q) ∙ rw n
+
+-- ---- backward
+
+-- the last k numbers of each lane are solved
+abbrev pub Back : ℕ → List Float → ℕ → ℕ → List Float → List Float → Type 0
+Back m l c k w₀ w = EachLane m c (λ b. take (c - k) b ++ packedBackward l c b k) w₀ w
+
+module _ (m : ℕ) (l : List Float) (c : ℕ) (w₀ : List Float) where
+  pub back-none : Back m l c 0 w₀ w₀
+  back-none r q = backward-none l (lane m c w₀ r) c ∙ rw (length-lane m c w₀ r)
+
+  pub back-more : (w u : List Float) (k i : ℕ) (sums : List Float) (p : Float) → k < c → i ≡ c - suc k → length w ≡ c * m → Back m l c k w₀ w
+      → sums ≡ laneSums m (λ j. packedEntry l j i) w (suc i) c → p ≡ packedEntry l i i → u ≡ putLanes m w (i * m) sums p → Back m l c (k + 1) w₀ u
+  back-more w u k i sums p h ei long f e ep eu r q =
+      let n : length (lane m c w₀ r) ≡ c = length-lane m c w₀ r in
+      let o : length (lane m c w r) ≡ c = length-lane m c w r in
+      ap (λ t. lane m c t r) eu ∙ lane-put m c w i sums p r long (omega arith) q
+      ∙ backward-step l (lane m c w₀ r) (lane m c w r) k i (rw n h) (rw n ei) (f r q ∙ rw n) (getD sums r nan) _ (o ∙ sym n)
+      (ap (λ t. getD t r nan) e ∙ sum-of m (λ j. packedEntry l j i) w (suc i) c c r (omega arith) q ∙ rw o) (rw ep)
+      ∙ rw n
+
+  pub back-all : (w : List Float) (k : ℕ) → k ≡ c → Back m l c k w₀ w → EachLane m c (λ b. packedBackward l c b c) w₀ w
+  back-all w k e f r q = let z : c - c ≡ 0 = omega arith in f r q ∙ rw (e, z)
 
 -- ---- the unit vectors
 
-lane-zeros : (c a n : ℕ) → a + c ≤ n → lane c a (replicate n zeroᶠ) ≡ replicate c zeroᶠ
-lane-zeros c a n h = rw (drop-zeros a n zeroᶠ (omega arith)) (take-zeros c (n - a) zeroᶠ (omega arith))
-
-unit-of : (c i : ℕ) → i < c → set (replicate c zeroᶠ) i oneᶠ ≡ unit c i
-unit-of c i h =
-    let n : length (replicate c zeroᶠ) ≡ c = length-replicate c zeroᶠ in
-    unit-law (replicate c zeroᶠ) (replicate c zeroᶠ) i (rw n h) (rw n) ∙ rw n
-
-module _ (c i : ℕ) (w z : List Float) (h : i + 3 < c) (big : length w ≡ c + c + c + c) (ez : z ≡ replicate (length w) zeroᶠ) where
-  abbrev pub z1 : List Float
-  z1 = set z i oneᶠ
-
-  abbrev pub z2 : List Float
-  z2 = set z1 (c + i + 1) oneᶠ
-
-  abbrev pub z3 : List Float
-  z3 = set z2 (c + c + i + 2) oneᶠ
-
-  blank : (a : ℕ) → a + c ≤ length w → lane c a z ≡ replicate c zeroᶠ
-  blank a k = rw ez (lane-zeros c a (length w) k)
-
-  one-at : (y : List Float) (a k p : ℕ) → k < c → p ≡ a + k → lane c a y ≡ replicate c zeroᶠ → lane c a (set y p oneᶠ) ≡ unit c k
-  one-at y a k p hk ep e = ap (λ n. lane c a (set y n oneᶠ)) ep ∙ lane-here y c a k oneᶠ hk ∙ rw e (unit-of c k hk)
-
-  pub units4 : Units4 c i (set z3 (c + c + c + i + 3) oneᶠ)
-  units4 =
+module _ (m c i : ℕ) where
+  pub units-none : (w z : List Float) → length w ≡ c * m → z ≡ replicate (length w) zeroᶠ → Units m c i 0 z
+  units-none w z n e =
       record {
-        first = lane-after z3 c 0 (c + c + c + i + 3) oneᶠ (omega arith) ∙ lane-after z2 c 0 (c + c + i + 2) oneᶠ (omega arith) ∙ lane-after z1 c 0 (c + i + 1) oneᶠ (omega arith) ∙ one-at z 0 i i (omega arith) (omega arith) (blank 0 (omega arith));
-        second = lane-after z3 c c (c + c + c + i + 3) oneᶠ (omega arith) ∙ lane-after z2 c c (c + c + i + 2) oneᶠ (omega arith)
-            ∙ one-at z1 c (i + 1) (c + i + 1) (omega arith) (omega arith) (lane-before z c c i oneᶠ (omega arith) ∙ blank c (omega arith));
-        third = lane-after z3 c (c + c) (c + c + c + i + 3) oneᶠ (omega arith)
-            ∙ one-at z2 (c + c) (i + 2) (c + c + i + 2) (omega arith) (omega arith) (lane-before z1 c (c + c) (c + i + 1) oneᶠ (omega arith) ∙ lane-before z c (c + c) i oneᶠ (omega arith) ∙ blank (c + c) (omega arith));
-        fourth = one-at z3 (c + c + c) (i + 3) (c + c + c + i + 3) (omega arith) (omega arith)
-            (lane-before z2 c (c + c + c) (c + c + i + 2) oneᶠ (omega arith) ∙ lane-before z1 c (c + c + c) (c + i + 1) oneᶠ (omega arith) ∙ lane-before z c (c + c + c) i oneᶠ (omega arith) ∙ blank (c + c + c) (omega arith));
+        long = ap length e ∙ length-replicate (length w) zeroᶠ ∙ n;
+        made = λ r q. absurd (omega arith);
+        rest = λ r _ q. rw (e, n) (sym (tab-is nan (replicate c zeroᶠ) (λ k. getD (replicate (c * m) zeroᶠ) (k * m + r) nan) c (length-replicate c zeroᶠ)
+            (λ k h. getD-replicate c k zeroᶠ nan h ∙ sym (getD-replicate (c * m) (k * m + r) zeroᶠ nan (place k r c m h q)))));
       }
 
--- ---- a lane all the way
+  pub units-more : (w : List Float) (n : ℕ) → n < m → i + n < c → Units m c i n w → Units m c i (n + 1) (set w ((i + n) * m + n) oneᶠ)
+  units-more w n h b u =
+      record {
+        long = length-set w ((i + n) * m + n) oneᶠ ∙ u .long;
+        made = upto (λ r. lane m c v r ≡ unit c (i + r)) n
+            (λ r q. lane-other m c w (i + n) n r oneᶠ h (omega arith) (λ e. omega arith) ∙ u .made r q)
+            (lane-set m c w (u .long) (i + n) b n oneᶠ h ∙ rw (u .rest n (omega arith) h) (unit-of c (i + n) b));
+        rest = λ r p q. lane-other m c w (i + n) n r oneᶠ h q (λ e. omega arith) ∙ u .rest r (omega arith) q;
+      }
+    where
+      v : List Float
+      v = set w ((i + n) * m + n) oneᶠ
 
-solved-lane : (l w v u : List Float) (c a : ℕ) (b : List Float) → a + c ≤ length w → length b ≡ c → lane c a w ≡ b → Ahead l c a w v c → Back l c a v u c → lane c a u ≡ packedSolve c l b
+-- ---- all the way
+
+pub units-solved : (m c : ℕ) (l : List Float) (i n : ℕ) (w v u : List Float) → n ≤ m → Units m c i n w → EachLane m c (λ b. packedForward l b c) w v → EachLane m c (λ b. packedBackward l c b c) v u
+    → Solved m c l i n u
 unfolding packedSolve
-solved-lane l w v u c a b h nb eb ev eu =
-    let z : c - c ≡ 0 = omega arith in
-    let dn : drop c b ≡ [] = ap (λ n. drop n b) (sym nb) ∙ drop-length b in
-    let f : lane c a v ≡ packedForward l b c = ev ∙ rw (eb, dn, append-nil) in
-    eu ∙ rw (z, f)
-
--- a list of four lanes is the four
-four-lanes : (w : List Float) (c : ℕ) → length w ≡ c + c + c + c → w ≡ lane c 0 w ++ (lane c c w ++ (lane c (c + c) w ++ lane c (c + c + c) w))
-four-lanes w c n =
-    let d1 : drop c w ≡ lane c c w ++ drop (c + c) w = sym (take-append-drop c (drop c w)) ∙ ap (λ t. lane c c w ++ t) (drop-drop c c w) in
-    let d2 : drop (c + c) w ≡ lane c (c + c) w ++ drop (c + c + c) w = sym (take-append-drop c (drop (c + c) w)) ∙ ap (λ t. lane c (c + c) w ++ t) (drop-drop c (c + c) w) in
-    let d3 : drop (c + c + c) w ≡ lane c (c + c + c) w = sym (take-all c (drop (c + c + c) w) (rw (length-drop (c + c + c) w) (omega arith))) in
-    sym (take-append-drop c w) ∙ ap (λ t. take c w ++ t) (d1 ∙ ap (λ t. lane c c w ++ t) (d2 ∙ ap (λ t. lane c (c + c) w ++ t) d3))
-
-pub four-solved : (l : List Float) (c i : ℕ) (w v u : List Float) → i + 3 < c → length w ≡ c + c + c + c → Units4 c i w → Forward4 l c w v c → Backward4 l c v u c → u ≡ fourSolved l c i
-four-solved l c i w v u h n e f b =
-    let nu : length u ≡ c + c + c + c = b .long ∙ f .long ∙ n in
-    four-lanes u c nu
-    ∙ rw (
-      solved-lane l w v u c 0 (unit c i) (omega arith) (length-unit c i) (e .first) (f .first) (b .first),
-      solved-lane l w v u c c (unit c (i + 1)) (omega arith) (length-unit c (i + 1)) (e .second) (f .second) (b .second),
-      solved-lane l w v u c (c + c) (unit c (i + 2)) (omega arith) (length-unit c (i + 2)) (e .third) (f .third) (b .third),
-      solved-lane l w v u c (c + c + c) (unit c (i + 3)) (omega arith) (length-unit c (i + 3)) (e .fourth) (f .fourth) (b .fourth),
-    )
+units-solved m c l i n w v u h e f b r q = b r (omega arith) ∙ rw (f r (omega arith), e .made r q)

@@ -1,3 +1,5 @@
 pub mod Calls
+pub mod Fronts
 pub mod Lanes
+pub mod RowSums
 pub mod Stored

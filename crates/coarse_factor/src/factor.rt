@@ -1,5 +1,4 @@
-// Cholesky's factor of the coarse matrix, packed, row after row.
-use crate::Four;
+// Cholesky's factor of the coarse matrix, packed, row after row. A list w has the columns of eight rows side by side: their sums do not wait for one another.
 use definitions::Answer;
 use definitions::Refusal;
 use numbers::above;
@@ -7,13 +6,12 @@ use numbers::larger;
 use numbers::magnitude;
 use root::root;
 ghost use mathlib.Core.Path.{_≡_};
-ghost use Prim.Native.Nat.{_+_, _*_, _<_, _≤_};
+ghost use Prim.Native.Nat.{ℕ, _+_, _*_, _<_, _≤_};
 ghost use lib.ListN.{length, getD};
-ghost use mathlib.Core.List.{List};
 ghost use lib.Ieee.{Float, nan};
 ghost use Rattle.definitions.specs.Lists.{tab};
-ghost use Rattle.definitions.specs.Numbers.{largest, reduced, _*ᶠ_};
-ghost use Rattle.coarse_factor.specs.Lanes.{RestFour, setFour, solvedFour, fourAt};
+ghost use Rattle.definitions.specs.Numbers.{largest, _-ᶠ_, _*ᶠ_, _/ᶠ_};
+ghost use Rattle.coarse_factor.specs.Fronts.{lessRow, Fronts, Put};
 ghost use Rattle.definitions.specs.Factor.{belowDiagonal, factorRows};
 ghost use Rattle.definitions.specs.declared.Refusal.the-variants.{CoarsePivot};
 ghost use Rattle.coarse_factor.specs.Calls.{outcomeOf};
@@ -30,130 +28,118 @@ pub(crate) fn scale(m: &[f64]) -> f64
     top
 }
 
-// x less the products of the first n numbers of two rows, which begin at a and b.
-fn rest(l: &[f64], x: f64, a: usize, b: usize, n: usize) -> f64
-    requires { ⌜ (a + n ≤ length (now l)) × (b + n ≤ length (now l)) ⌝ }
-    ensures { λ r. ⌜ r ≡ reduced x (tab (λ k. getD (now (l .entry)) (a + k) nan *ᶠ getD (now (l .entry)) (b + k) nan) n) ⌝ }
+// The number of m at a place, NaN where it has none: eight rows may reach past the last.
+fn number_at(m: &[f64], at: usize) -> f64
+    ensures { λ r. ⌜ r ≡ getD (now (m .entry)) at nan ⌝ }
 {
-    let mut sum = x;
-    for k in 0..n {
-        sum -= l[a + k] * l[b + k];
+    if at < m.len() {
+        return m[at];
     }
-    sum
+    0.0 / 0.0
 }
 
-// The same of four rows at once, which begin at b, c, d and e: the four sums do not wait for one another.
-fn rest_four(l: &[f64], x: Four, a: usize, b: usize, c: usize, d: usize, e: usize, n: usize) -> Four
-    requires { ⌜ (a + n ≤ length (now l)) × (b + n ≤ length (now l)) × (c + n ≤ length (now l)) × (d + n ≤ length (now l)) × (e + n ≤ length (now l)) ⌝ }
-    ensures { λ r. ⌜ RestFour (now (l .entry)) x a b c d e n r ⌝ }
+// Column j of the eight rows of m from n on.
+fn eight_of(m: &[f64], c: usize, n: usize, j: usize) -> [f64; 8]
+    requires { ⌜ (n ≤ 2048) × (j ≤ 2048) × (c ≤ 2048) ⌝ }
+    ensures { λ x. ⌜ x ≡ tab (λ r. entryIn (now (m .entry)) c (n + r) j) 8 ⌝ }
 {
-    let mut s = x.a;
-    let mut t = x.b;
-    let mut u = x.c;
-    let mut v = x.d;
-    let mut k = 0;
-    while k < n {
-        let y = l[a + k];
-        s -= y * l[b + k];
-        t -= y * l[c + k];
-        u -= y * l[d + k];
-        v -= y * l[e + k];
-        k += 1;
+    let mut x = [0.0; 8];
+    for r in 0..8 {
+        x[r] = number_at(m, (n + r) * c + j);
     }
-    Four {
-        a: s,
-        b: t,
-        c: u,
-        d: v,
+    x
+}
+
+// Eight numbers, less the eight of w from `at` on by y.
+fn take_eight(x: &mut [f64; 8], w: &[f64; 16384], at: usize, y: f64)
+    requires { ⌜ (at + 8 ≤ 16384) × (length (now x) ≡ 8) ⌝ }
+    ensures { λ _. ⌜ now (x .exit) ≡ tab (λ r. getD (now (x .entry)) r nan -ᶠ getD (now (w .entry)) (at + r) nan *ᶠ y) 8 ⌝ }
+{
+    for r in 0..8 {
+        x[r] -= w[at + r] * y;
     }
 }
 
-// Four entries of a row, of which x has what is left up to their first column: b, c, d and e are the places of that column in their rows.
-fn solved_four(l: &[f64], x: Four, b: usize, c: usize, d: usize, e: usize) -> Four
-    requires { ⌜ (b < length (now l)) × (c + 1 < length (now l)) × (d + 2 < length (now l)) × (e + 3 < length (now l)) ⌝ }
-    ensures { λ r. ⌜ r ≡ solvedFour (now (l .entry)) x b c d e ⌝ }
+// Two columns of eight numbers.
+pub struct Pair {
+    pub a: [f64; 8],
+    pub b: [f64; 8],
+}
+
+// The columns j and j + 1 of the eight rows of m from n on, less their products in the first j columns, with the rows of l that begin at `row` and `next`.
+fn pair_rest(
+    m: &[f64],
+    l: &[f64],
+    w: &[f64; 16384],
+    c: usize,
+    n: usize,
+    j: usize,
+    row: usize,
+    next: usize,
+) -> Pair
+    requires { ⌜ (n ≤ 2048) × (j < 2048) × (c ≤ 2048) × (row + j ≤ length (now l)) × (next + j ≤ length (now l)) ⌝ }
+    ensures { λ x. ⌜ (let a = entryIn (now (m .entry)) c in
+        (x .a ≡ tab (lessRow a (now (l .entry)) (now (w .entry)) n j row j) 8) × (x .b ≡ tab (lessRow a (now (l .entry)) (now (w .entry)) n (j + 1) next j) 8)) ⌝ }
 {
-    let p = x.a / l[b];
-    let q = (x.b - p * l[c]) / l[c + 1];
-    let r = (x.c - p * l[d] - q * l[d + 1]) / l[d + 2];
-    let s = (x.d - p * l[e] - q * l[e + 1] - r * l[e + 2]) / l[e + 3];
-    Four {
-        a: p,
-        b: q,
-        c: r,
-        d: s,
+    let mut x = eight_of(m, c, n, j);
+    let mut y = eight_of(m, c, n, j + 1);
+    for k in 0..j {
+        take_eight(&mut x, w, k * 8, l[row + k]);
+        take_eight(&mut y, w, k * 8, l[next + k]);
+    }
+    Pair { a: x, b: y }
+}
+
+// Eight numbers over the pivot, into w from `at` on.
+fn put_eight(w: &mut [f64; 16384], at: usize, x: &[f64; 8], pivot: f64)
+    requires { ⌜ (at + 8 ≤ 16384) × (length (now w) ≡ 16384) ⌝ }
+    ensures { λ _. ⌜ Put (λ r. getD (now (x .entry)) r nan /ᶠ pivot) at 8 (now (w .entry)) (now (w .exit)) ⌝ }
+{
+    for r in 0..8 {
+        w[at + r] = x[r] / pivot;
     }
 }
 
-fn put_four(l: &mut [f64], at: usize, x: Four)
-    requires { ⌜ at + 3 < length (now l) ⌝ }
-    ensures { λ _. ⌜ now (l .exit) ≡ setFour (now (l .entry)) at x ⌝ }
+// The columns j and j + 1 of the eight rows from n on: the second waits for the first in its last product.
+fn put_columns(m: &[f64], l: &[f64], w: &mut [f64; 16384], c: usize, n: usize, j: usize)
+    requires { ⌜ (n ≤ 2048) × (j + 1 < c) × (c ≤ 2048) × (length (now l) ≡ packedLength c) × (length (now w) ≡ 16384) ⌝ }
+    ensures { λ _. ⌜ (let a = entryIn (now (m .entry)) c in (length (now (w .exit)) ≡ 16384)
+        × (Fronts a (now (l .entry)) (now (w .entry)) n j → Fronts a (now (l .entry)) (now (w .exit)) n (j + 2))) ⌝ }
 {
-    l[at] = x.a;
-    l[at + 1] = x.b;
-    l[at + 2] = x.c;
-    l[at + 3] = x.d;
+    let row = j * (j + 1) / 2;
+    let next = row + (j + 1);
+    let both = pair_rest(m, l, w, c, n, j, row, next);
+    let x = both.a;
+    let mut y = both.b;
+    put_eight(w, j * 8, &x, l[row + j]);
+    take_eight(&mut y, w, j * 8, l[next + j]);
+    put_eight(w, j * 8 + 8, &y, l[next + (j + 1)]);
 }
 
-fn four_at(m: &[f64], at: usize) -> Four
-    requires { ⌜ at + 3 < length (now m) ⌝ }
-    ensures { λ r. ⌜ r ≡ fourAt (now (m .entry)) at ⌝ }
+// The first of the eight rows that w has, up to column i, row i among them: those there were, or those from i on.
+fn renew(m: &[f64], l: &[f64], w: &mut [f64; 16384], c: usize, i: usize, n: usize) -> usize
+    requires { ⌜ (i < c) × (n ≤ i) × (length (now l) ≡ packedLength c) × (c ≤ 2048) × (length (now w) ≡ 16384) × Fronts (entryIn (now m) c) (now l) (now w) n i ⌝ }
+    ensures { λ r. ⌜ (r ≤ i) × (i < r + 8) × (length (now (w .exit)) ≡ 16384) × Fronts (entryIn (now (m .entry)) c) (now (l .entry)) (now (w .exit)) r i ⌝ }
 {
-    Four {
-        a: m[at],
-        b: m[at + 1],
-        c: m[at + 2],
-        d: m[at + 3],
+    if i < n + 8 {
+        return n;
     }
-}
-
-// The entries of row i left of the diagonal, from column `from` on; the row begins at `start`.
-fn fill_rest(m: &[f64], l: &mut [f64], c: usize, i: usize, start: usize, from: usize)
-    requires { ⌜ (i < c) × (from ≤ i) × (length (now m) ≡ c * c) × (length (now l) ≡ packedLength c) × (start ≡ packedLength i) × (c ≤ 2048) ⌝ }
-    ensures { λ _. ⌜ (let a = entryIn (now (m .entry)) c in
-        (length (now (l .exit)) ≡ length (now (l .entry)))
-        × ((l₀ : List Float) → now (l .entry) ≡ belowDiagonal packed a i from l₀ → now (l .exit) ≡ belowDiagonal packed a i i l₀)) ⌝ }
-{
-    let base = i * c;
-    let mut row = from * (from + 1) / 2;
-    let mut j = from;
-    while j < i {
-        let x = rest(l, m[base + j], start, row, j);
-        l[start + j] = x / l[row + j];
-        row += j + 1;
-        j += 1;
-    }
-}
-
-// The entries of row i left of the diagonal, four columns at a time, as far as that goes: up to the column returned.
-fn fill_fours(m: &[f64], l: &mut [f64], c: usize, i: usize, start: usize) -> usize
-    requires { ⌜ (i < c) × (length (now m) ≡ c * c) × (length (now l) ≡ packedLength c) × (start ≡ packedLength i) × (c ≤ 2048) ⌝ }
-    ensures { λ r. ⌜ (r ≤ i) × (now (l .exit) ≡ belowDiagonal packed (entryIn (now (m .entry)) c) i r (now (l .entry))) ⌝ }
-{
-    let base = i * c;
-    let mut row = 0;
     let mut j = 0;
-    while j + 4 <= i {
-        let second = row + j + 1;
-        let third = second + j + 2;
-        let fourth = third + j + 3;
-        let x = four_at(m, base + j);
-        let y = rest_four(l, x, start, row, second, third, fourth, j);
-        let z = solved_four(l, y, row + j, second + j, third + j, fourth + j);
-        put_four(l, start + j, z);
-        row = fourth + j + 4;
-        j += 4;
+    while j < i {
+        put_columns(m, l, w, c, i, j);
+        j += 2;
     }
-    j
+    i
 }
 
-// The entries of row i left of the diagonal.
-fn fill_row(m: &[f64], l: &mut [f64], c: usize, i: usize, start: usize)
-    requires { ⌜ (i < c) × (length (now m) ≡ c * c) × (length (now l) ≡ packedLength c) × (start ≡ packedLength i) × (c ≤ 2048) ⌝ }
-    ensures { λ _. ⌜ now (l .exit) ≡ belowDiagonal packed (entryIn (now (m .entry)) c) i i (now (l .entry)) ⌝ }
+// Row i left of the diagonal, from its lane of w; it begins at `start`.
+fn put_row(l: &mut [f64], w: &[f64; 16384], i: usize, start: usize, lane: usize)
+    requires { ⌜ (lane < 8) × (i < 2048) × (start ≡ packedLength i) × (start + i ≤ length (now l)) ⌝ }
+    ensures { λ _. ⌜ ((a : ℕ → ℕ → Float) (n : ℕ) → i ≡ n + lane → Fronts a (now (l .entry)) (now (w .entry)) n i → now (l .exit) ≡ belowDiagonal packed a i i (now (l .entry))) ⌝ }
 {
-    let j = fill_fours(m, l, c, i, start);
-    fill_rest(m, l, c, i, start, j);
+    for k in 0..i {
+        l[start + k] = w[k * 8 + lane];
+    }
 }
 
 // The rows one after the other; a pivot that is not finite or at most tol is refused.
@@ -162,13 +148,22 @@ pub(crate) fn factor_rows(m: &[f64], l: &mut [f64], c: usize, tol: f64) -> Answe
     ensures { λ r. ⌜ (length (now (l .exit)) ≡ length (now (l .entry)))
         × (outcomeOf r (now (l .exit)) ≡ factorRows packed (λ i. CoarsePivot i) (entryIn (now (m .entry)) c) tol c 0 (now (l .entry))) ⌝ }
 {
+    let mut w = [0.0; 16384];
+    let mut n = 0;
     let mut start = 0;
     let mut i = 0;
     while i < c {
-        fill_row(m, l, c, i, start);
-        let pivot = rest(l, m[i * c + i], start, start, i);
+        n = renew(m, l, &mut w, c, i, n);
+        let lane = i - n;
+        put_row(l, &w, i, start, lane);
+        // Of the two columns the first is used: what is left of row i in it is the pivot.
+        let both = pair_rest(m, l, &w, c, n, i, start, start);
+        let x = both.a;
+        let pivot = x[lane];
         if above(tol, pivot) {
-            l[start + i] = root(pivot);
+            let p = root(pivot);
+            l[start + i] = p;
+            put_eight(&mut w, i * 8, &x, p);
         } else {
             return Answer::Refused(Refusal::CoarsePivot(i as u64));
         }

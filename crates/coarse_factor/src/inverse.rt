@@ -1,67 +1,97 @@
 // The inverse of the coarse matrix from its packed factor: row i is the solve of the i-th unit vector; then averaged.
-use crate::lanes::solve_four;
-use crate::solve::solve;
+use crate::lanes::solve_units;
 use averaging::average;
-use numbers::zero_floats;
+use numbers::finite;
 ghost use mathlib.Core.Path.{_≡_};
+ghost use mathlib.Core.Bool.{true};
 ghost use mathlib.Core.List.{List, _++_};
 ghost use Prim.Native.Nat.{_+_, _*_, _<_, _≤_};
 ghost use lib.ListN.{length, drop};
 ghost use lib.Ieee.{Float};
 ghost use Rattle.definitions.specs.Lists.{padded};
 ghost use Rattle.definitions.specs.Numbers.{zeroᶠ};
-ghost use Rattle.definitions.specs.Coarse.{packedLength, packedSolve, unit, inverseOf};
+ghost use Rattle.definitions.specs.Coarse.{packedLength, inverseOf};
+ghost use Rattle.coarse_factor.specs.Lanes.{lane, Regular};
 ghost use Rattle.coarse_factor.specs.Stored.{solvedRows};
 
-// The i-th unit vector.
-fn set_unit(y: &mut [f64], i: usize)
-    requires { ⌜ i < length (now y) ⌝ }
-    ensures { λ _. ⌜ now (y .exit) ≡ unit (length (now (y .entry))) i ⌝ }
+// How many of the rows that are left are solved side by side.
+fn lanes_of(left: usize) -> usize
+    ensures { λ r. ⌜ (r ≤ 8) × (r ≤ left) × (0 < left → 0 < r) ⌝ }
 {
-    zero_floats(y);
-    y[i] = 1.0;
-}
-
-fn unit_solve(lower: &[f64], y: &mut [f64], i: usize)
-    requires { ⌜ (length (now lower) ≡ packedLength (length (now y))) × (i < length (now y)) × (length (now y) ≤ 2048) ⌝ }
-    ensures { λ _. ⌜ now (y .exit) ≡ packedSolve (length (now (y .entry))) (now (lower .entry)) (unit (length (now (y .entry))) i) ⌝ }
-{
-    set_unit(y, i);
-    solve(lower, y);
-}
-
-// The rows from `first` on, where those before it are there.
-fn solve_rest(c: usize, lower: &[f64], inverse: &mut [f64], first: usize)
-    requires { ⌜ (length (now lower) ≡ packedLength c) × (c * c ≤ length (now inverse)) × (first ≤ c) × (c ≤ 2048) ⌝ }
-    ensures { λ _. ⌜ (let rows = solvedRows c (now (lower .entry)) in
-        (length (now (inverse .exit)) ≡ length (now (inverse .entry)))
-        × ((w : List Float) → now (inverse .entry) ≡ rows first ++ drop (first * c) w → now (inverse .exit) ≡ rows c ++ drop (c * c) w)) ⌝ }
-{
-    let mut from = first * c;
-    let mut i = first;
-    while i < c {
-        let to = from + c;
-        unit_solve(lower, &mut inverse[from..to], i);
-        from = to;
-        i += 1;
+    if left < 8 {
+        return left;
     }
+    8
 }
 
-// The rows four at a time, as far as that goes: up to the row returned.
-fn solve_fours(c: usize, lower: &[f64], inverse: &mut [f64]) -> usize
-    requires { ⌜ (length (now lower) ≡ packedLength c) × (c * c ≤ length (now inverse)) × (c ≤ 2048) ⌝ }
-    ensures { λ r. ⌜ (r ≤ c) × (length (now (inverse .exit)) ≡ length (now (inverse .entry))) × (now (inverse .exit) ≡ solvedRows c (now (lower .entry)) r ++ drop (r * c) (now (inverse .entry))) ⌝ }
+// Whether all numbers of the factor are finite and its diagonal is above zero.
+fn regular(l: &[f64], c: usize) -> bool
+    requires { ⌜ (length (now l) ≡ packedLength c) × (c ≤ 2048) ⌝ }
+    ensures { λ r. ⌜ (r ≡ true → Regular c (now (l .entry))) ⌝ }
 {
-    let block = c + c + c + c;
-    let mut from = 0;
+    let mut k = 0;
+    while k < l.len() {
+        if finite(l[k]) {
+            k += 1;
+        } else {
+            return false;
+        }
+    }
+    let mut start = 0;
     let mut i = 0;
-    while i + 4 <= c {
-        let to = from + block;
-        solve_four(lower, &mut inverse[from..to], c, i);
-        from = to;
-        i += 4;
+    while i < c {
+        if 0.0 < l[start + i] {
+            start += i + 1;
+            i += 1;
+        } else {
+            return false;
+        }
     }
-    i
+    true
+}
+
+// The row where the forward solve of the unit vectors from i on begins: the numbers before i stay +0 in a regular factor's solve.
+fn first_row(regular: bool, i: usize) -> usize
+    ensures { λ r. ⌜ (r ≤ i) × (0 < r → regular ≡ true) ⌝ }
+{
+    if regular {
+        return i;
+    }
+    0
+}
+
+// Lane r of eight, as a row.
+fn copy_lane(w: &[f64], r: usize, row: &mut [f64])
+    requires { ⌜ (r < 8) × (length (now row) ≤ 2048) × (length (now row) * 8 ≤ length (now w)) ⌝ }
+    ensures { λ _. ⌜ now (row .exit) ≡ lane 8 (length (now (row .entry))) (now (w .entry)) r ⌝ }
+{
+    for k in 0..row.len() {
+        row[k] = w[k * 8 + r];
+    }
+}
+
+// The n rows from i on, where those before them are there; w is what the lanes are solved in.
+fn solve_rows(
+    c: usize,
+    lower: &[f64],
+    w: &mut [f64],
+    inverse: &mut [f64],
+    i: usize,
+    n: usize,
+    first: usize,
+)
+    requires { ⌜ (n ≤ 8) × (i + n ≤ c) × (c ≤ 2048) × (length (now w) ≡ c * 8) × (length (now lower) ≡ packedLength c) × (c * c ≤ length (now inverse)) ⌝ }
+    requires { ⌜ (first ≤ i) × (0 < first → Regular c (now lower)) ⌝ }
+    ensures { λ _. ⌜ (let rows = solvedRows c (now (lower .entry)) in
+        (u : List Float) → now (inverse .entry) ≡ rows i ++ drop (i * c) u → now (inverse .exit) ≡ rows (i + n) ++ drop ((i + n) * c) u) ⌝ }
+{
+    solve_units(lower, w, c, i, n, first);
+    let mut from = i * c;
+    for r in 0..n {
+        let to = from + c;
+        copy_lane(w, r, &mut inverse[from..to]);
+        from = to;
+    }
 }
 
 // The whole inverse, with zeros after it.
@@ -69,7 +99,16 @@ pub(crate) fn invert(c: usize, lower: &[f64], inverse: &mut [f64])
     requires { ⌜ (length (now lower) ≡ packedLength c) × (c * c ≤ length (now inverse)) × (c ≤ 2048) ⌝ }
     ensures { λ _. ⌜ now (inverse .exit) ≡ padded zeroᶠ (length (now (inverse .entry))) (inverseOf c (now (lower .entry))) ⌝ }
 {
-    let i = solve_fours(c, lower, inverse);
-    solve_rest(c, lower, inverse, i);
+    let safe = regular(lower, c);
+    let mut w = [0.0; 16384];
+    let from = 0;
+    let to = c * 8;
+    let mut i = 0;
+    while i < c {
+        let n = lanes_of(c - i);
+        let first = first_row(safe, i);
+        solve_rows(c, lower, &mut w[from..to], inverse, i, n, first);
+        i += n;
+    }
     average(c, inverse);
 }

@@ -24,19 +24,6 @@ mod lanes;
 mod solve;
 mod stored;
 
-// Two numbers side by side, and four.
-pub struct Two {
-    pub a: f64,
-    pub b: f64,
-}
-
-pub struct Four {
-    pub a: f64,
-    pub b: f64,
-    pub c: f64,
-    pub d: f64,
-}
-
 // The factor of a matrix of c rows, into the front of a list that is long enough.
 fn factor_fitting(c: usize, m: &[f64], lower: &mut [f64]) -> FactorAnswer
     requires { ⌜ (length (now m) ≡ c * c) × (packedLength c ≤ length (now lower)) × (c ≤ 2048) ⌝ }

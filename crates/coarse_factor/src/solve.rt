@@ -1,41 +1,71 @@
 // The solves with a packed factor, in place.
-use crate::Two;
 ghost use mathlib.Core.Path.{_≡_};
 ghost use mathlib.Core.Bool.{true, false};
-ghost use Prim.Native.Nat.{suc, _+_, _-_, _<_, _≤_};
+ghost use Prim.Native.Nat.{suc, _+_, _-_, _*_, _<_, _≤_};
 ghost use lib.ListN.{length, getD, set};
 ghost use lib.Ieee.{nan};
+ghost use Rattle.definitions.specs.Lists.{tab};
 ghost use Rattle.definitions.specs.Numbers.{_-ᶠ_, _/ᶠ_};
 ghost use Rattle.coarse_factor.specs.Lanes.{rowSum, colSum, Column, KeptBefore};
+ghost use Rattle.coarse_factor.specs.RowSums.{rowSums, withTerms, RowsWithin, rowStart, ForwardOn};
 ghost use Rattle.definitions.specs.Coarse.{packed, packedLength, packedForward, packedBackward, packedSolve};
+
+// The sum of the first n numbers of a row, which begins at start, with the products up to `to` added.
+fn row_more(l: &[f64], y: &[f64], before: f64, start: usize, n: usize, to: usize) -> f64
+    requires { ⌜ (n ≤ to) × (to ≤ length (now y)) × (start + to ≤ length (now l)) × (before ≡ rowSum (now l) (now y) n start) ⌝ }
+    ensures { λ r. ⌜ r ≡ rowSum (now (l .entry)) (now (y .entry)) to start ⌝ }
+{
+    let mut sum = before;
+    for k in n..to {
+        sum += l[start + k] * y[k];
+    }
+    sum
+}
 
 // The n numbers of l from start on, by those of y: a sum from -0.
 pub(crate) fn row_dot(l: &[f64], y: &[f64], n: usize, start: usize) -> f64
     requires { ⌜ (n ≤ length (now y)) × (start + n ≤ length (now l)) ⌝ }
     ensures { λ r. ⌜ r ≡ rowSum (now (l .entry)) (now (y .entry)) n start ⌝ }
 {
-    let mut sum: f64 = -0.0;
-    for k in 0..n {
-        sum += l[start + k] * y[k];
-    }
-    sum
+    row_more(l, y, -0.0, start, 0, n)
 }
 
-// The n numbers of l from `first` on and those from `second` on, by those of y: two sums that do not wait for one another.
-pub(crate) fn two_rows(l: &[f64], y: &[f64], n: usize, first: usize, second: usize) -> Two
-    requires { ⌜ (n ≤ length (now y)) × (first + n ≤ length (now l)) × (second + n ≤ length (now l)) ⌝ }
-    ensures { λ r. ⌜ (r .a ≡ rowSum (now (l .entry)) (now (y .entry)) n first) × (r .b ≡ rowSum (now (l .entry)) (now (y .entry)) n second) ⌝ }
+// Where eight rows begin that stand one after the other: the first is `long` long, and each is longer by `more` than the one before it.
+pub(crate) fn row_starts(first: usize, long: usize, more: usize) -> [usize; 8]
+    requires { ⌜ (rowStart first long more 8 < 18446744073709551616) × (long + 8 * more < 18446744073709551616) ⌝ }
+    ensures { λ r. ⌜ r ≡ tab (rowStart first long more) 8 ⌝ }
 {
-    let mut s = -0.0;
-    let mut t = -0.0;
-    let mut k = 0;
-    while k < n {
-        let x = y[k];
-        s += l[first + k] * x;
-        t += l[second + k] * x;
-        k += 1;
+    let mut starts: [usize; 8] = [0; 8];
+    let mut at = first;
+    let mut len = long;
+    for r in 0..8 {
+        starts[r] = at;
+        at += len;
+        len += more;
     }
-    Two { a: s, b: t }
+    starts
+}
+
+// The product at k of each of eight rows, to its sum: the compiler unrolls the loop.
+fn add_terms(acc: &mut [f64; 8], l: &[f64], starts: &[usize; 8], k: usize, x: f64)
+    requires { ⌜ (length (now acc) ≡ 8) × RowsWithin (now l) (k + 1) (now starts) 8 ⌝ }
+    ensures { λ _. ⌜ now (acc .exit) ≡ withTerms (now (acc .entry)) (now (l .entry)) (now (starts .entry)) k x 8 ⌝ }
+{
+    for r in 0..8 {
+        acc[r] += l[starts[r] + k] * x;
+    }
+}
+
+// The n numbers of l from each of eight starts on, by those of y: sums that do not wait for one another.
+pub(crate) fn row_sums(l: &[f64], y: &[f64], n: usize, starts: [usize; 8]) -> [f64; 8]
+    requires { ⌜ (n ≤ length (now y)) × RowsWithin (now l) n starts 8 ⌝ }
+    ensures { λ r. ⌜ r ≡ rowSums (now (l .entry)) (now (y .entry)) n starts 8 ⌝ }
+{
+    let mut acc: [f64; 8] = [-0.0; 8];
+    for k in 0..n {
+        add_terms(&mut acc, l, &starts, k, y[k]);
+    }
+    acc
 }
 
 // The number i of y, less the sum of its row, over the pivot; the row begins at start.
@@ -46,26 +76,46 @@ fn put_row(l: &[f64], y: &mut [f64], i: usize, start: usize, sum: f64)
     y[i] = (y[i] - sum) / l[start + i];
 }
 
-// L y = b, in place: two rows at a time, and a last one alone.
+// The eight rows from i on, the first of which begins at start.
+fn forward_eight(l: &[f64], y: &mut [f64], i: usize, start: usize)
+    requires { ⌜ (i + 8 ≤ length (now y)) × (length (now l) ≡ packedLength (length (now y))) × (start ≡ packedLength i) ⌝ }
+    ensures { λ _. ⌜ ForwardOn (now (l .entry)) (now (y .entry)) (now (y .exit)) i (i + 8) ⌝ }
+{
+    let starts = row_starts(start, i + 1, 1);
+    let sums = row_sums(l, y, i, starts);
+    for r in 0..8 {
+        let at = starts[r];
+        let sum = row_more(l, y, sums[r], at, i, i + r);
+        put_row(l, y, i + r, at, sum);
+    }
+}
+
+// The rows from i on, one by one; row i begins at start.
+fn forward_rest(l: &[f64], y: &mut [f64], i: usize, start: usize)
+    requires { ⌜ (i ≤ length (now y)) × (length (now l) ≡ packedLength (length (now y))) × (start ≡ packedLength i) ⌝ }
+    ensures { λ _. ⌜ ForwardOn (now (l .entry)) (now (y .entry)) (now (y .exit)) i (length (now (y .entry))) ⌝ }
+{
+    let mut at = start;
+    for k in i..y.len() {
+        let sum = row_dot(l, y, k, at);
+        put_row(l, y, k, at, sum);
+        at += k + 1;
+    }
+}
+
+// L y = b, in place: eight rows at a time, and the last ones alone.
 pub(crate) fn forward(l: &[f64], y: &mut [f64])
     requires { ⌜ length (now l) ≡ packedLength (length (now y)) ⌝ }
     ensures { λ _. ⌜ now (y .exit) ≡ packedForward (now (l .entry)) (now (y .entry)) (length (now (y .entry))) ⌝ }
 {
     let mut start = 0;
     let mut i = 0;
-    while i + 1 < y.len() {
-        let next = start + i + 1;
-        let sums = two_rows(l, y, i, start, next);
-        put_row(l, y, i, start, sums.a);
-        let sum = sums.b + l[next + i] * y[i];
-        put_row(l, y, i + 1, next, sum);
-        start = next + i + 2;
-        i += 2;
+    while i + 8 <= y.len() {
+        forward_eight(l, y, i, start);
+        start += 8 * i + 36;
+        i += 8;
     }
-    if i < y.len() {
-        let sum = row_dot(l, y, i, start);
-        put_row(l, y, i, start, sum);
-    }
+    forward_rest(l, y, i, start);
 }
 
 // The column i of a packed factor below the diagonal, by y; it begins at first. The column i - 1, which stands before it, is kept on the way:

@@ -1,7 +1,8 @@
 // The solve with what is stored of the coarse factor: the packed factor itself, or its inverse.
 use crate::solve::row_dot;
+use crate::solve::row_starts;
+use crate::solve::row_sums;
 use crate::solve::solve;
-use crate::solve::two_rows;
 use definitions::TwoLevelCoarseApplyPolicy;
 use numbers::zero_floats;
 ghost use mathlib.Core.Path.{_≡_};
@@ -10,6 +11,7 @@ ghost use lib.ListN.{length, take};
 ghost use Rattle.definitions.specs.Lists.{padded};
 ghost use Rattle.definitions.specs.Numbers.{zeroᶠ};
 ghost use Rattle.definitions.specs.Coarse.{packedLength, packedSolve, coarseLength, coarseSolve};
+ghost use Rattle.coarse_factor.specs.RowSums.{ProductsOn};
 ghost use Rattle.coarse_factor.specs.Stored.{Products, Moved, inverseSolve};
 
 // How many numbers are stored.
@@ -17,11 +19,7 @@ pub(crate) fn stored_length(policy: TwoLevelCoarseApplyPolicy, c: usize) -> usiz
     requires { ⌜ c ≤ 2048 ⌝ }
     ensures { λ r. ⌜ r ≡ coarseLength policy c ⌝ }
 {
-    match policy {
-        TwoLevelCoarseApplyPolicy::Auto => c * (c + 1) / 2,
-        TwoLevelCoarseApplyPolicy::FactorSolve => c * (c + 1) / 2,
-        TwoLevelCoarseApplyPolicy::ExplicitInverse => c * c,
-    }
+    layout::part_length(policy, c)
 }
 
 // With the factor, in place.
@@ -34,25 +32,43 @@ fn by_factor(c: usize, part: &[f64], work: &mut [f64])
     zero_floats(&mut work[c..]);
 }
 
-// The rows of the inverse by the first c numbers of work, into the c numbers after them: two at a time, and a last one alone.
+// The products of the eight rows of the inverse from i on, the first of which begins at base.
+fn products_eight(c: usize, part: &[f64], work: &mut [f64], i: usize, base: usize)
+    requires { ⌜ (i + 8 ≤ c) × (base ≡ i * c) × (length (now part) ≡ c * c) × (2 * c ≤ length (now work)) × (c ≤ 2048) ⌝ }
+    ensures { λ _. ⌜ ProductsOn c (now (part .entry)) (now (work .entry)) (now (work .exit)) i (i + 8) ⌝ }
+{
+    let starts = row_starts(base, c, 0);
+    let sums = row_sums(part, work, c, starts);
+    for r in 0..8 {
+        work[c + i + r] = sums[r];
+    }
+}
+
+// Those of the rows from i on, one by one; row i begins at base.
+fn products_rest(c: usize, part: &[f64], work: &mut [f64], i: usize, base: usize)
+    requires { ⌜ (i ≤ c) × (base ≡ i * c) × (length (now part) ≡ c * c) × (2 * c ≤ length (now work)) × (c ≤ 2048) ⌝ }
+    ensures { λ _. ⌜ ProductsOn c (now (part .entry)) (now (work .entry)) (now (work .exit)) i c ⌝ }
+{
+    let mut at = base;
+    for k in i..c {
+        work[c + k] = row_dot(part, work, c, at);
+        at += c;
+    }
+}
+
+// The rows of the inverse by the first c numbers of work, into the c numbers after them: eight at a time, and the last ones alone.
 fn inverse_rows(c: usize, part: &[f64], work: &mut [f64])
     requires { ⌜ (length (now part) ≡ c * c) × (2 * c ≤ length (now work)) × (c ≤ 2048) ⌝ }
     ensures { λ _. ⌜ Products c (now (part .entry)) (now (work .entry)) (now (work .exit)) c ⌝ }
 {
     let mut base = 0;
     let mut i = 0;
-    while i + 1 < c {
-        let next = base + c;
-        let sums = two_rows(part, work, c, base, next);
-        work[c + i] = sums.a;
-        work[c + i + 1] = sums.b;
-        base = next + c;
-        i += 2;
+    while i + 8 <= c {
+        products_eight(c, part, work, i, base);
+        base += 8 * c;
+        i += 8;
     }
-    if i < c {
-        let sum = row_dot(part, work, c, base);
-        work[c + i] = sum;
-    }
+    products_rest(c, part, work, i, base);
 }
 
 // The c numbers after the first c, to the front.

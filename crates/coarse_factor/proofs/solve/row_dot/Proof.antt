@@ -1,47 +1,15 @@
 use lib.ListN.{getD}
 use lib.Ieee.{nan}
-use Rattle.definitions.specs.Numbers.{_*ᶠ_, _+ᶠ_}
-use Rattle.laws.proofs.Growing.{summed-none, summed-more}
-use Rattle.coarse_factor.specs.Lanes.{rowSum}
-use Prim.Native.Nat.{_+_, _≤_, _-_}
-use mathlib.Core.Path.{_≡_, refl}
+use Rattle.definitions.specs.Numbers.{_*ᶠ_}
+use Rattle.laws.proofs.Growing.{summed-none}
+use Prim.Native.Nat.{_+_}
 use native.Mathlib.Omega.{arith}
 use borrow.Author.Needs.{needs}
 use Rattle.coarse_factor.proofs.solve.row_dot.Statement.{statement}
 use Rattle.coarse_factor.proofs.solve.row_dot.Tie as tie
 
-abbrev Inv-loop : tie.InvT-loop
-Inv-loop l y n start sum₀ k₀ sum k = (k ≤ n) × (sum ≡ rowSum l y k start)
-
-abbrev μ-loop : tie.MeasureT-loop
-μ-loop l y n start sum₀ k₀ sum k = n - k
-
-loop-holds : tie.Need-loop-holds Inv-loop μ-loop
-loop-holds c = let a = c .args in (omega arith, summed-none (λ k. getD (a .l .now) (a .start + k) nan *ᶠ getD (a .y .now) k nan))
-
-loop-again : tie.Need-loop-again Inv-loop μ-loop
-loop-again c =
-    let a = c .before .before .before .before .args in
-    let o = c .before .before .before .loop in
-    let x = getD (a .l .now) (a .start + o .k) nan *ᶠ getD (a .y .now) (o .k) nan in
-    (omega arith, summed-more (λ k. getD (a .l .now) (a .start + k) nan *ᶠ getD (a .y .now) k nan) (o .k) (o .sum) (o .sum +ᶠ x) x (o .inv .1) refl refl)
-
-returns : tie.Need-returns Inv-loop μ-loop
-returns c = let e : c .before .loop .k ≡ c .before .before .args .n = omega arith in rw e at (c .before .loop .inv .1)
+row-more-requires : tie.Need-row-more-requires
+row-more-requires c κs = let a = c .before .before .args in (omega arith, omega arith, omega arith, summed-none (λ k. getD (a .l .now) (a .start + k) nan *ᶠ getD (a .y .now) k nan))
 
 pub row-dot-spec : {M : Type 1} → statement M
-row-dot-spec =
-    tie.close
-    (tie.spec
-    Inv-loop
-    μ-loop
-    loop-holds
-    (λ c. search needs)
-    (λ c. search needs)
-    (λ c. search needs)
-    (λ c. search needs)
-    (λ c. search needs)
-    (λ c. search needs)
-    (λ c. omega arith)
-    loop-again
-    returns)
+row-dot-spec = tie.close (tie.spec row-more-requires (λ c. search needs))

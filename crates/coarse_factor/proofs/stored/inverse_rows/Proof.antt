@@ -1,12 +1,10 @@
-use lib.ListN.{length, length-set}
-use Rattle.averaging.proofs.Places.{place, next-row}
-use Rattle.coarse_factor.specs.Stored.{Products}
-use Rattle.coarse_factor.proofs.Products.{products-none, products-more}
-use Rattle.coarse_factor.proofs.TwoRows.{products-two}
-use Prim.Native.Nat.{_+_, _*_, _<_, _≤_, _-_}
-use mathlib.Core.Path.{_≡_}
+use Prim.Native.Nat.{_+_, _*_, _≤_, _-_}
+use mathlib.Core.Path.{_≡_, _∙_}
 use native.Mathlib.Omega.{arith}
-use borrow.Author.Needs.{needs}
+use native.Mathlib.Nat.{mul-le-mul, le-refl}
+use lib.ListN.{length}
+use Rattle.coarse_factor.specs.Stored.{Products}
+use Rattle.coarse_factor.proofs.Products.{products-none}
 use Rattle.coarse_factor.proofs.stored.inverse_rows.Statement.{statement}
 use Rattle.coarse_factor.proofs.stored.inverse_rows.Tie as tie
 
@@ -16,44 +14,42 @@ Inv-loop c part work₀ base₀ i₀ work base i = (i ≤ c) × (base ≡ i * c)
 abbrev μ-loop : tie.MeasureT-loop
 μ-loop c part work₀ base₀ i₀ work base i = c - i
 
--- both rows lie within the inverse, and their products within the list
-room : (c : tie.In-loop Inv-loop μ-loop) → (c .before .loop .base + c .before .before .before .before .args .c + c .before .before .before .before .args .c ≤ length (c .before .before .before .before .args .part .now)) × (length (c .before .loop .work) ≡ length (c .before .before .before .before .args .work .now)) × (2 * c .before .before .before .before .args .c ≤ length (c .before .before .before .before .args .work .now)) × (c .before .loop .i + 1 < c .before .before .before .before .args .c)
-room c =
+-- the row after the eight begins there, and they lie within the inverse
+next : (c : tie.In-loop Inv-loop μ-loop) → (c .before .loop .base + 8 * c .before .before .before .before .args .c ≡ (c .before .loop .i + 8) * c .before .before .before .before .args .c) × (c .before .loop .base + 8 * c .before .before .before .before .args .c ≤ length (c .before .before .before .before .args .part .now)) × (c .before .loop .i + 8 ≤ c .before .before .before .before .args .c)
+next c =
     let s = c .before .before .before .before in
     let o = c .before .loop in
-    let h : o .i + 1 < s .args .c = omega (arith, c .loop-test .taken) in
-    (omega (arith, s .pre .0, o .inv .1, next-row (o .i) (s .args .c), place (o .i + 1) (s .args .c - 1) (s .args .c) (s .args .c) h (omega arith)), o .inv .2 .long, s .pre .1, h)
-
--- the last row does
-last : (c : tie.After-loop Inv-loop μ-loop) → c .before .loop .i < c .before .before .before .before .args .c → (c .before .loop .base + c .before .before .before .before .args .c ≤ length (c .before .before .before .before .args .part .now)) × (length (c .before .loop .work) ≡ length (c .before .before .before .before .args .work .now)) × (2 * c .before .before .before .before .args .c ≤ length (c .before .before .before .before .args .work .now))
-last c h =
-    let s = c .before .before .before .before in
-    let o = c .before .loop in
-    (omega (arith, s .pre .0, o .inv .1, place (o .i) (s .args .c - 1) (s .args .c) (s .args .c) h (omega arith)), o .inv .2 .long, s .pre .1)
+    let h : o .i + 8 ≤ s .args .c = omega (arith, c .loop-test .taken) in
+    let e : o .base + 8 * s .args .c ≡ (o .i + 8) * s .args .c = omega (arith, o .inv .1) in
+    let b : (o .i + 8) * s .args .c ≤ s .args .c * s .args .c = mul-le-mul h (le-refl (s .args .c)) in
+    (e, omega (arith, e, b, s .pre .0), h)
 
 loop-holds : tie.Need-loop-holds Inv-loop μ-loop
 loop-holds c = (omega arith, omega arith, products-none (c .before .before .args .c) (c .before .before .args .part .now) (c .before .before .args .work .now))
 
+products-eight-requires : tie.Need-products-eight-requires Inv-loop μ-loop
+products-eight-requires c κs =
+    let s = c .before .before .before .before .before in
+    let o = c .before .before .loop in
+    (next (c .before) .2, o .inv .1, s .pre .0, omega (arith, s .pre .1, o .inv .2 .long), s .pre .2)
+
 loop-again : tie.Need-loop-again Inv-loop μ-loop
 loop-again c =
-    let s = c .before .before .before .before .before .before in
-    let a = s .args in
-    let o = c .before .before .before .loop in
-    let r = room (c .before .before) in
-    (omega (arith, r), omega (arith, o .inv .1, next-row (o .i) (a .c), next-row (o .i + 1) (a .c)), products-two (a .c) (a .part .now) (a .work .now) (o .work) (o .i) (o .base) (c .two-rows .result .a) (c .two-rows .result .b) (r .3) (r .2) (o .inv .1) (o .inv .2) (c .two-rows .ensures .0) (c .two-rows .ensures .1))
+    let a = c .before .before .before .before .before .before .before .before .args in
+    let o = c .before .before .before .before .before .loop in
+    let f = next (c .before .before .before .before) in
+    (f .2, f .0, c .before .before .products-eight .ensures .made (a .work .now) (o .inv .2))
+
+products-rest-requires : tie.Need-products-rest-requires Inv-loop μ-loop
+products-rest-requires c κs =
+    let s = c .before .before .before .before .before in
+    let o = c .before .before .loop in
+    (o .inv .0, o .inv .1, s .pre .0, omega (arith, s .pre .1, o .inv .2 .long), s .pre .2)
 
 returns : tie.Need-returns Inv-loop μ-loop
 returns c =
-    let s = c .before .before .before .before .before .before .before in
-    let a = s .args in
-    let o = c .before .before .before .before .loop in
-    let e : o .i + 1 ≡ a .c = omega arith in
-    rw e at (products-more (a .c) (a .part .now) (a .work .now) (o .work) (o .i) (o .base) (c .row-dot .result) (omega arith) (s .pre .1) (o .inv .1) (o .inv .2) (c .row-dot .ensures))
-
-returns-2 : tie.Need-returns-2 Inv-loop μ-loop
-returns-2 c =
-    let e : c .before .before .loop .i ≡ c .before .before .before .before .before .args .c = omega arith in
-    rw e at (c .before .before .loop .inv .2)
+    let a = c .before .before .before .before .before .before .before .before .args in
+    c .before .before .products-rest .ensures .made (a .work .now) (c .before .before .before .before .before .loop .inv .2)
 
 pub inverse-rows-spec : {M : Type 1} → statement M
 inverse-rows-spec =
@@ -63,24 +59,12 @@ inverse-rows-spec =
     μ-loop
     loop-holds
     (λ c. omega (arith, c .before .before .before .pre .2))
-    (λ c. omega (arith, room c))
-    (λ c κs. (omega (arith, room (c .before)), omega (arith, room (c .before)), omega (arith, room (c .before))))
-    (λ c. omega (arith, room (c .before .before)))
-    (λ c. omega (arith, room (c .before .before)))
-    (λ c. omega (arith, room (c .before .before)))
-    (λ c. omega (arith, room (c .before .before)))
-    (λ c. omega (arith, room (c .before .before)))
-    (λ c. omega (arith, room (c .before .before)))
-    (λ c. simp length-set (omega (arith, room (c .before .before))))
-    (λ c. omega (arith, room (c .before .before)))
-    (λ c. search needs)
-    (λ c. omega arith)
+    products-eight-requires
+    (λ c. omega (arith, next (c .before .before .before .before)))
+    (λ c. omega (arith, next (c .before .before .before .before)))
+    (λ c. omega (arith, next (c .before .before .before .before)))
+    (λ c. omega (arith, next (c .before .before .before .before)))
     loop-again
-    (λ c κs. (omega (arith, last (c .before .before) (omega arith)), omega (arith, last (c .before .before) (omega arith))))
-    (λ c. omega (arith, last (c .before .before .before) (omega arith)))
-    (λ c. omega (arith, last (c .before .before .before) (omega arith)))
-    (λ c. omega (arith, last (c .before .before .before) (omega arith)))
-    (λ c. search needs)
-    returns
-    (λ c. search needs)
-    returns-2)
+    products-rest-requires
+    (λ c. c .before .before .products-rest .ensures .long ∙ c .before .before .before .before .before .loop .inv .2 .long)
+    returns)
