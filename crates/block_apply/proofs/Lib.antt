@@ -2,4 +2,3 @@ pub mod Sums
 pub mod Triangles
 pub mod Places
 pub mod Calling
-pub mod Solved

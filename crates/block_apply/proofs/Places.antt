@@ -1,9 +1,9 @@
 -- The blocks one after the other: their places, and the list that holds the blocks solved so far.
-use Prim.Native.Nat.{ℕ, zero, suc, _+_, _-_, _*_, _/_, _<_, _≤_, min}
+use Prim.Native.Nat.{ℕ, zero, suc, _+_, _-_, _*_, _/_, _<_, _≤_}
 use mathlib.Core.Path.{_≡_, ap, sym, _∙_}
 use mathlib.Core.List.{List, [], _++_, flatMap, append-nil, append-assoc}
 use native.Mathlib.Omega.{arith}
-use native.Mathlib.Nat.{min-le-left, min-le-right, min-eq-left, min-eq-right, mul-le-mul, div-mul-le-self, lt-div-mul-add, suc-mul, le-refl}
+use native.Mathlib.Nat.{min-eq-left, min-eq-right, mul-le-mul, div-mul-le-self, div-eq-of-lt-le, lt-div-mul-add, suc-mul, le-refl, le-antisymm}
 use native.Mathlib.Numerals.{add-one}
 use native.Mathlib.Decide.{decLe}
 use lib.ListN.{length, take, drop, length-append, length-drop, drop-of-length-le}
@@ -12,38 +12,54 @@ use lib.Ieee.{Float}
 use Rattle.definitions.specs.Lists.{upTo, between, tab}
 use Rattle.definitions.specs.Block.{widthOf, blockCount, blockSolve, blockPart, blockApplied}
 use Rattle.laws.proofs.Growing.{upTo-snoc, flatMap-snoc}
-use Rattle.block_apply.proofs.Solved.{solvedBlock, solvedBlocks}
+use Rattle.block_apply.specs.Solved.{solvedBlock, solvedBlocks}
+use Rattle.block_apply.proofs.Calling.{product-small}
 use Rattle.block_apply.proofs.Triangles.{length-solve}
 
 -- ---- where a block lies
 
-pub starts-inside : (rows size k : ℕ) → 1 ≤ size → k < (rows + (size - 1)) / size → k * size < rows
-starts-inside rows size k h q =
-    let m : suc k * size ≤ (rows + (size - 1)) / size * size = mul-le-mul q (le-refl size) in
-    let s : suc k * size ≡ k * size + size = suc-mul k size in
-    omega (arith, m, s, div-mul-le-self (rows + (size - 1)) size)
+-- the rows of a block w wide that begins at first, and its factor, in a list of so many numbers
+pub record Inside (rows size first w room : ℕ) : Type 0 where
+  pub rows-end : first + w ≤ rows
+  pub factor-end : first * size + w * w ≤ room
+  pub few : rows ≤ 1_048_576
+  pub narrow : w ≤ 8
+  pub small : first * size + w * w ≤ 8_388_608
 
-pub index-small : (rows size k : ℕ) → 1 ≤ size → k * size < rows → k < rows
-index-small rows size k h q = let m : k * 1 ≤ k * size = mul-le-mul (le-refl k) h in omega (arith, m, q)
-
-pub ends-outside : (rows size k : ℕ) → 1 ≤ size → k ≡ (rows + (size - 1)) / size → rows ≤ k * size
-ends-outside rows size k h e =
-    let m : rows + (size - 1) < k * size + size = rw (← e) at (lt-div-mul-add {a = rows + (size - 1)} {b = size} h) in
-    omega (arith, m, h)
-
--- its factor: with w rows of the full size it would still lie within rows · size
-pub factor-inside : (rows size first w : ℕ) → w ≤ size → first + w ≤ rows → (first * size + w * size ≤ rows * size) × (w * w ≤ w * size)
-factor-inside rows size first w p q =
+pub block-inside : (rows size first w room : ℕ) → size ≤ 8 → w ≤ size → first + w ≤ rows → rows ≤ 1_048_576 → rows * size ≤ room → Inside rows size first w room
+block-inside rows size first w room hs p q few h =
     let b : (first + w) * size ≤ rows * size = mul-le-mul q (le-refl size) in
     let s : (first + w) * size ≡ first * size + w * size = omega arith in
-    (omega (arith, b, s), mul-le-mul (le-refl w) p)
+    let f : w * w ≤ w * size = mul-le-mul (le-refl w) p in
+    record { rows-end = q; factor-end = omega arith; few = few; narrow = omega arith; small = omega (arith, product-small rows size few hs) }
 
-pub width-facts : (rows size first w : ℕ) → first < rows → w ≡ min size (rows - first) → (w ≤ size) × (first + w ≤ rows)
-width-facts rows size first w h e = (omega (arith, min-le-left size (rows - first)), omega (arith, min-le-right size (rows - first)))
+-- block k of so many whole ones
+pub whole-end : (count size k rows : ℕ) → k < count → count * size ≤ rows → k * size + size ≤ rows
+whole-end count size k rows h q =
+    let m : suc k * size ≤ count * size = mul-le-mul h (le-refl size) in
+    omega (arith, m, suc-mul k size)
 
-pub width-is : (rows size k w : ℕ) → w ≡ min size (rows - k * size) → w ≡ widthOf rows size k
+-- the whole blocks of all rows, and the width of what is left
+pub count-inside : (rows size : ℕ) → rows / size * size ≤ rows
+count-inside rows size = div-mul-le-self rows size
+
+pub rest-narrow : (rows size : ℕ) → 1 ≤ size → rows - rows / size * size ≤ size
+rest-narrow rows size h = omega (arith, lt-div-mul-add {a = rows} {b = size} h)
+
+pub rest-width : (rows size k : ℕ) → rows - k * size ≤ size → rows - k * size ≡ widthOf rows size k
 unfolding widthOf
-width-is rows size k w e = e
+rest-width rows size k h = sym (min-eq-right h)
+
+pub whole-width : (rows size k : ℕ) → k * size + size ≤ rows → size ≡ widthOf rows size k
+unfolding widthOf
+whole-width rows size k h = sym (min-eq-left (omega arith))
+
+-- a size that is none of those before
+above : {n : ℕ} (m : ℕ) → m ≤ n → (n ≡ m → ⊥) → suc m ≤ n
+above m p r = omega arith
+
+pub last-size : (n : ℕ) → 1 ≤ n → n ≤ 8 → (n ≡ 1 → ⊥) → (n ≡ 2 → ⊥) → (n ≡ 3 → ⊥) → (n ≡ 4 → ⊥) → (n ≡ 5 → ⊥) → (n ≡ 6 → ⊥) → (n ≡ 7 → ⊥) → n ≡ 8
+last-size n h q a b c d e f g = le-antisymm q (above 7 (above 6 (above 5 (above 4 (above 3 (above 2 (above 1 h a) b) c) d) e) f) g)
 
 -- a part lent by its start and end
 pub part-length : (u : List Float) (a n : ℕ) → a + n ≤ length u → length (take (a + n - a) (drop a u)) ≡ n
@@ -64,18 +80,13 @@ module _ (rows size : ℕ) (factors r : List Float) where
   unfolding solvedBlock
   length-block k = length-solve _ (widthOf rows size k) _
 
-  -- a block that is not the last one is full
-  width-full : (k : ℕ) → suc k * size ≤ rows → widthOf rows size k ≡ size
-  unfolding widthOf
-  width-full k h = let s : suc k * size ≡ k * size + size = suc-mul k size in min-eq-left (omega (arith, h, s))
-
   length-blocks : (k : ℕ) → k * size ≤ rows → length (solvedBlocks rows size factors r k) ≡ k * size
   unfolding solvedBlocks upTo tab flatMap
   length-blocks zero h = omega arith
   length-blocks (suc k) h =
       let s : suc k * size ≡ k * size + size = suc-mul k size in
       ap length (blocks-snoc k) ∙ length-append (solvedBlocks rows size factors r k) (solvedBlock rows size factors r k)
-      ∙ rw (length-blocks k (omega (arith, h, s)), length-block k, width-full k h) (sym s)
+      ∙ rw (length-blocks k (omega (arith, h, s)), length-block k, ← whole-width rows size k (omega (arith, h, s))) (sym s)
 
   -- past a block the next one begins, or the list ends
   past : (z₀ : List Float) (k w : ℕ) → length z₀ ≡ rows → k * size < rows → w ≡ widthOf rows size k → drop (k * size + w) z₀ ≡ drop (suc k * size) z₀
@@ -107,10 +118,13 @@ module _ (rows size : ℕ) (factors r : List Float) where
       rw (q, t, d, drop-drop w (k * size) z₀, past z₀ k w n h ew, y′, add-one, blocks-snoc k)
       (sym (append-assoc (solvedBlocks rows size factors r k) (solvedBlock rows size factors r k) (drop (suc k * size) z₀)))
 
-  pub blocks-all : (z₀ z : List Float) (k : ℕ) → length z₀ ≡ rows → 1 ≤ size → k ≡ (rows + (size - 1)) / size → z ≡ solvedBlocks rows size factors r k ++ drop (k * size) z₀
+  pub blocks-all : (z₀ z : List Float) (k : ℕ) → length z₀ ≡ rows → rows ≤ k * size → k * size < rows + size → z ≡ solvedBlocks rows size factors r k ++ drop (k * size) z₀
       → z ≡ blockApplied rows size factors r
   unfolding solvedBlocks solvedBlock blockApplied blockCount
-  blocks-all z₀ z k n h ek e =
-      let a : length z₀ ≤ k * size = omega (arith, n, ends-outside rows size k h ek) in
+  blocks-all z₀ z k n h q e =
+      let a : length z₀ ≤ k * size = omega arith in
       let d : drop (k * size) z₀ ≡ [] = drop-of-length-le z₀ a in
-      e ∙ rw (d, append-nil, ek)
+      let b : k * size ≤ rows + (size - 1) = omega arith in
+      let t : rows + (size - 1) < (k + 1) * size = omega arith in
+      let c : (rows + (size - 1)) / size ≡ k = div-eq-of-lt-le size b t in
+      e ∙ rw (d, append-nil, c)

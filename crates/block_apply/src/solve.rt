@@ -56,24 +56,10 @@ fn backward(l: &[f64], w: usize, z: &mut [f64])
 }
 
 // Both.
-fn solve(l: &[f64], w: usize, r: &[f64], z: &mut [f64])
+pub(crate) fn solve(l: &[f64], w: usize, r: &[f64], z: &mut [f64])
     requires { ⌜ (length (now l) ≡ w * w) × (length (now r) ≡ w) × (length (now z) ≡ w) × (w ≤ 8) ⌝ }
     ensures { λ _. ⌜ now (z .exit) ≡ blockSolve (now (l .entry)) w (now (r .entry)) ⌝ }
 {
     forward(l, w, r, z);
     backward(l, w, z);
-}
-
-// The same. Three and six unknowns a node are the usual cases: these widths are constants here, and the compiler unrolls the loops.
-pub(crate) fn solve_block(l: &[f64], w: usize, r: &[f64], z: &mut [f64])
-    requires { ⌜ (length (now l) ≡ w * w) × (length (now r) ≡ w) × (length (now z) ≡ w) × (w ≤ 8) ⌝ }
-    ensures { λ _. ⌜ now (z .exit) ≡ blockSolve (now (l .entry)) w (now (r .entry)) ⌝ }
-{
-    if w == 3 {
-        solve(l, 3, r, z);
-    } else if w == 6 {
-        solve(l, 6, r, z);
-    } else {
-        solve(l, w, r, z);
-    }
 }
