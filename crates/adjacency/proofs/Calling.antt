@@ -30,6 +30,7 @@ use Rattle.adjacency.specs.WellFormed.{WellFormed}
 use Rattle.adjacency.specs.Within.{compares, readOf, neighboursWithin}
 use Rattle.adjacency.proofs.Reading.{read-rows, read-real, read-keeps}
 use Rattle.adjacency.proofs.Fitting.{enough-are}
+use Rattle.adjacency.proofs.Inverse.{low-enough}
 
 -- ---- the checks over sizes, as one step of the call
 
@@ -54,8 +55,8 @@ unfolding four keepsAll causeOf
 fits-keeps p q r s = keeps-then _ _ (keeps-require p _ refl) (λ _. keeps-then _ _ (keeps-require q _ refl) (λ _. keeps-then _ _ (keeps-require r _ refl) (λ _. keeps-require s _ refl)))
 
 -- the facts that the loops need
-formed-of : (strong : Bool) (rows size : ℕ) (ptr cols : List ℕ) (vals : List Float) → Rows (csr rows rows ptr cols vals) → (strong ≡ true → Real vals) → 1 ≤ size → rows % size ≡ 0 → WellFormed strong (rows / size) size ptr cols vals
-formed-of strong rows size ptr cols vals w f h m =
+formed-of : (strong : Bool) (rows size : ℕ) (ptr cols : List ℕ) (vals : List Float) → Rows (csr rows rows ptr cols vals) → (strong ≡ true → Real vals) → 1 ≤ size → size ≤ 8 → rows % size ≡ 0 → WellFormed strong (rows / size) size ptr cols vals
+formed-of strong rows size ptr cols vals w f h t m =
     let e : rows / size * size ≡ rows = omega (arith, div-add-mod' rows size, m) in
     let n : rows / size ≤ rows = div-le-self rows size in
     record {
@@ -67,6 +68,7 @@ formed-of strong rows size ptr cols vals w f h m =
       rises = λ i k. w .rises i (rw e at k);
       within = λ i k. let k' : i ≤ rows = rw e at k in omega (arith, w .ends i (omega arith), w .same);
       inside = λ k i. div-lt-iff-lt-mul {k = size} {x = getD cols k 0} {y = rows / size} (omega arith) .1 (rw e (w .within k i));
+      low = λ k i. low-enough (getD cols k 0) size rows (w .within k i) t (w .fewRows);
       real = f;
     }
 
@@ -135,7 +137,7 @@ module _ (g : TwoLevelAggregation) (rows cols : ℕ) (ptr idx : List ℕ) (vals 
           walks = square-rows rows cols ptr idx vals square (read-rows g a read)
 
           pub formed : WellFormed (compares g) (rows / size) size ptr idx vals
-          formed = formed-of (compares g) rows size ptr idx vals walks (read-real g a read) size-low divides
+          formed = formed-of (compares g) rows size ptr idx vals walks (read-real g a read) size-low size-high divides
 
           pub rooms : (2 * (rows / size) ≤ base) × ((base + rows / size + 1 + length idx ≤ length ints) × (3 * (rows / size) ≤ length floats))
           rooms = let t = enough-are (rows / size) (length vals) base (length ints) (length floats) (tests .1 .1) in (t .0, (omega (arith, t .1 .0, walks .same), t .1 .1))

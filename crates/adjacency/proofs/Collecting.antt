@@ -8,10 +8,10 @@ use borrow.Author.Tests.{eq-eqb, ne-eqb, eqb-true, eqb-false}
 use lib.Dec.{eqb}
 use lib.ListN.{length, getD, set, take, length-set}
 use lib.Seq.{slice-cons, take-suc-set, append-snoc, set-getD, getD-set-same, getD-set-other}
+use Rattle.laws.proofs.Lists.{Each, none, more, each-head, each-tail, each-imp}
 use Rattle.adjacency.specs.Collect.{gather, marked, nodesIn}
 use Rattle.adjacency.proofs.Steps.{slice-none}
-use Rattle.adjacency.proofs.Laws.{by-case, Each}
-use Rattle.adjacency.proofs.Halves.{All}
+use Rattle.adjacency.proofs.Laws.{by-case}
 
 pub gather-skips : (s : ℕ) (mark : List ℕ) (w : ℕ) (ws : List ℕ) → getD mark w 0 ≡ s → gather s mark (w ∷ ws) ≡ gather s mark ws
 unfolding gather
@@ -82,32 +82,25 @@ abbrev pub Different : List ℕ → Type 0
 Different [] = Unit {0}
 Different (x ∷ xs) = Each (λ y. x ≡ y → ⊥) xs × Different xs
 
-each-map : {P Q : ℕ → Type 0} → ((x : ℕ) → P x → Q x) → (l : List ℕ) → Each P l → Each Q l
-each-map h [] e = tt
-each-map h (x ∷ l) e = (h x (e .0), each-map h l (e .1))
-
 module _ (s : ℕ) where
   unstamped : (mark ws : List ℕ) → Each (λ u. getD mark u 0 ≡ s → ⊥) (gather s mark ws)
   unfolding gather
-  unstamped mark [] = tt
+  unstamped mark [] = none
   unstamped mark (w ∷ ws) = by-case (eqb (getD mark w 0) s)
       (λ e. rw (gather-skips s mark w ws (eqb-true (getD mark w 0) s e)) (unstamped mark ws))
       (λ e. let z = eqb-false (getD mark w 0) s e in
-      rw (gather-takes s mark w ws z) (
-        z,
-        each-map {P = λ u. getD (set mark w s) u 0 ≡ s → ⊥} (λ u h. by-case (eqb u w)
-            (λ f. λ q. z (ap (λ t. getD mark t 0) (sym (eqb-true u w f)) ∙ q))
-            (λ f. λ q. h (getD-set-other mark w u s 0 (eqb-false u w f) ∙ q))) (gather s (set mark w s) ws) (unstamped (set mark w s) ws),
-      ))
+      rw (gather-takes s mark w ws z) (more z (each-imp (λ u h. by-case (eqb u w)
+      (λ f. λ q. z (ap (λ t. getD mark t 0) (sym (eqb-true u w f)) ∙ q))
+      (λ f. λ q. h (getD-set-other mark w u s 0 (eqb-false u w f) ∙ q))) (unstamped (set mark w s) ws))))
 
-  pub gather-different : (n : ℕ) (mark ws : List ℕ) → length mark ≡ n → All n ws → Different (gather s mark ws)
+  pub gather-different : (n : ℕ) (mark ws : List ℕ) → length mark ≡ n → Each (λ x. x < n) ws → Different (gather s mark ws)
   unfolding gather
   gather-different n mark [] l a = tt
   gather-different n mark (w ∷ ws) l a = by-case (eqb (getD mark w 0) s)
-      (λ e. rw (gather-skips s mark w ws (eqb-true (getD mark w 0) s e)) (gather-different n mark ws l (a .1)))
+      (λ e. rw (gather-skips s mark w ws (eqb-true (getD mark w 0) s e)) (gather-different n mark ws l (each-tail a)))
       (λ e. let z = eqb-false (getD mark w 0) s e in
-      let i : w < length mark = omega (arith, a .0, l) in
+      let i : w < length mark = omega (arith, each-head a, l) in
       rw (gather-takes s mark w ws z) (
-        each-map {P = λ u. getD (set mark w s) u 0 ≡ s → ⊥} (λ u h q. h (rw (← q) (getD-set-same mark w s 0 i))) (gather s (set mark w s) ws) (unstamped (set mark w s) ws),
-        gather-different n (set mark w s) ws (length-set mark w s ∙ l) (a .1),
+        each-imp (λ u h q. h (rw (← q) (getD-set-same mark w s 0 i))) (unstamped (set mark w s) ws),
+        gather-different n (set mark w s) ws (length-set mark w s ∙ l) (each-tail a),
       ))

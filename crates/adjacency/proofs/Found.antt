@@ -1,7 +1,7 @@
 -- What is found for a node, in any order of sorting: the node stamped by v + 1, no other node is.
 use mathlib.Core.Path.{_≡_, refl, ap, sym, _∙_}
 use mathlib.Core.Bool.{Bool, true, false, not, _&&_}
-use mathlib.Core.List.{List, [], _∷_, map}
+use mathlib.Core.List.{List, [], _∷_}
 use Prim.Native.Nat.{ℕ, zero, suc, _+_, _-_, _≤_, _<_, _/_}
 use native.Mathlib.Omega.{arith}
 use borrow.Author.Tests.{eq-eqb, ne-eqb, eqb-true, eqb-false}
@@ -10,14 +10,14 @@ use lib.ListN.{length, getD, set, take, length-take, length-drop, length-set, le
 use lib.Seq.{getD-take, getD-drop, slice, length-slice, getD-set-same, getD-set-other}
 use Rattle.definitions.specs.Lists.{upTo, any}
 use Rattle.laws.proofs.Kept.{keep-length}
+use Rattle.laws.proofs.Lists.{Each, none, more, each-head, each-tail, each-imp, each-by, each-map}
 use Rattle.laws.specs.Bounds.{Below}
 use Rattle.adjacency.specs.Order.{insertBy, sortBy, Weak}
 use Rattle.adjacency.specs.Collect.{gather, marked, nodesIn, Inside, others}
-use Rattle.adjacency.proofs.Halves.{All}
-use Rattle.adjacency.proofs.Laws.{by-case, Each, insert-here, insert-on}
+use Rattle.adjacency.proofs.Laws.{by-case, insert-here, insert-on}
 use Rattle.adjacency.proofs.Collecting.{gather-skips, gather-takes, gather-different, Different}
 use Rattle.adjacency.proofs.Ascending.{asc, upTo-asc, fresh, keep-same, gather-sorted}
-use Rattle.adjacency.proofs.Sorting.{sort-sort, Apart, Distinct}
+use Rattle.adjacency.proofs.Sorting.{sort-sort, Distinct}
 
 -- ---- sorting
 
@@ -50,12 +50,12 @@ module _ {A : Type 0} (f : A → A → Bool) where
 -- ---- lengths and bounds
 
 module _ (s n : ℕ) where
-  all-gather : (mark ws : List ℕ) → All n ws → All n (gather s mark ws)
+  each-gather : (mark ws : List ℕ) → Each (λ x. x < n) ws → Each (λ x. x < n) (gather s mark ws)
   unfolding gather
-  all-gather mark [] a = tt
-  all-gather mark (w ∷ ws) a = by-case (eqb (getD mark w 0) s)
-      (λ e. rw (gather-skips s mark w ws (eqb-true (getD mark w 0) s e)) (all-gather mark ws (a .1)))
-      (λ e. rw (gather-takes s mark w ws (eqb-false (getD mark w 0) s e)) (a .0, all-gather (set mark w s) ws (a .1)))
+  each-gather mark [] a = none
+  each-gather mark (w ∷ ws) a = by-case (eqb (getD mark w 0) s)
+      (λ e. rw (gather-skips s mark w ws (eqb-true (getD mark w 0) s e)) (each-gather mark ws (each-tail a)))
+      (λ e. rw (gather-takes s mark w ws (eqb-false (getD mark w 0) s e)) (more (each-head a) (each-gather (set mark w s) ws (each-tail a))))
 
 pub gather-short : (s : ℕ) (mark ws : List ℕ) → length (gather s mark ws) ≤ length ws
 unfolding gather
@@ -69,7 +69,7 @@ unfolding asc
 length-asc m zero = refl
 length-asc m (suc n) = ap suc (length-asc (suc m) n)
 
-below-set : (m : ℕ) (l : List ℕ) (i x : ℕ) → x < m → Below m l → Below m (set l i x)
+pub below-set : (m : ℕ) (l : List ℕ) (i x : ℕ) → x < m → Below m l → Below m (set l i x)
 below-set m l i x h b k q = by-case (eqb k i)
     (λ e. let z : k ≡ i = eqb-true k i e in rw (z, getD-set-same l i x 0 (omega (arith, length-set l i x))) h)
     (λ e. rw (getD-set-other l i k x 0 (eqb-false k i e)) (b k (omega (arith, length-set l i x))))
@@ -84,16 +84,12 @@ unfolding marked
 length-marked s mark [] = refl
 length-marked s mark (w ∷ ws) = length-marked s (set mark w s) ws ∙ length-set mark w s
 
-pub all-nodes : (n size k e : ℕ) (cols : List ℕ) → Inside n size cols → All n (nodesIn size k e cols)
-all-nodes n size k e cols i = all-map (slice k e cols) (λ j h.
+pub each-node : (n size k e : ℕ) (cols : List ℕ) → Inside n size cols → Each (λ x. x < n) (nodesIn size k e cols)
+each-node n size k e cols i = each-map (λ c. c / size) (each-by (slice k e cols) 0 (λ j h.
     let p : k + j < length (take e cols) = omega (arith, length-drop k (take e cols)) in
     let q : k + j < e = omega (arith, length-take e cols) in
     let r : k + j < length cols = omega (arith, length-take e cols) in
-    rw (getD-drop k (take e cols) j 0, getD-take e cols (k + j) 0 q) (i (k + j) r))
-  where
-    all-map : (l : List ℕ) → Inside n size l → All n (map (λ c. c / size) l)
-    all-map [] h = tt
-    all-map (x ∷ l) h = (h zero (omega arith), all-map l (λ j p. h (suc j) (omega arith)))
+    rw (getD-drop k (take e cols) j 0, getD-take e cols (k + j) 0 q) (i (k + j) r)))
 
 pub nodes-length : (size k e : ℕ) (cols : List ℕ) → e ≤ length cols → length (nodesIn size k e cols) ≡ e - k
 nodes-length size k e cols h = length-map (slice k e cols) (λ c. c / size) ∙ length-slice k e cols h
@@ -102,13 +98,9 @@ nodes-length size k e cols h = length-map (slice k e cols) (λ c. c / size) ∙ 
 
 distinct : (f : ℕ → ℕ → Bool) (w : Weak f) → ((x y : ℕ) → (x ≡ y → ⊥) → (f x y ≡ true → f y x ≡ false) × (f x y ≡ false → f y x ≡ true)) → (l : List ℕ) → Different l → Distinct f w l
 distinct f w h [] d = tt
-distinct f w h (x ∷ l) d = (each-apart l (d .0), distinct f w h l (d .1))
-  where
-    each-apart : (l : List ℕ) → Each (λ y. x ≡ y → ⊥) l → Each (Apart f w x) l
-    each-apart [] e = tt
-    each-apart (y ∷ l) e = (h x y (e .0), each-apart l (e .1))
+distinct f w h (x ∷ l) d = (each-imp (λ y e. h x y e) (d .0), distinct f w h l (d .1))
 
-module _ (n v : ℕ) (mark ws : List ℕ) (l : length mark ≡ n) (h : v < n) (b : Below (v + 1) mark) (a : All n ws) where
+module _ (n v : ℕ) (mark ws : List ℕ) (l : length mark ≡ n) (h : v < n) (b : Below (v + 1) mark) (a : Each (λ x. x < n) ws) where
   abbrev list : List ℕ
   list = gather (v + 1) (set mark v (v + 1)) ws
 
@@ -138,8 +130,8 @@ module _ (n v : ℕ) (mark ws : List ℕ) (l : length mark ≡ n) (h : v < n) (b
   unfolding others
   found-short = omega (arith, found-count, keep-length (λ w. not (eqb w v) && any (λ x. eqb x w) ws) (upTo n), ap length (upTo-asc n), length-asc zero n)
 
-  pub found-all : All n list
-  found-all = all-gather (v + 1) n (set mark v (v + 1)) ws a
+  pub found-each : Each (λ x. x < n) list
+  found-each = each-gather (v + 1) n (set mark v (v + 1)) ws a
 
   pub stamps-below : Below (v + 2) (marked (v + 1) (set mark v (v + 1)) ws)
   stamps-below = below-marked (v + 2) (v + 1) (set mark v (v + 1)) ws (omega arith) (below-set (v + 2) mark v (v + 1) (omega arith) (λ k q. omega (arith, b k q)))

@@ -14,6 +14,8 @@ pub mod Parts
 pub mod Merges
 pub mod Measuring
 pub mod Found
+pub mod Inserting
+pub mod Inverse
 pub mod Nodes
 pub mod Norming
 pub mod Graphs

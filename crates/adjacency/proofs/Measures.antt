@@ -13,9 +13,9 @@ use lib.Ieee.Scale.{finite}
 use Rattle.definitions.specs.Lists.{keep, any}
 use Rattle.definitions.specs.Numbers.{_+ᶠ_, squared, zeroᶠ}
 use Rattle.definitions.specs.Matrix.{Entry, valuesWhere}
+use Rattle.laws.proofs.Lists.{Each, none, more, each-head, each-tail}
 use Rattle.adjacency.specs.Strengths.{plain, AllPlain, squaresIn, cleared, weighed, strongOf, measured}
-use Rattle.adjacency.proofs.Laws.{by-case, Each}
-use Rattle.adjacency.proofs.Halves.{All}
+use Rattle.adjacency.proofs.Laws.{by-case}
 use Rattle.adjacency.proofs.Steps.{getD-any}
 use Rattle.adjacency.proofs.Weighing.{squares-yes, squares-no}
 use Rattle.adjacency.proofs.Plain.{plain-add, plain-square, plain-strong, plain-zero, plain-set}
@@ -30,15 +30,15 @@ or-true false = refl
 
 pub each-named : {P : ℕ → Type 0} (ws : List ℕ) → ((u : ℕ) → Names ws u → P u) → Each P ws
 unfolding any
-each-named [] h = tt
-each-named (x ∷ ws) h = (h x (rw (eq-eqb x x refl)), each-named ws (λ u m. h u (rw m (or-true (eqb x u)))))
+each-named [] h = none
+each-named (x ∷ ws) h = more (h x (rw (eq-eqb x x refl))) (each-named ws (λ u m. h u (rw m (or-true (eqb x u)))))
 
-pub named-below : (n : ℕ) (ws : List ℕ) (u : ℕ) → All n ws → Names ws u → u < n
+pub named-below : (n : ℕ) (ws : List ℕ) (u : ℕ) → Each (λ x. x < n) ws → Names ws u → u < n
 unfolding any
 named-below n [] u a m = absurd (let z : _≡_ {A = ℕ} 0 1 = cc in omega arith)
 named-below n (w ∷ ws) u a m = by-case (eqb w u)
-    (λ f. omega (arith, a .0, eqb-true w u f))
-    (λ f. named-below n ws u (a .1) (rw f at m))
+    (λ f. omega (arith, each-head a, eqb-true w u f))
+    (λ f. named-below n ws u (each-tail a) (rw f at m))
 
 -- ---- clearing
 
@@ -47,10 +47,10 @@ unfolding cleared
 length-cleared [] l = refl
 length-cleared (w ∷ ws) l = length-cleared ws (set l w zeroᶠ) ∙ length-set l w zeroᶠ
 
-pub cleared-above : (n : ℕ) (ws : List ℕ) (l : List Float) (i : ℕ) (d : Float) → All n ws → n ≤ i → getD (cleared ws l) i d ≡ getD l i d
+pub cleared-above : (n : ℕ) (ws : List ℕ) (l : List Float) (i : ℕ) (d : Float) → Each (λ x. x < n) ws → n ≤ i → getD (cleared ws l) i d ≡ getD l i d
 unfolding cleared
 cleared-above n [] l i d a h = refl
-cleared-above n (w ∷ ws) l i d a h = cleared-above n ws (set l w zeroᶠ) i d (a .1) h ∙ getD-set-other l w i zeroᶠ d (λ e. omega (arith, a .0, e))
+cleared-above n (w ∷ ws) l i d a h = cleared-above n ws (set l w zeroᶠ) i d (each-tail a) h ∙ getD-set-other l w i zeroᶠ d (λ e. omega (arith, each-head a, e))
 
 cleared-zero : (ws : List ℕ) (l : List Float) (u : ℕ) → u < length l → getD l u nan ≡ zeroᶠ → getD (cleared ws l) u nan ≡ zeroᶠ
 unfolding cleared
@@ -88,8 +88,8 @@ pub weighed-above : (n size : ℕ) (es : List Entry) (l : List Float) (i : ℕ) 
 unfolding weighed
 weighed-above n size [] l i d a h = refl
 weighed-above n size (e ∷ es) l i d a h =
-    weighed-above n size es (step size e l) i d (a .1) h
-    ∙ getD-set-other l (e .col / size) i (getD l (e .col / size) nan +ᶠ squared (e .value)) d (λ q. omega (arith, a .0, q))
+    weighed-above n size es (step size e l) i d (each-tail a) h
+    ∙ getD-set-other l (e .col / size) i (getD l (e .col / size) nan +ᶠ squared (e .value)) d (λ q. omega (arith, each-head a, q))
 
 -- the sum towards u grows by its squares, in order
 pub weighed-at : (n size u : ℕ) (es : List Entry) (l : List Float) → Towards n size es → n ≤ length l
@@ -99,8 +99,8 @@ weighed-at n size u [] l a h = refl
 weighed-at n size u (e ∷ es) l a h =
     let w = e .col / size in
     let y = getD l w nan +ᶠ squared (e .value) in
-    let r = weighed-at n size u es (set l w y) (a .1) (rw (length-set l w y) h) in
-    let i : w < length l = omega (arith, a .0) in
+    let r = weighed-at n size u es (set l w y) (each-tail a) (rw (length-set l w y) h) in
+    let i : w < length l = omega (arith, each-head a) in
     by-case (eqb w u)
     (λ t. let z : w ≡ u = eqb-true w u t in r ∙ rw (squares-yes size u e es t, ← z, getD-set-same l w y nan i))
     (λ t. r ∙ rw (squares-no size u e es t, getD-set-other l w u y nan (λ q. eqb-false w u t (sym q))))
@@ -114,9 +114,9 @@ plain-weighed n size [] l t h f a = a
 plain-weighed n size (e ∷ es) l t h f a =
     let w = e .col / size in
     let y = getD l w nan +ᶠ squared (e .value) in
-    let i : w < length l = omega (arith, t .0) in
+    let i : w < length l = omega (arith, each-head t) in
     let p : plain (getD l w nan) ≡ true = rw (getD-any l w nan zeroᶠ i) (a w) in
-    plain-weighed n size es (set l w y) (t .1) (rw (length-set l w y) h) (f .1) (plain-set l w y a (plain-add (getD l w nan) (squared (e .value)) p (plain-square (e .value) (f .0))))
+    plain-weighed n size es (set l w y) (each-tail t) (rw (length-set l w y) h) (each-tail f) (plain-set l w y a (plain-add (getD l w nan) (squared (e .value)) p (plain-square (e .value) (each-head f))))
 
 -- ---- measuring
 
@@ -142,18 +142,18 @@ module _ (n v : ℕ) (hv : v < n) where
       let c : getD (set l (2 * n + w) x) (n + u) nan ≡ getD l (n + u) nan = getD-set-other l (2 * n + w) (n + u) x nan (λ e. omega arith) in
       rw (a, b, c)
 
-  measured-stays : (ws : List ℕ) (l : List Float) (u : ℕ) → All n ws → 3 * n ≤ length l → u < n → getD l (2 * n + u) nan ≡ value l u → getD (measured n v ws l) (2 * n + u) nan ≡ value l u
+  measured-stays : (ws : List ℕ) (l : List Float) (u : ℕ) → Each (λ x. x < n) ws → 3 * n ≤ length l → u < n → getD l (2 * n + u) nan ≡ value l u → getD (measured n v ws l) (2 * n + u) nan ≡ value l u
   unfolding measured
   measured-stays [] l u a h k e = e
   measured-stays (w ∷ ws) l u a h k e =
       let x = value l w in
       let l' = set l (2 * n + w) x in
-      measured-stays ws l' u (a .1) (rw (length-set l (2 * n + w) x) h) k (by-case (eqb u w)
-      (λ f. let z : u ≡ w = eqb-true u w f in let i : 2 * n + w < length l = omega (arith, a .0) in rw (value-same l w u x k, z) (getD-set-same l (2 * n + w) x nan i))
+      measured-stays ws l' u (each-tail a) (rw (length-set l (2 * n + w) x) h) k (by-case (eqb u w)
+      (λ f. let z : u ≡ w = eqb-true u w f in let i : 2 * n + w < length l = omega (arith, each-head a) in rw (value-same l w u x k, z) (getD-set-same l (2 * n + w) x nan i))
       (λ f. let z = eqb-false u w f in getD-set-other l (2 * n + w) (2 * n + u) x nan (λ q. z (omega (arith, q))) ∙ e ∙ sym (value-same l w u x k)))
       ∙ value-same l w u x k
 
-  pub measured-named : (ws : List ℕ) (l : List Float) (u : ℕ) → All n ws → 3 * n ≤ length l → u < n → Names ws u → getD (measured n v ws l) (2 * n + u) nan ≡ value l u
+  pub measured-named : (ws : List ℕ) (l : List Float) (u : ℕ) → Each (λ x. x < n) ws → 3 * n ≤ length l → u < n → Names ws u → getD (measured n v ws l) (2 * n + u) nan ≡ value l u
   unfolding measured any
   measured-named [] l u a h k m = absurd (let z : _≡_ {A = ℕ} 0 1 = cc in omega arith)
   measured-named (w ∷ ws) l u a h k m =
@@ -161,15 +161,15 @@ module _ (n v : ℕ) (hv : v < n) where
       let l' = set l (2 * n + w) x in
       let h' : 3 * n ≤ length l' = rw (length-set l (2 * n + w) x) h in
       by-case (eqb w u)
-      (λ f. let z : w ≡ u = eqb-true w u f in let i : 2 * n + w < length l = omega (arith, a .0) in
-      measured-stays ws l' u (a .1) h' k (rw (value-same l w u x k, ← z) (getD-set-same l (2 * n + w) x nan i)) ∙ value-same l w u x k)
-      (λ f. measured-named ws l' u (a .1) h' k (rw f at m) ∙ value-same l w u x k)
+      (λ f. let z : w ≡ u = eqb-true w u f in let i : 2 * n + w < length l = omega (arith, each-head a) in
+      measured-stays ws l' u (each-tail a) h' k (rw (value-same l w u x k, ← z) (getD-set-same l (2 * n + w) x nan i)) ∙ value-same l w u x k)
+      (λ f. measured-named ws l' u (each-tail a) h' k (rw f at m) ∙ value-same l w u x k)
 
-  pub plain-measured : (ws : List ℕ) (l : List Float) → All n ws → 3 * n ≤ length l → AllPlain l → AllPlain (measured n v ws l)
+  pub plain-measured : (ws : List ℕ) (l : List Float) → Each (λ x. x < n) ws → 3 * n ≤ length l → AllPlain l → AllPlain (measured n v ws l)
   unfolding measured
   plain-measured [] l a h p = p
   plain-measured (w ∷ ws) l a h p =
       let x = value l w in
-      let i : w < length l = omega (arith, a .0) in
-      plain-measured ws (set l (2 * n + w) x) (a .1) (rw (length-set l (2 * n + w) x) h)
+      let i : w < length l = omega (arith, each-head a) in
+      plain-measured ws (set l (2 * n + w) x) (each-tail a) (rw (length-set l (2 * n + w) x) h)
       (plain-set l (2 * n + w) x p (plain-strong (getD l w nan) (getD l (n + v) nan) (getD l (n + w) nan) (rw (getD-any l w nan zeroᶠ i) (p w))))

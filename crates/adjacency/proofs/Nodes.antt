@@ -11,14 +11,13 @@ use lib.Ieee.{Float, nan, lt, eq, ofBits}
 use Rattle.definitions.specs.Numbers.{total, zeroᶠ}
 use Rattle.definitions.specs.Matrix.{Matrix, csr, stored}
 use Rattle.definitions.specs.Neighbours.{neighboursOf, squaresTowards, normTowards, divisorOf, strength}
+use Rattle.laws.proofs.Lists.{Each, each-at}
 use Rattle.adjacency.specs.Collect.{marked, nodesIn}
 use Rattle.adjacency.specs.WellFormed.{WellFormed, Spans}
 use Rattle.adjacency.specs.Lists.{found, weights, listOf, Between, Listed}
 use Rattle.laws.specs.Bounds.{Below}
 use Rattle.adjacency.specs.Order.{before, sortBy}
 use Rattle.adjacency.specs.Strengths.{AllPlain, squaresIn, cleared, weighed, strongOf, measured}
-use Rattle.adjacency.proofs.Laws.{Each}
-use Rattle.adjacency.proofs.Halves.{All, of-all}
 use Rattle.adjacency.proofs.Steps.{getD-any}
 use Rattle.adjacency.proofs.Parts.{the-part, the-front}
 use Rattle.adjacency.proofs.Plain.{plain-drop}
@@ -26,7 +25,7 @@ use Rattle.adjacency.proofs.Weak.{weak-before, before-apart}
 use Rattle.adjacency.proofs.Sorting.{strong-is, each-sort}
 use Rattle.adjacency.proofs.Rows.{span-rises, span-within, span-towards, span-finite, entries-are, neighbours-are}
 use Rattle.adjacency.proofs.Measures.{Names, each-named, named-below, length-cleared, cleared-above, cleared-named, plain-cleared, length-weighed, weighed-above, weighed-at, plain-weighed, length-measured, measured-under, measured-named, plain-measured}
-use Rattle.adjacency.proofs.Found.{all-nodes, nodes-length, gather-short, length-marked, found-ascending, found-sorted, found-short, found-all, stamps-below, length-sort}
+use Rattle.adjacency.proofs.Found.{each-node, nodes-length, gather-short, length-marked, found-ascending, found-sorted, found-short, found-each, stamps-below, length-sort}
 
 -- a strength from the sum of squares and the norms
 pub strength-is : (a : Matrix) (size v u : ℕ) → strength a size v u ≡ strongOf (total (squaresTowards a size v u)) (normTowards a size v v) (normTowards a size u u)
@@ -43,15 +42,15 @@ module _ {kind : Bool} {nodes size : ℕ} {ptr cols : List ℕ} {vals : List Flo
   a = csr (nodes * size) (nodes * size) ptr cols vals
 
   module _ {v from to : ℕ} (s : Spans nodes size v ptr from to) where
-    ws-all : All nodes (nodesIn size from to cols)
-    ws-all = all-nodes nodes size from to cols (w .inside)
+    ws-each : Each (λ x. x < nodes) (nodesIn size from to cols)
+    ws-each = each-node nodes size from to cols (w .inside)
 
     pub squares-are : (u : ℕ) → squaresIn size u (stored cols vals from to) ≡ squaresTowards a size v u
     unfolding squaresIn squaresTowards
     squares-are u = rw (← entries-are w s)
 
     -- ---- the float list
-    module _ (g : List ℕ) (l : List Float) (ga : All nodes g) (long : 3 * nodes ≤ length l) where
+    module _ (g : List ℕ) (l : List Float) (ga : Each (λ x. x < nodes) g) (long : 3 * nodes ≤ length l) where
       abbrev l₁ : List Float
       l₁ = cleared g l
 
@@ -115,17 +114,17 @@ module _ {kind : Bool} {nodes size : ℕ} {ptr cols : List ℕ} {vals : List Flo
         mark-below : Below (v + 1) (take nodes ints)
         mark-below k h = let i : k < nodes = omega (arith, mark-length) in rw (getD-take nodes ints k 0 i) (stamps k i)
 
-        pub g-all : All nodes g
-        g-all = found-all nodes v (take nodes ints) ws mark-length (s .node) mark-below ws-all
+        pub g-each : Each (λ x. x < nodes) g
+        g-each = found-each nodes v (take nodes ints) ws mark-length (s .node) mark-below ws-each
 
         pub g-short : (length g ≤ nodes) × (length g ≤ to - from)
-        g-short = (found-short nodes v (take nodes ints) ws mark-length (s .node) mark-below ws-all, omega (arith, gather-short (v + 1) (set (take nodes ints) v (v + 1)) ws, nodes-length size from to cols (span-within w s)))
+        g-short = (found-short nodes v (take nodes ints) ws mark-length (s .node) mark-below ws-each, omega (arith, gather-short (v + 1) (set (take nodes ints) v (v + 1)) ws, nodes-length size from to cols (span-within w s)))
 
         -- the stamps afterwards
         pub stamps-after : (ints' : List ℕ) → take nodes ints' ≡ marked (v + 1) (set (take nodes ints) v (v + 1)) ws → (k : ℕ) → k < nodes → getD ints' k 0 < v + 1 + 1
         stamps-after ints' e k h =
             let i : k < length (marked (v + 1) (set (take nodes ints) v (v + 1)) ws) = omega (arith, length-marked (v + 1) (set (take nodes ints) v (v + 1)) ws, length-set (take nodes ints) v (v + 1), mark-length) in
-            let b = stamps-below nodes v (take nodes ints) ws mark-length (s .node) mark-below ws-all k i in
+            let b = stamps-below nodes v (take nodes ints) ws mark-length (s .node) mark-below ws-each k i in
             rw (← getD-take nodes ints' k 0 h, e) (omega (arith, b))
 
         pub list-is : (strong : Bool) → strong ≡ kind → 3 * nodes ≤ length l → AllPlain l
@@ -135,14 +134,14 @@ module _ {kind : Bool} {nodes size : ℕ} {ptr cols : List ℕ} {vals : List Flo
         list-is true k long p norms even =
             let l' = weights true nodes size v from to cols vals g l in
             let d = drop (2 * nodes) l' in
-            let q = plain-drop (2 * nodes) l' (weights-plain g l g-all long true k p) in
-            let e : sortBy ltb g ≡ neighboursOf a size nodes v = found-ascending nodes v (take nodes ints) ws mark-length (s .node) mark-below ws-all ltb (λ x y. refl) ∙ neighbours-are w s in
-            let each : Each (λ u. getD d u zeroᶠ ≡ strength a size v u) (neighboursOf a size nodes v) = rw e at (each-sort (λ u. getD d u zeroᶠ ≡ strength a size v u) ltb g (weights-each g l g-all long (norms refl))) in
-            found-sorted nodes v (take nodes ints) ws mark-length (s .node) mark-below ws-all (before d) (weak-before d q) (before-apart d q)
+            let q = plain-drop (2 * nodes) l' (weights-plain g l g-each long true k p) in
+            let e : sortBy ltb g ≡ neighboursOf a size nodes v = found-ascending nodes v (take nodes ints) ws mark-length (s .node) mark-below ws-each ltb (λ x y. refl) ∙ neighbours-are w s in
+            let each : Each (λ u. getD d u zeroᶠ ≡ strength a size v u) (neighboursOf a size nodes v) = rw e at (each-sort (λ u. getD d u zeroᶠ ≡ strength a size v u) ltb g (weights-each g l g-each long (norms refl))) in
+            found-sorted nodes v (take nodes ints) ws mark-length (s .node) mark-below ws-each (before d) (weak-before d q) (before-apart d q)
             ∙ ap (sortBy (before d)) (neighbours-are w s)
             ∙ sym (strong-is a size nodes v d each)
         list-is false k long p norms even =
-            found-ascending nodes v (take nodes ints) ws mark-length (s .node) mark-below ws-all (before (drop (2 * nodes) (weights false nodes size v from to cols vals g l)))
+            found-ascending nodes v (take nodes ints) ws mark-length (s .node) mark-below ws-each (before (drop (2 * nodes) (weights false nodes size v from to cols vals g l)))
             (even-before (drop (2 * nodes) (weights false nodes size v from to cols vals g l)) (λ u. zero-at u))
             ∙ neighbours-are w s
           where
@@ -157,11 +156,11 @@ module _ {strong : Bool} {nodes size : ℕ} {ptr cols : List ℕ} {vals : List F
   part-is : take (end - at) (drop at lists₁) ≡ found nodes size v from to cols ints
   part-is = the-part at end lists lists₁ (found nodes size v from to cols ints) (omega arith) e q
 
-  found-in : All nodes (found nodes size v from to cols ints)
-  found-in = g-all w s ints l (b .stamps) (b .room)
+  found-in : Each (λ x. x < nodes) (found nodes size v from to cols ints)
+  found-in = g-each w s ints l (b .stamps) (b .room)
 
   pub part-below : Below nodes (take (end - at) (drop at lists₁))
-  part-below = rw part-is (of-all nodes (found nodes size v from to cols ints) found-in)
+  part-below = rw part-is (λ k i. each-at (found nodes size v from to cols ints) k 0 found-in i)
 
   pub part-fits : (at ≤ end) × ((end ≤ at + (to - from)) × (end - at ≤ nodes))
   part-fits = let z = g-short w s ints l (b .stamps) (b .room) in (omega arith, (omega (arith, z .1), omega (arith, z .0)))

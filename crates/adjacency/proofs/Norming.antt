@@ -16,8 +16,9 @@ use Rattle.definitions.specs.Neighbours.{normTowards}
 use Rattle.adjacency.specs.WellFormed.{WellFormed, Spans}
 use Rattle.adjacency.specs.Lists.{Between}
 use Rattle.adjacency.specs.Norms.{Normed}
+use Rattle.laws.proofs.Lists.{Each, none, more, each-head, each-tail}
 use Rattle.adjacency.specs.Strengths.{plain, AllPlain, squaresIn}
-use Rattle.adjacency.proofs.Laws.{by-case, Each}
+use Rattle.adjacency.proofs.Laws.{by-case}
 use Rattle.adjacency.proofs.Measures.{Finite}
 use Rattle.adjacency.proofs.Nodes.{squares-are}
 use Rattle.adjacency.proofs.Parts.{blank-at}
@@ -27,10 +28,10 @@ use Rattle.adjacency.proofs.Weighing.{squares-yes, squares-no}
 
 pub plain-squares : (size v : ℕ) (es : List Entry) → Finite es → Each (λ x. plain x ≡ true) (squaresIn size v es)
 unfolding squaresIn valuesWhere keep
-plain-squares size v [] f = tt
+plain-squares size v [] f = none
 plain-squares size v (e ∷ es) f = by-case (eqb (e .col / size) v)
-    (λ t. rw (squares-yes size v e es t) (plain-square (e .value) (f .0), plain-squares size v es (f .1)))
-    (λ t. rw (squares-no size v e es t) (plain-squares size v es (f .1)))
+    (λ t. rw (squares-yes size v e es t) (more (plain-square (e .value) (each-head f)) (plain-squares size v es (each-tail f))))
+    (λ t. rw (squares-no size v e es t) (plain-squares size v es (each-tail f)))
 
 pub record Norming (a : Matrix) (size nodes : ℕ) (l₀ l : List Float) (v : ℕ) : Type 0 where
   pub upto : v ≤ nodes

@@ -1,11 +1,11 @@
 -- Parts of a list: what a part that was lent holds, and the list once it has come back.
 use mathlib.Core.Path.{_≡_, refl, ap, sym, _∙_}
-use mathlib.Core.List.{List, [], _∷_, _++_, append-assoc}
+use mathlib.Core.List.{List, [], _∷_, _++_, append-assoc, append-nil}
 use Prim.Native.Nat.{ℕ, zero, suc, _+_, _-_, _≤_, _<_}
 use native.Mathlib.Omega.{arith}
-use borrow.Rule.Slice.PartMut.{putMid, postOf}
+use borrow.Rule.Slice.PartMut.{putMid, postOf, post-is}
 use lib.ListN.{length, getD, set, take, drop, replicate, length-drop, length-append}
-use lib.Seq.{take-nil, take-take, take-all, take-at, drop-at, drop-drop, take-set-lt, take-set-le, drop-set-lt, drop-set-add, length-take-le}
+use lib.Seq.{take-nil, take-take, take-all, take-at, drop-at, drop-drop, drop-length, take-set-lt, take-set-le, drop-set-lt, drop-set-add, length-take-le}
 
 pub rest-part : {A : Type 0} (k : ℕ) (l : List A) → take (length l - k) (drop k l) ≡ drop k l
 rest-part k l = take-all (length l - k) (drop k l) (omega (arith, length-drop k l))
@@ -21,6 +21,10 @@ take-mid f t a y h k e =
 -- what stands before the part stays
 pub take-before : {A : Type 0} (f k : ℕ) (a y : List A) → f ≤ length a → take f (putMid f k a y) ≡ take f a
 take-before f k a y h = take-at (take f a) (y ++ postOf f k a) f (length-take-le f a h)
+
+-- the end of a list, lent and come back
+pub drop-rest : {A : Type 0} (f : ℕ) (a y : List A) → f ≤ length a → drop f (putMid f (length a - f) a y) ≡ y
+drop-rest f a y h = drop-at (take f a) (y ++ postOf f (length a - f) a) f (length-take-le f a h) ∙ ap (λ l. y ++ l) (post-is f (length a) a h ∙ drop-length a) ∙ append-nil y
 
 pub take-drop : {A : Type 0} (m n : ℕ) (l : List A) → take (n - m) (drop m l) ≡ drop m (take n l)
 take-drop zero n l = let e : n - zero ≡ n = omega arith in rw e

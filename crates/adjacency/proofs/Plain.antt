@@ -15,8 +15,9 @@ use lib.Ieee.Scale.{finite}
 use Rattle.definitions.specs.Root.{root, rounded, radicand, Located, locateRoot}
 use Rattle.definitions.specs.Numbers.{_+ᶠ_, _*ᶠ_, _/ᶠ_, rootᶠ, zeroᶠ, squared}
 use Rattle.definitions.specs.Neighbours.{divides}
+use Rattle.laws.proofs.Lists.{Each, each-head, each-tail}
 use Rattle.adjacency.specs.Strengths.{plain, AllPlain, strongOf}
-use Rattle.adjacency.proofs.Laws.{by-case, Each}
+use Rattle.adjacency.proofs.Laws.{by-case}
 
 odd-plain : (d q k l : ℕ) → plain (odd d false q k l) ≡ true
 unfolding odd plain
@@ -121,7 +122,7 @@ plain-set (y ∷ l) (suc i) x a h (suc k) = plain-set l i x (λ j. a (suc j)) h 
 pub plain-total : (xs : List Float) (s : Float) → plain s ≡ true → Each (λ x. plain x ≡ true) xs → plain (foldl (λ s x. s +ᶠ x) s xs) ≡ true
 unfolding foldl
 plain-total [] s h e = h
-plain-total (x ∷ xs) s h e = plain-total xs (s +ᶠ x) (plain-add s x h (e .0)) (e .1)
+plain-total (x ∷ xs) s h e = plain-total xs (s +ᶠ x) (plain-add s x h (each-head e)) (each-tail e)
 
 pub plain-drop : (n : ℕ) (l : List Float) → AllPlain l → AllPlain (drop n l)
 plain-drop n l a i = rw (getD-drop n l i zeroᶠ) (a (n + i))

@@ -14,6 +14,7 @@ use Rattle.definitions.specs.Lists.{any}
 use Rattle.definitions.specs.Matrix.{Entry, csr, stored, rowOf, entriesOf}
 use Rattle.definitions.specs.Links.{nodeEntries}
 use Rattle.definitions.specs.Neighbours.{neighboursOf}
+use Rattle.laws.proofs.Lists.{none, more}
 use Rattle.adjacency.specs.Collect.{nodesIn, others}
 use Rattle.csr32.specs.Rows.{Real}
 use Rattle.adjacency.specs.WellFormed.{WellFormed, Spans}
@@ -61,14 +62,14 @@ module _ {strong : Bool} {nodes size : ℕ} {ptr cols : List ℕ} {vals : List F
       (stored-join cols vals (getD ptr p 0) (getD ptr (suc p) 0) (getD ptr e 0) (w .rises p (omega arith)) (rise (suc p) k e (omega arith) h) (w .within e h) (w .both))
 
   towards : (k j e : ℕ) → e ≡ k + j → e ≤ length cols → Towards nodes size (stored cols vals k e)
-  towards k zero e q h = rw (stored-none cols vals k e (omega arith)) tt
-  towards k (suc j) e q h = rw (stored-cons cols vals k e (omega arith) h (omega (arith, w .both))) (w .inside k (omega arith), towards (k + 1) j e (omega arith) h)
+  towards k zero e q h = rw (stored-none cols vals k e (omega arith)) none
+  towards k (suc j) e q h = rw (stored-cons cols vals k e (omega arith) h (omega (arith, w .both))) (more (w .inside k (omega arith)) (towards (k + 1) j e (omega arith) h))
 
   finites : Real vals → (k j e : ℕ) → e ≡ k + j → e ≤ length cols → Finite (stored cols vals k e)
-  finites f k zero e q h = rw (stored-none cols vals k e (omega arith)) tt
+  finites f k zero e q h = rw (stored-none cols vals k e (omega arith)) none
   finites f k (suc j) e q h =
       let i : k < length vals = omega (arith, w .both) in
-      rw (stored-cons cols vals k e (omega arith) h (omega (arith, w .both))) (f k i, finites f (k + 1) j e (omega arith) h)
+      rw (stored-cons cols vals k e (omega arith) h (omega (arith, w .both))) (more (f k i) (finites f (k + 1) j e (omega arith) h))
 
   any-map : (u : ℕ) (l : List Entry) → any (λ e. eqb (e .col / size) u) l ≡ any (λ x. eqb x u) (map (λ c. c / size) (map (λ (e : Entry). e .col) l))
   unfolding any

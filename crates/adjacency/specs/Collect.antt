@@ -1,7 +1,7 @@
 -- The nodes that a list names, each once, in order of first mention: a node that was met bears the stamp.
 use mathlib.Core.Bool.{true, false, not, _&&_}
 use mathlib.Core.List.{List, [], _∷_, map}
-use Prim.Native.Nat.{ℕ, _<_, _/_}
+use Prim.Native.Nat.{ℕ, _+_, _*_, _^_, _<_, _/_}
 use lib.Dec.{eqb}
 use lib.ListN.{length, getD, set}
 use lib.Seq.{slice}
@@ -22,6 +22,14 @@ nodesIn size k e cols = map (λ c. c / size) (slice k e cols)
 -- every column's node is below n
 abbrev pub Inside : ℕ → ℕ → List ℕ → Type 0
 Inside n size cols = (k : ℕ) → k < length cols → getD cols k 0 / size < n
+
+-- 2^32 / size, rounded up
+unfoldable pub inverseOf : ℕ → ℕ
+inverseOf size = 0xffff_ffff / size + 1
+
+-- every column is low enough that its product with the inverse tells its node
+abbrev pub Low : ℕ → List ℕ → Type 0
+Low size cols = (k : ℕ) → k < length cols → getD cols k 0 * size < 2 ^ 32
 
 -- the nodes below n other than v that a list names, ascending
 unfoldable pub others : ℕ → ℕ → List ℕ → List ℕ

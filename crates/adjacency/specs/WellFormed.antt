@@ -6,7 +6,7 @@ use Prim.Native.Nat.{ℕ, suc, _+_, _*_, _^_, _≤_, _<_}
 use lib.ListN.{length, getD}
 use lib.Ieee.{Float}
 use Rattle.csr32.specs.Rows.{Real}
-use Rattle.adjacency.specs.Collect.{Inside}
+use Rattle.adjacency.specs.Collect.{Inside, Low}
 
 pub record WellFormed (strong : Bool) (nodes size : ℕ) (ptr cols : List ℕ) (vals : List Float) : Type 0 where
   pub some : 0 < size
@@ -17,6 +17,7 @@ pub record WellFormed (strong : Bool) (nodes size : ℕ) (ptr cols : List ℕ) (
   pub rises : (i : ℕ) → i < nodes * size → getD ptr i 0 ≤ getD ptr (suc i) 0
   pub within : (i : ℕ) → i ≤ nodes * size → getD ptr i 0 ≤ length cols
   pub inside : Inside nodes size cols
+  pub low : Low size cols
   pub real : strong ≡ true → Real vals
 
 -- the entries of node v are those from `from` up to `to`

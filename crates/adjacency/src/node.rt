@@ -9,7 +9,7 @@ ghost use Prim.Native.Nat.{_+_, _-_, _*_, _^_, _<_, _≤_};
 ghost use lib.ListN.{length, getD, set, take, drop};
 ghost use Rattle.definitions.specs.Lists.{between};
 ghost use Rattle.definitions.specs.Matrix.{csr};
-ghost use Rattle.adjacency.specs.Collect.{marked, nodesIn, Inside};
+ghost use Rattle.adjacency.specs.Collect.{marked, nodesIn, Inside, Low};
 ghost use Rattle.adjacency.specs.WellFormed.{WellFormed};
 ghost use Rattle.adjacency.specs.Lists.{found, Between, Listed};
 ghost use Rattle.laws.specs.Bounds.{Below};
@@ -37,7 +37,7 @@ fn find(
     work: &mut [u32],
     at: usize,
 ) -> usize
-    requires { ⌜ (from ≤ to) × ((to ≤ length (now «col_idx»)) × ((0 < size) × (base + at + (to - from) ≤ length (now work)))) ⌝ }
+    requires { ⌜ (from ≤ to) × ((to ≤ length (now «col_idx»)) × ((0 < size) × (Low size (now «col_idx») × (base + at + (to - from) ≤ length (now work))))) ⌝ }
     requires { ⌜ (v < nodes) × ((nodes < 2 ^ 31) × (nodes ≤ base)) ⌝ }
     requires { ⌜ Inside nodes size (now «col_idx») ⌝ }
     ensures { λ r. ⌜ r ≡ at + length (found nodes size v from to (now («col_idx» .entry)) (now (work .entry))) ⌝ }

@@ -6,7 +6,7 @@ use root::root_by;
 ghost use mathlib.Core.Path.{_≡_};
 ghost use Prim.Native.Nat.{_*_, _<_, _≤_};
 ghost use lib.ListN.{length};
-ghost use Rattle.adjacency.specs.Collect.{Inside};
+ghost use Rattle.adjacency.specs.Collect.{Inside, Low};
 ghost use Rattle.adjacency.specs.Lists.{weights};
 ghost use Rattle.laws.specs.Bounds.{Below};
 ghost use Rattle.adjacency.specs.Strengths.{strongOf, measured};
@@ -60,7 +60,7 @@ pub(crate) fn strengths(
     floats: &mut [f64],
     table: &root::StartTable,
 )
-    requires { ⌜ (from ≤ to) × ((to ≤ length (now «col_idx»)) × ((to ≤ length (now values)) × (0 < size))) ⌝ }
+    requires { ⌜ (from ≤ to) × ((to ≤ length (now «col_idx»)) × ((to ≤ length (now values)) × ((0 < size) × Low size (now «col_idx»)))) ⌝ }
     requires { ⌜ (v < nodes) × (3 * nodes ≤ length (now floats)) ⌝ }
     requires { ⌜ Inside nodes size (now «col_idx») ⌝ }
     requires { ⌜ Below nodes (now list) ⌝ }

@@ -1,4 +1,5 @@
 // Sums of squares towards nodes. The list of floats holds the sum towards node w at w.
+use super::links::inverse_of;
 use super::links::node_of;
 use numbers::wide;
 ghost use mathlib.Core.Path.{_≡_};
@@ -6,7 +7,7 @@ ghost use Prim.Native.Nat.{_<_, _≤_};
 ghost use lib.ListN.{length};
 ghost use Rattle.definitions.specs.Matrix.{stored};
 ghost use Rattle.definitions.specs.Numbers.{total};
-ghost use Rattle.adjacency.specs.Collect.{Inside};
+ghost use Rattle.adjacency.specs.Collect.{Inside, Low};
 ghost use Rattle.laws.specs.Bounds.{Below};
 ghost use Rattle.adjacency.specs.Strengths.{cleared, weighed, squaresIn};
 
@@ -32,13 +33,14 @@ pub(crate) fn weigh(
     size: u32,
     sums: &mut [f64],
 )
-    requires { ⌜ (from ≤ to) × ((to ≤ length (now «col_idx»)) × ((to ≤ length (now values)) × (0 < size))) ⌝ }
+    requires { ⌜ (from ≤ to) × ((to ≤ length (now «col_idx»)) × ((to ≤ length (now values)) × ((0 < size) × Low size (now «col_idx»)))) ⌝ }
     requires { ⌜ Inside (length (now sums)) size (now «col_idx») ⌝ }
     ensures { λ _. ⌜ now (sums .exit) ≡ weighed size (stored (now («col_idx» .entry)) (now (values .entry)) from to) (now (sums .entry)) ⌝ }
 {
+    let inverse = inverse_of(size);
     let mut k = from;
     while k < to {
-        let w = wide(node_of(col_idx, k, size));
+        let w = wide(node_of(col_idx, k, size, inverse));
         let x = values[k];
         let old = sums[w];
         sums[w] = old + x * x;
@@ -48,13 +50,14 @@ pub(crate) fn weigh(
 
 // The sum of the squares of those of values[from..to] that stand towards node v.
 pub(crate) fn own(col_idx: &[u32], values: &[f64], from: usize, to: usize, size: u32, v: u32) -> f64
-    requires { ⌜ (from ≤ to) × ((to ≤ length (now «col_idx»)) × ((to ≤ length (now values)) × (0 < size))) ⌝ }
+    requires { ⌜ (from ≤ to) × ((to ≤ length (now «col_idx»)) × ((to ≤ length (now values)) × ((0 < size) × Low size (now «col_idx»)))) ⌝ }
     ensures { λ r. ⌜ r ≡ total (squaresIn size v (stored (now («col_idx» .entry)) (now (values .entry)) from to)) ⌝ }
 {
+    let inverse = inverse_of(size);
     let mut sum = 0.0;
     let mut k = from;
     while k < to {
-        if node_of(col_idx, k, size) == v {
+        if node_of(col_idx, k, size, inverse) == v {
             let x = values[k];
             sum += x * x;
         }

@@ -76,13 +76,6 @@ pub fn quotient(x: usize, d: usize) -> usize
     x / d
 }
 
-// The same for 32 bits.
-pub fn short_quotient(x: u32, d: u32) -> u32
-    ensures { λ r. ⌜ r ≡ x / d ⌝ }
-{
-    quotient(x as usize, d as usize) as u32
-}
-
 // The same number, as a length or an index.
 pub fn wide(x: u32) -> usize
     ensures { λ r. ⌜ r ≡ x ⌝ }

@@ -12,19 +12,22 @@ use Rattle.adjacency.proofs.links.collect.Statement.{statement}
 use Rattle.adjacency.proofs.links.collect.Tie as tie
 
 abbrev Inv-loop : tie.InvT-loop
-Inv-loop col-idx from to size stamp nodes base work₀ at end₀ k₀ work end k = (length work ≡ length work₀) × ((base + end + (to - k) ≤ length work) × Collected col-idx (take nodes work₀) (drop base work₀) from to size stamp at (take nodes work) (drop base work) end k)
+Inv-loop col-idx from to size stamp nodes base work₀ at inverse end₀ k₀ work end k = (length work ≡ length work₀) × ((base + end + (to - k) ≤ length work) × Collected col-idx (take nodes work₀) (drop base work₀) from to size stamp at (take nodes work) (drop base work) end k)
 
 abbrev μ-loop : tie.MeasureT-loop
-μ-loop col-idx from to size stamp nodes base work₀ at end₀ k₀ work end k = to - k
+μ-loop col-idx from to size stamp nodes base work₀ at inverse end₀ k₀ work end k = to - k
 
 loop-holds : tie.Need-loop-holds Inv-loop μ-loop
 loop-holds c =
-    let b = c .before .before in
+    let b = c .before .before .before in
     (refl, (omega arith, record { upto = omega arith; room = omega (arith, length-drop (b .args .base) (b .args .work .now)); marks = refl; outs = refl; list = refl; count = refl; stamps = refl }))
 
-inside : (c : tie.After-wide Inv-loop μ-loop) → c .before .node-of .result < c .before .before .before .before .before .before .args .nodes
+node-of-requires : tie.Need-node-of-requires Inv-loop μ-loop
+node-of-requires c κs = let p = c .before .before .before .before .before .pre .0 .1 .1 in (omega arith, (p .0, (p .1 .0, c .before .before .inverse-of .ensures)))
+
+inside : (c : tie.After-wide Inv-loop μ-loop) → c .before .node-of .result < c .before .before .before .before .before .before .before .args .nodes
 inside c =
-    let b = c .before .before .before .before .before .before in
+    let b = c .before .before .before .before .before .before .before in
     rw (c .before .node-of .ensures) (b .pre .1 .1 (c .before .before .before .loop .k) (omega arith))
 
 below : (c : tie.After-wide Inv-loop μ-loop) → c .wide .result < length (c .before .before .before .loop .work)
@@ -47,7 +50,7 @@ slice-write-work-2 c = rw length-set (omega (arith, c .before .before .before .b
 
 loop-again : tie.Need-loop-again Inv-loop μ-loop
 loop-again c =
-    let b = c .before .before .before .before .before .before .before .before in
+    let b = c .before .before .before .before .before .before .before .before .before in
     let l = c .before .before .before .before .before .loop in
     let n = b .args .nodes in
     let d = b .args .base in
@@ -79,8 +82,9 @@ collect-spec =
     (tie.spec
     Inv-loop
     μ-loop
-    loop-holds
     (λ c κs. search needs)
+    loop-holds
+    node-of-requires
     (λ c κs. search needs)
     mul-if1
     slice-read-if1

@@ -36,7 +36,7 @@ find-requires c κs =
     let b = c .before .before .before .before .before .before .before .before in
     let s = spans (c .before) in
     let w = b .pre .0 in
-    ((span-rises w s, (span-within w s, (w .some, space (c .before)))), ((s .node, (w .few, omega (arith, b .pre .1 .1 .1 .0))), w .inside))
+    ((span-rises w s, (span-within w s, (w .some, (w .low, space (c .before))))), ((s .node, (w .few, omega (arith, b .pre .1 .1 .1 .0))), w .inside))
 
 fits : (c : tie.After-find) → (c .before .before .before .before .before .before .before .before .before .args .at ≤ c .find .result) × ((c .before .before .before .before .before .before .before .before .before .args .base + c .find .result ≤ length (c .find .last .1 .1 .1 .1 .1 .1 .1 .0)) × (c .find .result - c .before .before .before .before .before .before .before .before .before .args .at ≤ c .before .before .before .before .before .before .before .before .before .args .nodes))
 fits c =
@@ -70,7 +70,7 @@ strengths-requires c κs =
     let w = b .pre .0 in
     let g = c .before .before .before .before .before .find in
     let y = g .last .1 .1 .1 .1 .1 .1 .1 .0 in (
-      (span-rises w s, (span-within w s, (omega (arith, span-within w s, w .both), w .some))),
+      (span-rises w s, (span-within w s, (omega (arith, span-within w s, w .both), (w .some, w .low)))),
       (
         (s .node, b .pre .1 .0 .space),
         (

@@ -29,7 +29,7 @@ own-requires : tie.Need-own-requires
 own-requires c κs =
     let w = c .before .before .before .before .before .pre .0 in
     let s = spans c in
-    (span-rises w s, (span-within w s, (omega (arith, span-within w s, w .both), w .some)))
+    (span-rises w s, (span-within w s, (omega (arith, span-within w s, w .both), (w .some, w .low))))
 
 returns : tie.Need-returns
 returns c = c .root-by .ensures ∙ ap rootᶠ (c .before .own .ensures) ∙ norm-is (c .before .before .before .before .before .before .before .pre .0) (spans (c .before .before)) (c .before .before .before .before .before .before .before .args .v)

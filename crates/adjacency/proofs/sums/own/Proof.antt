@@ -10,19 +10,19 @@ use Rattle.adjacency.proofs.sums.own.Statement.{statement}
 use Rattle.adjacency.proofs.sums.own.Tie as tie
 
 abbrev Inv-loop : tie.InvT-loop
-Inv-loop col-idx values from to size v sum₀ k₀ sum k = Own col-idx values from to size v sum k
+Inv-loop col-idx values from to size v inverse sum₀ k₀ sum k = Own col-idx values from to size v sum k
 
 abbrev μ-loop : tie.MeasureT-loop
-μ-loop col-idx values from to size v sum₀ k₀ sum k = to - k
+μ-loop col-idx values from to size v inverse sum₀ k₀ sum k = to - k
 
 loop-holds : tie.Need-loop-holds Inv-loop μ-loop
 loop-holds c =
-    let b = c .before .before in
+    let b = c .before .before .before in
     own-first (b .args .col-idx .now) (b .args .values .now) (b .args .from) (b .args .to) (b .args .size) (b .args .v) (omega arith)
 
 loop-again : tie.Need-loop-again Inv-loop μ-loop
 loop-again c =
-    let b = c .before .before .before .before .before .before in
+    let b = c .before .before .before .before .before .before .before in
     let l = c .before .before .before .loop in
     let e = c .before .node-of .ensures in
     let h : l .k < b .args .to = omega arith in
@@ -42,6 +42,7 @@ own-spec =
     (tie.spec
     Inv-loop
     μ-loop
+    (λ c κs. search needs)
     loop-holds
     (λ c κs. search needs)
     (λ c. search needs)

@@ -9,17 +9,17 @@ use Rattle.adjacency.proofs.sums.weigh.Statement.{statement}
 use Rattle.adjacency.proofs.sums.weigh.Tie as tie
 
 abbrev Inv-loop : tie.InvT-loop
-Inv-loop col-idx values from to size sums₀ k₀ sums k = Weighing col-idx values sums₀ from to size sums k
+Inv-loop col-idx values from to size sums₀ inverse k₀ sums k = Weighing col-idx values sums₀ from to size sums k
 
 abbrev μ-loop : tie.MeasureT-loop
-μ-loop col-idx values from to size sums₀ k₀ sums k = to - k
+μ-loop col-idx values from to size sums₀ inverse k₀ sums k = to - k
 
 loop-holds : tie.Need-loop-holds Inv-loop μ-loop
 loop-holds c = record { upto = omega arith; same = refl; goes = refl }
 
 below : (c : tie.After-wide Inv-loop μ-loop) → c .wide .result < length (c .before .before .before .loop .sums)
 below c =
-    let b = c .before .before .before .before .before .before .before in
+    let b = c .before .before .before .before .before .before .before .before in
     omega (arith, c .wide .ensures, c .before .node-of .ensures, c .before .before .before .loop .inv .same, b .pre .1 (c .before .before .before .loop .k) (omega arith))
 
 mul-old : tie.Need-mul-old Inv-loop μ-loop
@@ -47,6 +47,7 @@ weigh-spec =
     (tie.spec
     Inv-loop
     μ-loop
+    (λ c κs. search needs)
     loop-holds
     (λ c κs. search needs)
     (λ c κs. search needs)
