@@ -1,5 +1,6 @@
 -- The laws of the public functions.
 mod Upto
+mod NodeLists
 mod Stages
 mod Placed
 mod Answered

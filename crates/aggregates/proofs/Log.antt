@@ -17,14 +17,14 @@ use Rattle.definitions.specs.declared.Refusal.{Refusal}
 use Rattle.definitions.specs.declared.Refusal.the-variants.{LogTooShort}
 use Rattle.laws.proofs.Tests.{both-true}
 use Rattle.laws.proofs.Outcomes.{bind-done, test-true, done-inj}
-use Rattle.aggregates.specs.JoinState.{All}
+use Rattle.laws.proofs.Lists.{Each, none, more, each-imp}
 use Rattle.aggregates.specs.LogRead.{candidatesAt, Decided, pairsIn}
-use Rattle.aggregates.proofs.Stops.{all-imp, by-test, start}
+use Rattle.aggregates.proofs.Stops.{by-test, start}
 use Rattle.aggregates.proofs.growth.Between.{grown-all}
 use Rattle.aggregates.proofs.joining.Fewer.{fewer-joinings}
 use Rattle.aggregates.proofs.joining.Grouped.{named-positive}
 use Rattle.aggregates.proofs.joining.Noted.{log-append, length-log}
-use Rattle.aggregates.proofs.joining.Ordered.{Behind, chosen-first, not-before}
+use Rattle.aggregates.proofs.joining.Ordered.{chosen-first, not-before}
 use Rattle.aggregates.proofs.joining.Rule.{rule-decides}
 use Rattle.aggregates.proofs.joining.Along.{Along, namesAt, Made, along-at, all-made}
 
@@ -35,11 +35,10 @@ unfolding ruleOf
 made-decided lists s j m =
     rw (← m .first) (rule-decides (edgesTo (namesAt lists s (j .moved))) (sizeIn s) (namesAt lists s (j .moved)) (named-positive lists (j .moved) s (nodesIn s (j .moved)) (m .none)) (λ z. omega (arith, m .first, m .to)))
 
-made-first : (lists : ℕ → List ℕ) (s : Groups) (j : Joining) → Made lists s j → All (λ a. before (edgesTo (namesAt lists s (j .moved))) (sizeIn s) a (j .taker) ≡ false) (namesAt lists s (j .moved))
+made-first : (lists : ℕ → List ℕ) (s : Groups) (j : Joining) → Made lists s j → Each (λ a. before (edgesTo (namesAt lists s (j .moved))) (sizeIn s) a (j .taker) ≡ false) (namesAt lists s (j .moved))
 made-first lists s j m =
     let names = namesAt lists s (j .moved) in
-    rw (← m .first) (all-imp (λ a. Behind (edgesTo names) (sizeIn s) a (chosen (edgesTo names) (sizeIn s) 0 names)) (λ a. before (edgesTo names) (sizeIn s) a (chosen (edgesTo names) (sizeIn s) 0 names) ≡ false)
-    (λ a b. not-before (edgesTo names) (sizeIn s) a (chosen (edgesTo names) (sizeIn s) 0 names) b) names (chosen-first (edgesTo names) (sizeIn s) 0 names (named-positive lists (j .moved) s (nodesIn s (j .moved)) (m .none)) .1))
+    rw (← m .first) (each-imp (λ a b. not-before (edgesTo names) (sizeIn s) a (chosen (edgesTo names) (sizeIn s) 0 names) b) (chosen-first (edgesTo names) (sizeIn s) 0 names (named-positive lists (j .moved) s (nodesIn s (j .moved)) (m .none)) .1))
 
 module _ (lists : ℕ → List ℕ) (nodes size : ℕ) where
   -- at every joining of a grouping, in the state in which it happens: the test that the rule names leaves the taker alone, and every test before it left more than one candidate
@@ -49,7 +48,7 @@ module _ (lists : ℕ → List ℕ) (nodes size : ℕ) where
 
   -- of the groups that its lists name, none comes before the taker
   pub taker-first : 0 < size → (js : List Joining) (j : Joining) (ks : List Joining) → joinings lists noAnchor nodes size ≡ js ++ (j ∷ ks)
-      → let s = replay js (start lists noAnchor nodes size) in let names = namedGroups lists noAnchor (j .moved) s (nodesIn s (j .moved)) in All (λ a. before (edgesTo names) (sizeIn s) a (j .taker) ≡ false) names
+      → let s = replay js (start lists noAnchor nodes size) in let names = namedGroups lists noAnchor (j .moved) s (nodesIn s (j .moved)) in Each (λ a. before (edgesTo names) (sizeIn s) a (j .taker) ≡ false) names
   taker-first pos js j ks e = made-first lists (replay js (start lists noAnchor nodes size)) j (along-at (Made lists) js j ks (start lists noAnchor nodes size) (rw e at (all-made lists nodes size pos)))
 
   -- and the rule is what the log has at that joining, behind three numbers for each joining before it

@@ -1,9 +1,9 @@
 -- The stages of grouping, one after another.
 use mathlib.Core.Path.{_≡_, refl, ap, sym, _∙_}
 use mathlib.Core.List.{List, [], _++_, append-nil}
-use Prim.Native.Nat.{ℕ, _-_, _*_, _≤_, _<_}
+use Prim.Native.Nat.{ℕ, _+_, _-_, _*_, _≤_, _<_}
 use native.Mathlib.Omega.{arith}
-use lib.ListN.{length, getD, take, drop, replicate, length-append, length-drop, length-replicate, drop-of-length-le}
+use lib.ListN.{length, getD, take, drop, replicate, length-append, length-drop, length-replicate, replicate-append-replicate, drop-of-length-le}
 use lib.Seq.{getD-take, take-at, take-all, drop-at, length-take-le}
 use Rattle.definitions.specs.Lists.{padded}
 use Rattle.definitions.specs.Groups.{renumbered, grown, groupsOf, joinings, graphGrouping, listed, noAnchor, floorOf}
@@ -41,6 +41,13 @@ module _ (n : ℕ) (w t : List ℕ) (fits : n ≤ length w) (z : t ≡ replicate
   front-zero =
       let q : t ≡ replicate n 0 = z ∙ ap (λ k. replicate k 0) front-long in
       take-at t (drop (n - 0) (drop 0 w)) n (ap length q ∙ length-replicate n 0) ∙ q
+
+  -- with zeros behind it, all is zero
+  pub all-zero : drop n w ≡ replicate (length w - n) 0 → take 0 w ++ (t ++ drop (n - 0) (drop 0 w)) ≡ replicate (length w) 0
+  all-zero behind =
+      let e : n - 0 ≡ n = omega arith in
+      let k : n + (length w - n) ≡ length w = omega arith in
+      rw (z, front-long, e, behind) (replicate-append-replicate n (length w - n) 0 ∙ ap (λ m. replicate m 0) k)
 
   pub front-length : length (take 0 w ++ (t ++ drop (n - 0) (drop 0 w))) ≡ length w
   front-length = let e : length t ≡ n = ap length z ∙ length-replicate (length (take (n - 0) (drop 0 w))) 0 ∙ front-long in simp (length-append, e, length-drop) (omega arith)
@@ -122,6 +129,10 @@ copy-front n work ids l a b e =
 pub padded-front : (n m : ℕ) (ids l : List ℕ) → length ids ≡ n → l ≡ padded 0 m ids → take n l ≡ ids
 unfolding padded
 padded-front n m ids l e p = ap (take n) p ∙ take-at ids (replicate (m - length ids) 0) n e
+
+pub padded-back : (n m : ℕ) (ids l : List ℕ) → length ids ≡ n → length l ≡ m → l ≡ padded 0 m ids → drop n l ≡ replicate (length l - n) 0
+unfolding padded
+padded-back n m ids l e k p = ap (drop n) p ∙ drop-at ids (replicate (m - length ids) 0) n e ∙ rw (e, k)
 
 -- three numbers for each joining, of which there are fewer than nodes
 pub log-fits : (lists : ℕ → List ℕ) (n size : ℕ) → 0 < size → length (loggedOf lists n size .log) ≤ 3 * n

@@ -12,8 +12,7 @@ use lib.Seq.{getD-set-same, getD-set-other}
 use Rattle.definitions.specs.Lists.{tab}
 use Rattle.definitions.specs.Groups.{Joining, Groups, nodesIn, sizeIn, joined, replay, edgesTo, before, chosen, otherGroups, namedGroups, takerOf, roundFrom, joiningsFrom, floorOf, nodesOf, groupsOf, grown, joinings}
 use Rattle.laws.proofs.Tests.{both-false}
-use Rattle.laws.proofs.Lists.{length-tab}
-use Rattle.aggregates.specs.JoinState.{All}
+use Rattle.laws.proofs.Lists.{Each, none, more, each-head, each-tail, each-imp, each-append, length-tab}
 
 -- 1 for a group with members
 abbrev ne : List ℕ → ℕ
@@ -82,29 +81,21 @@ module _ (j : Joining) (s : Groups) (some : 0 < sizeIn s (j .moved)) (other : Ot
 
 -- ---- WHAT A GROUP JOINS is another group that has members
 
-pub all-append : (P : ℕ → Type 0) (xs ys : List ℕ) → All P xs → All P ys → All P (xs ++ ys)
-all-append P [] ys a b = b
-all-append P (x ∷ xs) ys a b = (a .0, all-append P xs ys (a .1) b)
-
-pub all-imp : (P Q : ℕ → Type 0) → ((x : ℕ) → P x → Q x) → (l : List ℕ) → All P l → All Q l
-all-imp P Q f [] a = tt
-all-imp P Q f (x ∷ l) a = (f x (a .0), all-imp P Q f l (a .1))
-
 pub by-test {ℓ} : {X : Type ℓ} (b : Bool) → (b ≡ true → X) → (b ≡ false → X) → X
 by-test true t f = t refl
 by-test false t f = f refl
 
-pub chosen-keeps : (Q : ℕ → Type 0) (e m : ℕ → ℕ) (best : ℕ) (l : List ℕ) → Q best → All Q l → Q (chosen e m best l)
+pub chosen-keeps : (Q : ℕ → Type 0) (e m : ℕ → ℕ) (best : ℕ) (l : List ℕ) → Q best → Each Q l → Q (chosen e m best l)
 unfolding chosen
 chosen-keeps Q e m best [] q a = q
 chosen-keeps Q e m best (x ∷ l) q a = by-test (eqb best 0 || before e m x best)
-    (λ t. rw (chosen, t) (chosen-keeps Q e m x l (a .0) (a .1)))
-    (λ t. rw (chosen, t) (chosen-keeps Q e m best l q (a .1)))
+    (λ t. rw (chosen, t) (chosen-keeps Q e m x l (each-head a) (each-tail a)))
+    (λ t. rw (chosen, t) (chosen-keeps Q e m best l q (each-tail a)))
 
 module _ (lists : ℕ → List ℕ) (anchor : ℕ → Bool) where
-  others-other : (g : ℕ) (s : Groups) (ws : List ℕ) → All (Other g (sizeIn s)) (otherGroups lists anchor g s ws)
+  others-other : (g : ℕ) (s : Groups) (ws : List ℕ) → Each (Other g (sizeIn s)) (otherGroups lists anchor g s ws)
   unfolding otherGroups
-  others-other g s [] = tt
+  others-other g s [] = none
   others-other g s (w ∷ ws) =
       let o = getD (s .of) w 0 in
       by-test (anchor w || eqb o g || eqb (sizeIn s o) 0)
@@ -112,14 +103,14 @@ module _ (lists : ℕ → List ℕ) (anchor : ℕ → Bool) where
       (λ e.
       let z = both-false (anchor w || eqb o g) (eqb (sizeIn s o) 0) e in
       let y = both-false (anchor w) (eqb o g) (z .0) in
-      rw (otherGroups, e) ((omega (arith, eqb-false (sizeIn s o) 0 (z .1)), eqb-false o g (y .1)), others-other g s ws))
+      rw (otherGroups, e) (more {x = o} (omega (arith, eqb-false (sizeIn s o) 0 (z .1)), eqb-false o g (y .1)) (others-other g s ws)))
 
-  named-other : (g : ℕ) (s : Groups) (vs : List ℕ) → All (Other g (sizeIn s)) (namedGroups lists anchor g s vs)
+  named-other : (g : ℕ) (s : Groups) (vs : List ℕ) → Each (Other g (sizeIn s)) (namedGroups lists anchor g s vs)
   unfolding namedGroups
-  named-other g s [] = tt
+  named-other g s [] = none
   named-other g s (v ∷ vs) = by-test (anchor v)
       (λ e. rw (namedGroups, e) (named-other g s vs))
-      (λ e. rw (namedGroups, e) (all-append (Other g (sizeIn s)) (otherGroups lists anchor g s (lists v)) (namedGroups lists anchor g s vs) (others-other g s (lists v)) (named-other g s vs)))
+      (λ e. rw (namedGroups, e) (each-append (others-other g s (lists v)) (named-other g s vs)))
 
   -- a group that joins another has members, and so has the other
   pub taker-other : (floor g b : ℕ) (s : Groups) → takerOf lists anchor floor s g ≡ suc b → (0 < sizeIn s g) × Other g (sizeIn s) (suc b)
@@ -130,7 +121,7 @@ module _ (lists : ℕ → List ℕ) (anchor : ℕ → Bool) where
       (λ t. by-test (ltb (sizeIn s g) floor)
       (λ u.
       let e' : chosen (edgesTo names) (sizeIn s) 0 names ≡ suc b = rw (t, u, takerOf) at e in
-      let k = chosen-keeps (λ o. o ≡ suc b → Other g (sizeIn s) (suc b)) (edgesTo names) (sizeIn s) 0 names (λ z. omega arith) (all-imp (Other g (sizeIn s)) (λ o. o ≡ suc b → Other g (sizeIn s) (suc b)) (λ x p q. rw q at p) names (named-other g s (nodesIn s g))) in
+      let k = chosen-keeps (λ o. o ≡ suc b → Other g (sizeIn s) (suc b)) (edgesTo names) (sizeIn s) 0 names (λ z. omega arith) (each-imp (λ x p q. rw q at p) (named-other g s (nodesIn s g))) in
       (ltb-true 0 _ t, k e'))
       (λ u. let z : _≡_ {A = ℕ} 0 (suc b) = rw (t, u, takerOf) at e in omega arith))
       (λ t. let z : _≡_ {A = ℕ} 0 (suc b) = rw (t, takerOf) at e in omega arith)

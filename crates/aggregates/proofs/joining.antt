@@ -1,5 +1,4 @@
 -- The laws that several proofs of joining cite.
-mod Laws
 mod Counting
 pub mod Together
 mod Names

@@ -10,19 +10,15 @@ use Prim.Native.Nat.{ℕ, zero, suc, _+_, _-_, _*_, _^_, _≤_, _<_}
 use lib.ListN.{length, getD, set, take, drop}
 use Rattle.definitions.specs.Lists.{tab}
 use Rattle.definitions.specs.Groups.{Groups, Joining, sizeIn, takerOf, joiningsFrom, replay, groupsOf, listed, noAnchor}
+use Rattle.laws.specs.Every.{Each}
 use Rattle.aggregates.specs.Lists.{Lists}
 use Rattle.aggregates.specs.JoinChoice.{at, namedBy, Zeros}
 use Rattle.aggregates.specs.Stored.{listsAt}
 
--- what holds of every element of a list
-abbrev pub All : (ℕ → Type 0) → List ℕ → Type 0
-All P [] = Unit {0}
-All P (x ∷ xs) = P x × All P xs
-
 -- each element once
 abbrev pub Once : List ℕ → Type 0
 Once [] = Unit {0}
-Once (x ∷ xs) = All (λ y. y ≡ x → ⊥) xs × Once xs
+Once (x ∷ xs) = Each (λ y. y ≡ x → ⊥) xs × Once xs
 
 -- the k nodes of a chain
 unfoldable pub walk : ℕ → List ℕ → ℕ → List ℕ
@@ -52,7 +48,7 @@ pub record Rep (n groups : ℕ) (offsets neighbours ids w : List ℕ) : Type 0 w
   pub few : groups ≤ n
   pub small : (n < 2 ^ 31) × (length neighbours < 2 ^ 32)
   pub grouped : (v : ℕ) → v < n → getD ids v 0 ≤ groups
-  pub members : (g : ℕ) → g ≤ groups → All (λ v. (v < n) × (getD ids v 0 ≡ g)) (membersOf n w g)
+  pub members : (g : ℕ) → g ≤ groups → Each (λ v. (v < n) × (getD ids v 0 ≡ g)) (membersOf n w g)
   pub once : (g : ℕ) → g ≤ groups → Once (membersOf n w g)
   pub quiet : Zeros (3 * n + 2) (4 * n + 3) w
 
@@ -77,7 +73,7 @@ Reads counts tail neighbours w = (k : ℕ) → k < length neighbours → (getD n
 pub record Gathers (n base : ℕ) (offsets w : List ℕ) (g : ℕ) : Type 0 where
   pub own : g ≤ n
   pub sizes : (v : ℕ) → v < n → getD w v 0 ≤ n
-  pub nodes : All (λ v. v < n) (chainOf n w g)
+  pub nodes : Each (λ v. v < n) (chainOf n w g)
   pub room : 5 * n + 3 + total (λ v. getD offsets (suc v) 0 - getD offsets v 0) (chainOf n w g) ≤ base
   pub fits : base ≤ length w
 
@@ -93,7 +89,7 @@ pub record Moves (n : ℕ) (w : List ℕ) (g b : ℕ) : Type 0 where
   pub some : 0 < at (3 * n + 1) w g
   pub fits : at (3 * n + 1) w g + at (3 * n + 1) w b ≤ n
   pub small : n < 2 ^ 31
-  pub nodes : All (λ v. v < n) (chainOf n w g)
+  pub nodes : Each (λ v. v < n) (chainOf n w g)
 
 -- the joinings of one group's turn: none or one
 unfoldable pub turnOf : (ℕ → List ℕ) → ℕ → Groups → ℕ → List Joining

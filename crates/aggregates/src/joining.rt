@@ -18,11 +18,12 @@ ghost use lib.Dec.{eqb};
 ghost use lib.ListN.{length, getD, take, drop};
 ghost use lib.Seq.{slice};
 ghost use Rattle.definitions.specs.Groups.{chosen, edgesTo, nodesOf, relabelled, groupsOf, sizeIn};
+ghost use Rattle.laws.specs.Every.{Each};
 ghost use Rattle.aggregates.specs.Lists.{Lists};
 ghost use Rattle.aggregates.specs.Stored.{offsetsAt, neighboursAt, listsAt};
 ghost use Rattle.aggregates.specs.JoinChoice.{at, beforeBy, better, bump, othersBy, wipe, Named, Zeros};
 ghost use Rattle.aggregates.specs.Log.{JoinedAt, turnLog};
-ghost use Rattle.aggregates.specs.JoinState.{All, Gathers, HasTurn, Joins, Moves, Reads, Rep, Turned, chainOf, hop, membersOf, moved, namesIn, stateIn, walk};
+ghost use Rattle.aggregates.specs.JoinState.{Gathers, HasTurn, Joins, Moves, Reads, Rep, Turned, chainOf, hop, membersOf, moved, namesIn, stateIn, walk};
 
 // Counts the groups that w[from..end] names: a count for each group, from w[hits] on.
 pub(crate) fn tally(w: &mut [u32], hits: usize, from: usize, end: usize)
@@ -190,7 +191,7 @@ fn gather(w: &mut [u32], base: usize, nodes: usize, g: u32) -> usize
 
 // The n members of a chain go to the group b. Returns the last of them.
 fn relabel_chain(w: &mut [u32], nodes: usize, first: u32, n: u32, b: u32) -> u32
-    requires { ⌜ (2 * nodes ≤ length (now w)) × All (λ v. v < nodes) (walk n (drop nodes (now w)) first) ⌝ }
+    requires { ⌜ (2 * nodes ≤ length (now w)) × Each (λ v. v < nodes) (walk n (drop nodes (now w)) first) ⌝ }
     ensures { λ r. ⌜ take nodes (now (w .exit)) ≡ relabelled b (walk n (drop nodes (now (w .entry))) first) (take nodes (now (w .entry))) ⌝ }
     ensures { λ r. ⌜ drop nodes (now (w .exit)) ≡ drop nodes (now (w .entry)) ⌝ }
     ensures { λ r. ⌜ (0 < n → r ≡ hop (n - 1) (drop nodes (now (w .entry))) first) ⌝ }

@@ -1,7 +1,7 @@
 // Groups of nodes, from what each node lists: growth, joining, numbers by first appearance.
 ghost use mathlib.Core.Path.{_≡_};
-ghost use Prim.Native.Nat.{_+_, _*_, _^_, _≤_, _<_};
-ghost use lib.ListN.{length, take, replicate};
+ghost use Prim.Native.Nat.{_+_, _-_, _*_, _^_, _≤_, _<_};
+ghost use lib.ListN.{length, take, drop, replicate};
 ghost use Rattle.definitions.specs.Lists.{padded};
 ghost use Rattle.definitions.specs.Groups.{groupingCall, graphGrouping, noAnchor, floorOf, groupingLeft, groupingWorkLeft};
 ghost use Rattle.definitions.specs.JoiningLog.{groupingLogCall, groupingIn, logLeft};
@@ -84,15 +84,15 @@ fn build(nodes: usize, size: usize, base: usize, w: &mut [u32]) -> u64
     counts.count as u64
 }
 
-// Hands the front of `work` over to `ids`, zeros behind, and clears `work`.
+// Hands the front of `work`, with zeros behind it, over to `ids`, zeros behind, and clears it.
 fn hand_over(work: &mut [u32], ids: &mut [u32], nodes: usize)
-    requires { ⌜ (nodes ≤ length (now work)) × (nodes ≤ length (now ids)) ⌝ }
+    requires { ⌜ (nodes ≤ length (now work)) × (nodes ≤ length (now ids)) × (drop nodes (now work) ≡ replicate (length (now work) - nodes) 0) ⌝ }
     ensures { λ _. ⌜ now (ids .exit) ≡ padded 0 (length (now (ids .entry))) (take nodes (now (work .entry))) ⌝ }
     ensures { λ _. ⌜ now (work .exit) ≡ replicate (length (now (work .entry))) 0 ⌝ }
 {
     numbers::copy_ints(&work[0..nodes], ids);
     numbers::zero_ints(&mut ids[nodes..]);
-    numbers::zero_ints(work);
+    numbers::zero_ints(&mut work[0..nodes]);
 }
 
 // Grouping in one list: the neighbour lists stand in `work` from work[base] on; the group of each node takes the front, zeros behind.

@@ -11,7 +11,7 @@ use Rattle.aggregates.specs.Checked.{Accepts}
 use Rattle.aggregates.specs.Stored.{offsetsAt, neighboursAt}
 use Rattle.aggregates.proofs.stored.Elements.{lists-as}
 use Rattle.aggregates.proofs.checks.Order.{accepted-listed, accepted-lists, accepted-some, accepted-few, accepted-call, accepted-fits, accepted-room}
-use Rattle.aggregates.proofs.Stages.{padded-front}
+use Rattle.aggregates.proofs.Stages.{padded-front, padded-back}
 use Rattle.aggregates.proofs.Answered.{refused-answer, refused-left, refused-work, accepted-answer, accepted-left, accepted-work}
 use borrow.Author.Needs.{needs}
 use Rattle.aggregates.proofs.group.Statement.{statement}
@@ -46,8 +46,11 @@ hand-over-requires : tie.Need-hand-over-requires
 hand-over-requires c κs =
     let a = c .before .before .before .before .before .before .before .before .before .before .before .before .before .before .before .before .before .before .args in
     let f = c .before .before .before .before .build in
-    let same : length (f .last .1 .1 .1 .0) ≡ length (a .work .now) = f .kept .1 .1 .1 .0 ∙ c .before .before .before .before .before .before .before .before .place .kept .1 .1 .1 .1 .0 in
-    (rw same (omega (arith, sizes (c .before .before .before .before .before .before .before .before .before .before .before))), accepted-room (a .nodes) (a .size) (a .offsets .now) (a .neighbours .now) (length (a .ids .now)) (length (a .work .now)) (accepted (c .before .before .before .before .before .before .before .before .before .before .before)) .0)
+    let same : length (f .last .1 .1 .1 .0) ≡ length (a .work .now) = f .kept .1 .1 .1 .0 ∙ c .before .before .before .before .before .before .before .before .place .kept .1 .1 .1 .1 .0 in (
+      rw same (omega (arith, sizes (c .before .before .before .before .before .before .before .before .before .before .before))),
+      accepted-room (a .nodes) (a .size) (a .offsets .now) (a .neighbours .now) (length (a .ids .now)) (length (a .work .now)) (accepted (c .before .before .before .before .before .before .before .before .before .before .before)) .0,
+      padded-back (a .nodes) _ _ (f .last .1 .1 .1 .0) (f .ensures .1 .1) (f .kept .1 .1 .1 .0) (f .ensures .1 .0),
+    )
 
 returns : tie.Need-returns
 returns c =

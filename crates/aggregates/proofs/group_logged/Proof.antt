@@ -12,7 +12,7 @@ use Rattle.aggregates.specs.Stored.{offsetsAt, neighboursAt}
 use Rattle.aggregates.proofs.stored.Elements.{lists-as}
 use Rattle.aggregates.proofs.checks.Order.{accepted-listed, accepted-lists, accepted-some, accepted-few, accepted-fits, accepted-room}
 use Rattle.aggregates.proofs.joining.Noted.{noted-zeros}
-use Rattle.aggregates.proofs.Stages.{padded-front, log-fits}
+use Rattle.aggregates.proofs.Stages.{padded-front, padded-back, log-fits}
 use borrow.Author.Needs.{needs}
 use Rattle.aggregates.proofs.group_logged.Statement.{statement}
 use Rattle.aggregates.proofs.group_logged.Tie as tie
@@ -46,7 +46,7 @@ hand-over-requires c κs =
     let f = c .before .before .before .before .before .before .build-log in
     let same : length (f .last .1 .1 .1 .0) ≡ length (a .work .now) = f .kept .1 .1 .1 .0 ∙ c .before .before .before .before .before .before .before .before .before .before .before .before .before .before .before .place .kept .1 .1 .1 .1 .0 in
     let room = accepted-room (a .nodes) (a .size) (a .offsets .now) (a .neighbours .now) (length (a .ids .now)) (length (a .work .now)) (s .pre .0) in
-    (rw same (omega (arith, room)), room .0)
+    (rw same (omega (arith, room)), room .0, padded-back (a .nodes) _ _ (f .last .1 .1 .1 .0) (f .ensures .long) (f .kept .1 .1 .1 .0) (f .ensures .ids))
 
 returns : tie.Need-returns
 unfolding withLog

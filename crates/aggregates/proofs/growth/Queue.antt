@@ -7,9 +7,11 @@ use native.Mathlib.Numerals.{add-one}
 use lib.ListN.{length, getD, set, take, drop, length-set}
 use lib.Seq.{slice, slice-empty, slice-cons, length-slice, length-take-le, drop-append-le, take-append-le, take-take, take-set-lt, drop-set-lt, take-suc-set, drop-at, getD-take}
 use Rattle.definitions.specs.Groups.{free, growGroup, listed, noAnchor}
+use Rattle.laws.proofs.Lists.{Each, none, more, each-head, each-tail, each-append}
 use Rattle.aggregates.specs.Lists.{Lists}
 use Rattle.aggregates.specs.Growth.{Pushes}
-use Rattle.aggregates.proofs.growth.Free.{All, all-append, all-free, all-slice, free-short, spare, degree, spare-set, spare-within, offset-within}
+use Rattle.aggregates.proofs.growth.Free.{each-free, free-short}
+use Rattle.aggregates.proofs.NodeLists.{spare, degree, spare-set, spare-within, offset-within, each-part}
 use Rattle.aggregates.proofs.growth.Growing.{grow-full, grow-ends, grow-skips, grow-takes}
 
 pub record Queue (offsets nb : List ℕ) (base n : ℕ) (w₀ : List ℕ) (seed g size : ℕ) (w : List ℕ) (head tail room : ℕ) : Type 0 where
@@ -18,7 +20,7 @@ pub record Queue (offsets nb : List ℕ) (base n : ℕ) (w₀ : List ℕ) (seed 
   pub behind : n ≤ head
   pub order : head ≤ tail
   pub space : tail + spare (degree offsets) 0 (take n w) ≤ n + (length nb + 1)
-  pub nodes : All (λ x. x < n) (slice head tail w)
+  pub nodes : Each (λ x. x < n) (slice head tail w)
   pub goes : growGroup (listed offsets nb) noAnchor g room (take n w) (slice head tail w) ≡ growGroup (listed offsets nb) noAnchor g size (take n w₀) (seed ∷ [])
 
 -- the queue at its start
@@ -39,7 +41,7 @@ module _ (offsets nb : List ℕ) (base n : ℕ) (w₀ : List ℕ) (seed g size :
         behind = omega arith;
         order = omega arith;
         space = omega (arith, spare-within n offsets nb ok (take n (set w₀ n seed)) (length-take-le n (set w₀ n seed) (simp length-set (omega arith))));
-        nodes = rw e (h, tt);
+        nodes = rw e (more h none);
         goes = ap (λ q. growGroup (listed offsets nb) noAnchor g size (take n (set w₀ n seed)) q) e;
       }
 
@@ -58,7 +60,7 @@ module _ (offsets nb : List ℕ) (base n : ℕ) (w₀ : List ℕ) (seed g size :
       front = rw add-one (slice-cons head tail w 0 h (omega (arith, inv .same)))
 
       pub next-node : getD w head 0 < n
-      next-node = (rw front at (inv .nodes)) .0
+      next-node = each-head (rw front at (inv .nodes))
 
       pub queue-skips : (getD w (getD w head 0) 0 ≡ 0 → ⊥) → Queue offsets nb base n w₀ seed g size w (head + 1) tail room
       queue-skips z = record {
@@ -67,7 +69,7 @@ module _ (offsets nb : List ℕ) (base n : ℕ) (w₀ : List ℕ) (seed g size :
         behind = omega arith;
         order = omega arith;
         space = inv .space;
-        nodes = (rw front at (inv .nodes)) .1;
+        nodes = each-tail (rw front at (inv .nodes));
         goes = sym (grow-skips (listed offsets nb) g room (take n w) (getD w head 0) (slice (head + 1) tail w) (rw (getD-take n w (getD w head 0) 0 next-node) z)) ∙ (rw front at (inv .goes));
       }
 
@@ -132,9 +134,9 @@ module _ (offsets nb : List ℕ) (base n : ℕ) (w₀ : List ℕ) (seed g size :
           unfolding added listed
           few = omega (arith, free-short (listed offsets nb) (take n (set w v g)) (listed offsets nb v), length-slice (getD offsets v 0) (getD offsets (suc v) 0) nb (queue-asks .ends))
 
-          all-added : All (λ x. x < n) added
+          each-added : Each (λ x. x < n) added
           unfolding added listed
-          all-added = all-free (listed offsets nb) (λ x. x < n) (take n (set w v g)) (listed offsets nb v) (all-slice n (getD offsets v 0) (getD offsets (suc v) 0) nb (queue-asks .ends) (ok .within))
+          each-added = each-free (listed offsets nb) (λ x. x < n) (take n (set w v g)) (listed offsets nb v) (each-part (λ x. x < n) (getD offsets v 0) (getD offsets (suc v) 0) nb (queue-asks .ends) (ok .within))
 
           new-is : end ≡ tail + length added
           unfolding added
@@ -155,6 +157,6 @@ module _ (offsets nb : List ℕ) (base n : ℕ) (w₀ : List ℕ) (seed g size :
             behind = omega arith;
             order = omega (arith, new-is);
             space = rw ids-kept (omega (arith, spent, few, new-is, inv .space));
-            nodes = rw now (all-append (λ x. x < n) (slice (head + 1) tail w) added ((rw front at (inv .nodes)) .1) all-added);
+            nodes = rw now (each-append (each-tail (rw front at (inv .nodes))) each-added);
             goes = rw (now, ids-kept) goes-on;
           }

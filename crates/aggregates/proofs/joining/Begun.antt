@@ -7,30 +7,27 @@ use native.Mathlib.Decide.{ℕ-discrete}
 use lib.ListN.{length, getD, take, drop, length-drop}
 use lib.Seq.{getD-take, take-take, length-take-le}
 use Rattle.definitions.specs.Groups.{groupsOf, nodesOf}
-use Rattle.laws.proofs.Lists.{tab-cong}
+use Rattle.laws.proofs.Lists.{Each, none, more, each-imp, each-both, tab-cong}
 use Rattle.aggregates.specs.JoinChoice.{Zeros}
-use Rattle.aggregates.specs.JoinState.{All, Once, Joins, Rep, membersOf, stateOf}
-use Rattle.aggregates.proofs.Stops.{all-imp}
-use Rattle.aggregates.proofs.joining.Laws.{all-both}
+use Rattle.aggregates.specs.JoinState.{Once, Joins, Rep, membersOf, stateOf}
 use Rattle.aggregates.proofs.joining.Linking.{nodes-takes, nodes-passes, nodes-in}
 
 -- the nodes of a group have that group
-nodes-have : (o v : ℕ) (xs : List ℕ) → All (λ y. (v ≤ y) × (getD xs (y - v) 0 ≡ o)) (nodesOf o v xs)
+nodes-have : (o v : ℕ) (xs : List ℕ) → Each (λ y. (v ≤ y) × (getD xs (y - v) 0 ≡ o)) (nodesOf o v xs)
 unfolding nodesOf
-nodes-have o v [] = tt
-nodes-have o v (x ∷ xs) = go (ℕ-discrete x o) (all-imp (λ y. (suc v ≤ y) × (getD xs (y - suc v) 0 ≡ o)) (λ y. (v ≤ y) × (getD (x ∷ xs) (y - v) 0 ≡ o))
-    (λ y p. let e : y - v ≡ suc (y - suc v) = omega (arith, p .0) in (omega (arith, p .0), rw e (p .1))) (nodesOf o (suc v) xs) (nodes-have o (suc v) xs))
+nodes-have o v [] = none
+nodes-have o v (x ∷ xs) = go (ℕ-discrete x o) (each-imp (λ y p. let e : y - v ≡ suc (y - suc v) = omega (arith, p .0) in (omega (arith, p .0), rw e (p .1))) (nodes-have o (suc v) xs))
   where
-    go : Dec (x ≡ o) → All (λ y. (v ≤ y) × (getD (x ∷ xs) (y - v) 0 ≡ o)) (nodesOf o (suc v) xs) → All (λ y. (v ≤ y) × (getD (x ∷ xs) (y - v) 0 ≡ o)) (nodesOf o v (x ∷ xs))
-    go (yes e) a = let z : v - v ≡ 0 = omega arith in rw (nodes-takes o v x xs e) ((omega arith, rw z e), a)
+    go : Dec (x ≡ o) → Each (λ y. (v ≤ y) × (getD (x ∷ xs) (y - v) 0 ≡ o)) (nodesOf o (suc v) xs) → Each (λ y. (v ≤ y) × (getD (x ∷ xs) (y - v) 0 ≡ o)) (nodesOf o v (x ∷ xs))
+    go (yes e) a = let z : v - v ≡ 0 = omega arith in rw (nodes-takes o v x xs e) (more {x = v} (omega arith, rw z e) a)
     go (no d) a = rw (nodes-passes o v x xs d) a
 
 nodes-once : (o v : ℕ) (xs : List ℕ) → Once (nodesOf o v xs)
 unfolding nodesOf
 nodes-once o v [] = tt
-nodes-once o v (x ∷ xs) = go (ℕ-discrete x o) (nodes-once o (suc v) xs) (all-imp (λ y. (suc v ≤ y) × (y < suc v + length xs)) (λ y. y ≡ v → ⊥) (λ y p e. omega (arith, p .0)) (nodesOf o (suc v) xs) (nodes-in o (suc v) xs))
+nodes-once o v (x ∷ xs) = go (ℕ-discrete x o) (nodes-once o (suc v) xs) (each-imp (λ y p e. omega (arith, p .0)) (nodes-in o (suc v) xs))
   where
-    go : Dec (x ≡ o) → Once (nodesOf o (suc v) xs) → All (λ y. y ≡ v → ⊥) (nodesOf o (suc v) xs) → Once (nodesOf o v (x ∷ xs))
+    go : Dec (x ≡ o) → Once (nodesOf o (suc v) xs) → Each (λ y. y ≡ v → ⊥) (nodesOf o (suc v) xs) → Once (nodesOf o v (x ∷ xs))
     go (yes e) a later = rw (nodes-takes o v x xs e) (later, a)
     go (no d) a later = rw (nodes-passes o v x xs d) a
 
@@ -65,10 +62,8 @@ module _ (n groups base : ℕ) (offsets nb w : List ℕ) (asks : Joins n groups 
         small = asks .small;
         grouped = λ v h. rw (ids₂, getD-take n w v 0 h) (asks .grouped v h);
         members = λ o h. rw (chains₂ o h)
-            (all-imp (λ y. ((0 ≤ y) × (y < 0 + length (take n w₂))) × ((0 ≤ y) × (getD (take n w₂) (y - 0) 0 ≡ o))) (λ y. (y < n) × (getD (take n w₂) y 0 ≡ o))
-            (λ y p. let z : y - 0 ≡ y = omega arith in (omega (arith, p .0 .1, nodes₂), rw z at (p .1 .1)))
-            (nodesOf o 0 (take n w₂))
-            (all-both (λ y. (0 ≤ y) × (y < 0 + length (take n w₂))) (λ y. (0 ≤ y) × (getD (take n w₂) (y - 0) 0 ≡ o)) (nodesOf o 0 (take n w₂)) (nodes-in o 0 (take n w₂)) (nodes-have o 0 (take n w₂))));
+            (each-imp (λ y p. let z : y - 0 ≡ y = omega arith in (omega (arith, p .0 .1, nodes₂), rw z at (p .1 .1)))
+            (each-both (nodes-in o 0 (take n w₂)) (nodes-have o 0 (take n w₂))));
         once = λ o h. rw (chains₂ o h) (nodes-once o 0 (take n w₂));
         quiet = quiet;
       }

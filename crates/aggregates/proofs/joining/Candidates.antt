@@ -10,12 +10,12 @@ use lib.Dec.{eqb, ltb}
 use lib.ListN.{length}
 use Rattle.definitions.specs.Lists.{keep}
 use Rattle.definitions.specs.JoiningLog.{unbeaten}
-use Rattle.aggregates.specs.JoinState.{All, Once}
+use Rattle.laws.proofs.Lists.{Each, none, each-imp, each-both}
+use Rattle.aggregates.specs.JoinState.{Once}
 use Rattle.aggregates.specs.Log.{ruleAgainst}
-use Rattle.aggregates.proofs.Stops.{all-imp, by-test}
-use Rattle.aggregates.proofs.joining.Laws.{all-both}
+use Rattle.aggregates.proofs.Stops.{by-test}
 use Rattle.aggregates.proofs.joining.Ordered.{Behind, fewer, larger, later}
-use Rattle.aggregates.proofs.joining.Members.{In, in-all, single, same-all, in-some, keep-all, all-keep, once-keep, in-keep, keep-every, unbeaten-are}
+use Rattle.aggregates.proofs.joining.Members.{In, in-each, single, each-same, in-some, each-kept, keep-each, once-keep, in-keep, keep-every, unbeaten-are}
 
 module _ (edges sizes : ℕ → ℕ) (b : ℕ) where
   abbrev pub against : ℕ → ℕ
@@ -70,27 +70,27 @@ module _ (edges sizes : ℕ → ℕ) (b : ℕ) where
 
   -- ---- THE LISTS OF CANDIDATES from a list of different groups, with b among them and none before b
 
-  module _ (l : List ℕ) (once : Once l) (here : In b l) (behind : All (λ a. Behind edges sizes a b) l) where
+  module _ (l : List ℕ) (once : Once l) (here : In b l) (behind : Each (λ a. Behind edges sizes a b) l) where
     -- those that the first k tests leave
     pub left : ℕ → List ℕ
     left k = keep (λ a. ltb k (height a)) l
 
-    all-told : All Told l
-    all-told = all-imp (λ a. Behind edges sizes a b) Told told l behind
+    each-told : Each Told l
+    each-told = each-imp told behind
 
     chosen-stays : (k : ℕ) → k < 5 → ltb k (height b) ≡ true
-    chosen-stays k h = lt-ltb k (height b) (omega (arith, in-all Told b l here all-told .own refl))
+    chosen-stays k h = lt-ltb k (height b) (omega (arith, in-each Told b l here each-told .own refl))
 
     pub none-left : left 1 ≡ l
     unfolding left
-    none-left = keep-every (λ a. ltb 1 (height a)) l (all-imp Told (λ a. ltb 1 (height a) ≡ true) (λ a t. lt-ltb 1 (height a) (t .enters)) l all-told)
+    none-left = keep-every (λ a. ltb 1 (height a)) l (each-imp (λ a t. lt-ltb 1 (height a) (t .enters)) each-told)
 
     step : (k : ℕ) (beats : ℕ → ℕ → Bool) → k < 5
         → ((a c : ℕ) → Told a → Told c → k < height c → suc k < height a → beats c a ≡ false)
         → ((a : ℕ) → Told a → k < height a → height a ≤ suc k → beats b a ≡ true)
         → unbeaten beats (left k) ≡ left (suc k)
     unfolding left
-    step k beats h safe lost = unbeaten-are beats (λ a. ltb k (height a)) (λ a. ltb (suc k) (height a)) Told b l all-told here (chosen-stays k h)
+    step k beats h safe lost = unbeaten-are beats (λ a. ltb k (height a)) (λ a. ltb (suc k) (height a)) Told b l each-told here (chosen-stays k h)
         (λ a t. lt-ltb k (height a) (omega (arith, ltb-true (suc k) (height a) t)))
         (λ a c ta tc p q. safe a c ta tc (ltb-true k (height c) p) (ltb-true (suc k) (height a) q))
         (λ a t p q. lost a t (ltb-true k (height a) p) (ltb-false (suc k) (height a) q))
@@ -111,21 +111,21 @@ module _ (edges sizes : ℕ → ℕ) (b : ℕ) where
         (λ a t p q. lt-ltb b a (t .higher-id p q))
 
     -- where no test after the k-th decides, b alone is left, and only there
-    pub one-left : (k : ℕ) → 1 ≤ k → k < 5 → All (λ a. against a ≤ k) l → left k ≡ b ∷ []
+    pub one-left : (k : ℕ) → 1 ≤ k → k < 5 → Each (λ a. against a ≤ k) l → left k ≡ b ∷ []
     unfolding left
     one-left k one h a = single b (left k) (once-keep (λ a. ltb k (height a)) l once) (in-keep (λ a. ltb k (height a)) b l here (chosen-stays k h))
-        (all-imp (λ x. (Told x × (against x ≤ k)) × (ltb k (height x) ≡ true)) (λ x. x ≡ b) (λ x t. alone k x (t .0 .0) (ltb-true k (height x) (t .1)) (t .0 .1)) (left k)
-        (all-keep (λ x. ltb k (height x)) (λ x. Told x × (against x ≤ k)) l (all-both Told (λ x. against x ≤ k) l all-told a)))
+        (each-imp (λ x t. alone k x (t .0 .0) (ltb-true k (height x) (t .1)) (t .0 .1))
+        (keep-each (λ x. ltb k (height x)) (λ x. Told x × (against x ≤ k)) l (each-both each-told a)))
 
-    pub left-one : (k : ℕ) → 1 ≤ k → k < 5 → length (left k) ≡ 1 → All (λ a. against a ≤ k) l
+    pub left-one : (k : ℕ) → 1 ≤ k → k < 5 → length (left k) ≡ 1 → Each (λ a. against a ≤ k) l
     unfolding left
-    left-one k one h e = all-imp (λ x. Told x × (ltb k (height x) ≡ true → x ≡ b)) (λ x. against x ≤ k) (λ x t. under k x one (t .0) (t .1)) l
-        (all-both Told (λ x. ltb k (height x) ≡ true → x ≡ b) l all-told (keep-all (λ x. ltb k (height x)) (λ x. x ≡ b) l (same-all b (left k) e (in-keep (λ a. ltb k (height a)) b l here (chosen-stays k h)))))
+    left-one k one h e = each-imp (λ x t. under k x one (t .0) (t .1))
+        (each-both each-told (each-kept (λ x. ltb k (height x)) (λ x. x ≡ b) l (each-same b (left k) e (in-keep (λ a. ltb k (height a)) b l here (chosen-stays k h)))))
 
     pub some-left : (k : ℕ) → k < 5 → 0 < length (left k)
     unfolding left
     some-left k h = in-some b (left k) (in-keep (λ a. ltb k (height a)) b l here (chosen-stays k h))
 
     -- there are four tests
-    pub four-tests : All (λ a. (1 ≤ against a) × (against a ≤ 4)) l
-    four-tests = all-imp Told (λ a. (1 ≤ against a) × (against a ≤ 4)) (λ a t. (t .one, t .four)) l all-told
+    pub four-tests : Each (λ a. (1 ≤ against a) × (against a ≤ 4)) l
+    four-tests = each-imp (λ a t. (t .one, t .four)) each-told

@@ -9,21 +9,22 @@ use lib.Dec.{eqb}
 use lib.ListN.{length, getD, take, drop, length-append, List·getD-append}
 use lib.Seq.{slice, getD-take, getD-drop, length-take-le, length-slice}
 use Rattle.definitions.specs.Groups.{listed}
+use Rattle.laws.proofs.Lists.{Each, each-head, each-tail}
 use Rattle.aggregates.specs.Lists.{Lists}
 use Rattle.aggregates.specs.JoinChoice.{at, othersBy, namedBy}
-use Rattle.aggregates.specs.JoinState.{All, Gathers, Reads, chainOf, total, walk}
-use Rattle.aggregates.proofs.joining.Laws.{degree, offset-within, all-part}
+use Rattle.aggregates.specs.JoinState.{Gathers, Reads, chainOf, total, walk}
+use Rattle.aggregates.proofs.NodeLists.{degree, offset-within, each-part}
 
 branch : (t : Bool) (x y : ℕ) (p q : List ℕ) → x ≡ y → p ≡ q → _≡_ {A = List ℕ} (elim t [ true ↦ p | false ↦ x ∷ p ]) (elim t [ true ↦ q | false ↦ y ∷ q ])
 branch true x y p q d e = e
 branch false x y p q d e = rw (d, e) refl
 
 -- lists and sizes that agree on some nodes give the same names
-pub others-cong : (g : ℕ) (ids ids' : List ℕ) (a b : ℕ → ℕ) (ws : List ℕ) → All (λ w. (getD ids w 0 ≡ getD ids' w 0) × (a (getD ids' w 0) ≡ b (getD ids' w 0))) ws → othersBy g ids a ws ≡ othersBy g ids' b ws
+pub others-cong : (g : ℕ) (ids ids' : List ℕ) (a b : ℕ → ℕ) (ws : List ℕ) → Each (λ w. (getD ids w 0 ≡ getD ids' w 0) × (a (getD ids' w 0) ≡ b (getD ids' w 0))) ws → othersBy g ids a ws ≡ othersBy g ids' b ws
 unfolding othersBy
 others-cong g ids ids' a b [] e = refl
 others-cong g ids ids' a b (w ∷ ws) e =
-    rw (othersBy, e .0 .0, e .0 .1) (branch (eqb (getD ids' w 0) g || eqb (b (getD ids' w 0)) 0) (getD ids w 0) (getD ids' w 0) (othersBy g ids a ws) (othersBy g ids' b ws) (e .0 .0) (others-cong g ids ids' a b ws (e .1)))
+    rw (othersBy, each-head e .0, each-head e .1) (branch (eqb (getD ids' w 0) g || eqb (b (getD ids' w 0)) 0) (getD ids w 0) (getD ids' w 0) (othersBy g ids a ws) (othersBy g ids' b ws) (each-head e .0) (others-cong g ids ids' a b ws (each-tail e)))
 
 pub others-short : (g : ℕ) (ids : List ℕ) (sizes : ℕ → ℕ) (ws : List ℕ) → length (othersBy g ids sizes ws) ≤ length ws
 unfolding othersBy
@@ -45,7 +46,7 @@ pub record Gathering (n base : ℕ) (offsets nb w₀ : List ℕ) (g : ℕ) (w : 
   pub same : length w ≡ length w₀
   pub still : drop base w ≡ drop base w₀
   pub kept : (k : ℕ) → k < 5 * n + 3 → getD w k 0 ≡ getD w₀ k 0
-  pub nodes : All (λ v. v < n) (walk left (drop n w₀) cur)
+  pub nodes : Each (λ v. v < n) (walk left (drop n w₀) cur)
   pub room : end + total (degree offsets) (walk left (drop n w₀) cur) ≤ base
   pub list : take end w ++ names n offsets nb w₀ g (walk left (drop n w₀) cur) ≡ take (5 * n + 3) w₀ ++ names n offsets nb w₀ g (chainOf n w₀ g)
   pub count : end + length (names n offsets nb w₀ g (walk left (drop n w₀) cur)) ≡ 5 * n + 3 + length (names n offsets nb w₀ g (chainOf n w₀ g))
@@ -63,12 +64,12 @@ module _ (n base : ℕ) (offsets nb w₀ : List ℕ) (g : ℕ) (ok : Lists n off
       left-is : left ≡ suc (left - 1)
       left-is = omega arith
 
-      nodes' : All (λ v. v < n) (walk (suc (left - 1)) (drop n w₀) cur)
+      nodes' : Each (λ v. v < n) (walk (suc (left - 1)) (drop n w₀) cur)
       nodes' = rw left-is at (inv .nodes)
 
       pub gather-node : cur < n
       unfolding walk
-      gather-node = nodes' .0
+      gather-node = each-head nodes'
 
       room' : end + total (degree offsets) (walk (suc (left - 1)) (drop n w₀) cur) ≤ base
       room' = rw left-is at (inv .room)
@@ -96,7 +97,7 @@ module _ (n base : ℕ) (offsets nb w₀ : List ℕ) (g : ℕ) (ok : Lists n off
         alike : othersBy g w (at (3 * n + 1) w) (slice (getD offsets cur 0) (getD offsets (cur + 1) 0) nb) ≡ some-names
         unfolding some-names
         alike = rw (add-one cur) (others-cong g w w₀ (at (3 * n + 1) w) (at (3 * n + 1) w₀) (slice (getD offsets cur 0) (getD offsets (suc cur) 0) nb)
-            (all-part (λ v. (getD w v 0 ≡ getD w₀ v 0) × (at (3 * n + 1) w (getD w₀ v 0) ≡ at (3 * n + 1) w₀ (getD w₀ v 0))) (getD offsets cur 0) (getD offsets (suc cur) 0) nb fits
+            (each-part (λ v. (getD w v 0 ≡ getD w₀ v 0) × (at (3 * n + 1) w (getD w₀ v 0) ≡ at (3 * n + 1) w₀ (getD w₀ v 0))) (getD offsets cur 0) (getD offsets (suc cur) 0) nb fits
             (λ k h. let v = ok .within k h in (inv .kept (getD nb k 0) (omega arith), inv .kept (3 * n + 1 + getD w₀ (getD nb k 0) 0) (omega (arith, asks .sizes (getD nb k 0) v))))))
 
         kept' : (k : ℕ) → k < end → getD w' k 0 ≡ getD w k 0
@@ -119,7 +120,7 @@ module _ (n base : ℕ) (offsets nb w₀ : List ℕ) (g : ℕ) (ok : Lists n off
               same = long ∙ inv .same;
               still = lists ∙ inv .still;
               kept = λ k l. kept' k (omega (arith, inv .low)) ∙ inv .kept k l;
-              nodes = nodes' .1;
+              nodes = each-tail nodes';
               room = omega (arith, room');
               list = rw q (append-assoc (take end w) some-names tail ∙ list');
               count = omega (arith, count', length-append some-names tail);

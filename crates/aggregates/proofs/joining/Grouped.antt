@@ -11,8 +11,9 @@ use lib.Seq.{getD-set-other}
 use Rattle.definitions.specs.Lists.{tab}
 use Rattle.definitions.specs.Groups.{Groups, Joining, nodesIn, sizeIn, joined, replay, otherGroups, namedGroups, nodesOf, groupsOf, grown, noAnchor, takerOf}
 use Rattle.laws.proofs.Tests.{both-false}
-use Rattle.aggregates.specs.JoinState.{All, turnOf}
-use Rattle.aggregates.proofs.Stops.{all-append, by-test}
+use Rattle.laws.proofs.Lists.{Each, none, more, each-append}
+use Rattle.aggregates.specs.JoinState.{turnOf}
+use Rattle.aggregates.proofs.Stops.{by-test}
 use Rattle.aggregates.proofs.growth.Between.{grown-all}
 use Rattle.aggregates.proofs.joining.Linking.{nodes-passes}
 use Rattle.aggregates.proofs.joining.Turns.{turn-stays, turn-joins}
@@ -41,26 +42,26 @@ none-turn lists floor s g pos z = go (takerOf lists noAnchor floor s g) refl
     go zero e = rw (turn-stays lists floor s g e) z
     go (suc b) e = let j : Joining = record { moved = g; taker = suc b } in rw (turn-joins lists floor s g b j refl e) (none-joined j s pos (omega arith) z)
 
-module _ (lists : ℕ → List ℕ) (anchor : ℕ → Bool) (g : ℕ) (s : Groups) (none : sizeIn s 0 ≡ 0) where
-  others-positive : (ws : List ℕ) → All (λ o. 0 < o) (otherGroups lists anchor g s ws)
+module _ (lists : ℕ → List ℕ) (anchor : ℕ → Bool) (g : ℕ) (s : Groups) (empty : sizeIn s 0 ≡ 0) where
+  others-positive : (ws : List ℕ) → Each (λ o. 0 < o) (otherGroups lists anchor g s ws)
   unfolding otherGroups
-  others-positive [] = tt
+  others-positive [] = none
   others-positive (w ∷ ws) =
       let o = getD (s .of) w 0 in
       by-test (anchor w || eqb o g || eqb (sizeIn s o) 0)
       (λ e. rw (otherGroups, e) (others-positive ws))
-      (λ e. rw (otherGroups, e) (above o (eqb-false (sizeIn s o) 0 (both-false (anchor w || eqb o g) (eqb (sizeIn s o) 0) e .1)), others-positive ws))
+      (λ e. rw (otherGroups, e) (more (above o (eqb-false (sizeIn s o) 0 (both-false (anchor w || eqb o g) (eqb (sizeIn s o) 0) e .1))) (others-positive ws)))
     where
       above : (o : ℕ) → (sizeIn s o ≡ 0 → ⊥) → 0 < o
-      above zero d = absurd (d none)
+      above zero d = absurd (d empty)
       above (suc o) d = omega arith
 
-  all-positive : (vs : List ℕ) → All (λ o. 0 < o) (namedGroups lists anchor g s vs)
+  each-positive : (vs : List ℕ) → Each (λ o. 0 < o) (namedGroups lists anchor g s vs)
   unfolding namedGroups
-  all-positive [] = tt
-  all-positive (v ∷ vs) = by-test (anchor v)
-      (λ e. rw (namedGroups, e) (all-positive vs))
-      (λ e. rw (namedGroups, e) (all-append (λ o. 0 < o) (otherGroups lists anchor g s (lists v)) (namedGroups lists anchor g s vs) (others-positive (lists v)) (all-positive vs)))
+  each-positive [] = none
+  each-positive (v ∷ vs) = by-test (anchor v)
+      (λ e. rw (namedGroups, e) (each-positive vs))
+      (λ e. rw (namedGroups, e) (each-append (others-positive (lists v)) (each-positive vs)))
 
-pub named-positive : (lists : ℕ → List ℕ) (g : ℕ) (s : Groups) (vs : List ℕ) → sizeIn s 0 ≡ 0 → All (λ o. 0 < o) (namedGroups lists noAnchor g s vs)
-named-positive lists g s vs z = all-positive lists noAnchor g s z vs
+pub named-positive : (lists : ℕ → List ℕ) (g : ℕ) (s : Groups) (vs : List ℕ) → sizeIn s 0 ≡ 0 → Each (λ o. 0 < o) (namedGroups lists noAnchor g s vs)
+named-positive lists g s vs z = each-positive lists noAnchor g s z vs

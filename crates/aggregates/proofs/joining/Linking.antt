@@ -9,9 +9,9 @@ use borrow.Author.Tests.{eq-eqb, ne-eqb}
 use lib.ListN.{length, getD, set, take, drop, length-set, length-drop}
 use lib.Seq.{drop-cons, drop-length, getD-set-same, getD-set-other, getD-drop, getD-take, length-take-le, ext-getD}
 use Rattle.definitions.specs.Groups.{nodesOf}
+use Rattle.laws.proofs.Lists.{Each, none, more, each-imp}
 use Rattle.aggregates.specs.JoinChoice.{at, Zeros}
-use Rattle.aggregates.specs.JoinState.{All, walk, membersOf}
-use Rattle.aggregates.proofs.Stops.{all-imp}
+use Rattle.aggregates.specs.JoinState.{walk, membersOf}
 use Rattle.aggregates.proofs.joining.Chains.{walk-same, length-walk}
 use Rattle.aggregates.proofs.joining.View.{drop-3, take-3, counts-are}
 
@@ -24,13 +24,13 @@ unfolding nodesOf
 nodes-passes o v x xs e = rw (nodesOf, ne-eqb x o e)
 
 -- its nodes are those of the list
-pub nodes-in : (o v : ℕ) (xs : List ℕ) → All (λ x. (v ≤ x) × (x < v + length xs)) (nodesOf o v xs)
+pub nodes-in : (o v : ℕ) (xs : List ℕ) → Each (λ x. (v ≤ x) × (x < v + length xs)) (nodesOf o v xs)
 unfolding nodesOf
-nodes-in o v [] = tt
-nodes-in o v (x ∷ xs) = go (ℕ-discrete x o) (all-imp (λ y. (suc v ≤ y) × (y < suc v + length xs)) (λ y. (v ≤ y) × (y < v + suc (length xs))) (λ y p. omega arith) (nodesOf o (suc v) xs) (nodes-in o (suc v) xs))
+nodes-in o v [] = none
+nodes-in o v (x ∷ xs) = go (ℕ-discrete x o) (each-imp (λ y p. omega arith) (nodes-in o (suc v) xs))
   where
-    go : Dec (x ≡ o) → All (λ y. (v ≤ y) × (y < v + suc (length xs))) (nodesOf o (suc v) xs) → All (λ y. (v ≤ y) × (y < v + suc (length xs))) (nodesOf o v (x ∷ xs))
-    go (yes e) a = rw (nodes-takes o v x xs e) (omega arith, a)
+    go : Dec (x ≡ o) → Each (λ y. (v ≤ y) × (y < v + suc (length xs))) (nodesOf o (suc v) xs) → Each (λ y. (v ≤ y) × (y < v + suc (length xs))) (nodesOf o v (x ∷ xs))
+    go (yes e) a = rw (nodes-takes o v x xs e) (more {x = v} (omega arith) a)
     go (no d) a = rw (nodes-passes o v x xs d) a
 
 nodes-short : (o v : ℕ) (xs : List ℕ) → length (nodesOf o v xs) ≤ length xs
@@ -93,9 +93,8 @@ module _ (n : ℕ) (ids w₀ : List ℕ) (nodes : length ids ≡ n) (long : 3 * 
       still : (p : ℕ) → p ≤ n → walk (at (2 * n + 1) w p) w' (at (n) w p) ≡ nodesOf p v (drop v ids)
       unfolding membersOf
       still p h =
-          let a : All (λ x. (v ≤ x) × (x < v + length (drop v ids))) (walk (at (2 * n + 1) w p) w (at (n) w p)) = rw (inv .chains p h) (nodes-in p v (drop v ids)) in
-          walk-same w w' (at (2 * n + 1) w p) (at (n) w p) (all-imp (λ x. (v ≤ x) × (x < v + length (drop v ids))) (λ x. getD w' x 0 ≡ getD w x 0)
-          (λ x q. let b : x < n = omega (arith, length-drop v ids, inv .upto) in other x (omega arith) (omega arith) (omega arith)) (walk (at (2 * n + 1) w p) w (at (n) w p)) a) ∙ inv .chains p h
+          let a : Each (λ x. (v ≤ x) × (x < v + length (drop v ids))) (walk (at (2 * n + 1) w p) w (at (n) w p)) = rw (inv .chains p h) (nodes-in p v (drop v ids)) in
+          walk-same w w' (at (2 * n + 1) w p) (at (n) w p) (each-imp (λ x q. let b : x < n = omega (arith, length-drop v ids, inv .upto) in other x (omega arith) (omega arith) (omega arith)) a) ∙ inv .chains p h
 
       rest : drop u ids ≡ getD ids u 0 ∷ drop v ids
       rest = rw is-u (drop-cons ids u 0 (omega (arith, inv .upto, nodes)))

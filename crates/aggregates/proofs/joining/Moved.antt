@@ -8,11 +8,10 @@ use lib.ListN.{length, getD, set, length-set}
 use lib.Seq.{getD-set-same, getD-set-other, ext-getD}
 use Rattle.definitions.specs.Lists.{tab}
 use Rattle.definitions.specs.Groups.{Joining, relabelled, joined}
-use Rattle.laws.proofs.Lists.{getD-tab, length-tab}
+use Rattle.laws.proofs.Lists.{Each, none, more, each-head, each-tail, each-imp, each-append, each-both, getD-tab, length-tab}
 use Rattle.aggregates.specs.JoinChoice.{at}
-use Rattle.aggregates.specs.JoinState.{All, Once, walk, hop, membersOf, stateOf, moved, Rep}
-use Rattle.aggregates.proofs.Stops.{all-append, all-imp}
-use Rattle.aggregates.proofs.joining.Laws.{all-both}
+use Rattle.aggregates.specs.JoinState.{Once, walk, hop, membersOf, stateOf, moved, Rep}
+use Rattle.aggregates.proofs.NodeLists.{each-last}
 use Rattle.aggregates.proofs.joining.Counting.{after-set}
 use Rattle.aggregates.proofs.joining.Chains.{walk-same, walk-suc, splice, once-append}
 
@@ -21,25 +20,21 @@ unfolding relabelled
 length-relabel b [] ids = refl
 length-relabel b (v ∷ vs) ids = length-relabel b vs (set ids v b) ∙ length-set ids v b
 
-pub relabel-other : (b : ℕ) (vs ids : List ℕ) (k : ℕ) → All (λ v. k ≡ v → ⊥) vs → getD (relabelled b vs ids) k 0 ≡ getD ids k 0
+pub relabel-other : (b : ℕ) (vs ids : List ℕ) (k : ℕ) → Each (λ v. k ≡ v → ⊥) vs → getD (relabelled b vs ids) k 0 ≡ getD ids k 0
 unfolding relabelled
 relabel-other b [] ids k a = refl
-relabel-other b (v ∷ vs) ids k a = relabel-other b vs (set ids v b) k (a .1) ∙ getD-set-other ids v k b 0 (a .0)
+relabel-other b (v ∷ vs) ids k a = relabel-other b vs (set ids v b) k (each-tail a) ∙ getD-set-other ids v k b 0 (each-head a)
 
 -- what holds of the new group and of a node's old group holds of its group
-relabel-keeps : (P : ℕ → Type 0) (b : ℕ) (vs ids : List ℕ) (k : ℕ) → All (λ v. v < length ids) vs → P b → P (getD ids k 0) → P (getD (relabelled b vs ids) k 0)
+relabel-keeps : (P : ℕ → Type 0) (b : ℕ) (vs ids : List ℕ) (k : ℕ) → Each (λ v. v < length ids) vs → P b → P (getD ids k 0) → P (getD (relabelled b vs ids) k 0)
 unfolding relabelled
 relabel-keeps P b [] ids k a p q = q
-relabel-keeps P b (v ∷ vs) ids k a p q = relabel-keeps P b vs (set ids v b) k (rw length-set (a .1)) p (after-set P ids v b k (a .0) (λ e. p) (λ d. q))
+relabel-keeps P b (v ∷ vs) ids k a p q = relabel-keeps P b vs (set ids v b) k (rw length-set (each-tail a)) p (after-set P ids v b k (each-head a) (λ e. p) (λ d. q))
 
-relabel-in : (b : ℕ) (vs ids : List ℕ) → All (λ v. v < length ids) vs → All (λ v. getD (relabelled b vs ids) v 0 ≡ b) vs
+relabel-in : (b : ℕ) (vs ids : List ℕ) → Each (λ v. v < length ids) vs → Each (λ v. getD (relabelled b vs ids) v 0 ≡ b) vs
 unfolding relabelled
-relabel-in b [] ids a = tt
-relabel-in b (v ∷ vs) ids a = (relabel-keeps (λ x. x ≡ b) b vs (set ids v b) v (rw length-set (a .1)) refl (getD-set-same ids v b 0 (a .0)), relabel-in b vs (set ids v b) (rw length-set (a .1)))
-
-all-last : (P : ℕ → Type 0) (l : List ℕ) (x : ℕ) → All P (l ++ (x ∷ [])) → P x
-all-last P [] x a = a .0
-all-last P (y ∷ l) x a = all-last P l x (a .1)
+relabel-in b [] ids a = none
+relabel-in b (v ∷ vs) ids a = more (relabel-keeps (λ x. x ≡ b) b vs (set ids v b) v (rw length-set (each-tail a)) refl (getD-set-same ids v b 0 (each-head a))) (relabel-in b vs (set ids v b) (rw length-set (each-tail a)))
 
 -- four stores
 module _ (w : List ℕ) (p1 v1 p2 v2 p3 v3 p4 v4 : ℕ) where
@@ -73,7 +68,7 @@ module _ (n groups : ℕ) (offsets nb ids w : List ℕ) (rep : Rep n groups offs
       ap (λ k. walk k w (at n w g)) e ∙ walk-suc (at (2 * n + 1) w g - 1) w (at n w g)
 
   last-in : (last < n) × (getD ids last 0 ≡ g)
-  last-in = all-last (λ v. (v < n) × (getD ids v 0 ≡ g)) (walk (at (2 * n + 1) w g - 1) w (at n w g)) last (rw chain at (rep .members g hg))
+  last-in = each-last (walk (at (2 * n + 1) w g - 1) w (at n w g)) (rw chain at (rep .members g hg))
 
   long : 4 * n + length nb + 3 ≤ length w
   long = rep .room
@@ -100,9 +95,8 @@ module _ (n groups : ℕ) (offsets nb ids w : List ℕ) (rep : Rep n groups offs
   next-last = four-1 w last (at n w b) (n + b) (at n w g) (2 * n + 1 + b) (at (2 * n + 1) w g + at (2 * n + 1) w b) (2 * n + 1 + g) 0 (omega (arith, last-in .0, long)) (omega (arith, last-in .0)) (omega (arith, last-in .0)) (omega (arith, last-in .0))
 
   -- a chain that does not go by `last` is as it was
-  elsewhere : (o k cur : ℕ) → o ≤ groups → (o ≡ g → ⊥) → All (λ v. (v < n) × (getD ids v 0 ≡ o)) (walk k w cur) → walk k w' cur ≡ walk k w cur
-  elsewhere o k cur ho d a = walk-same w w' k cur (all-imp (λ v. (v < n) × (getD ids v 0 ≡ o)) (λ v. getD w' v 0 ≡ getD w v 0)
-      (λ v p. untouched v (λ e. d (sym (p .1) ∙ (rw (← e) at (last-in .1)))) (omega (arith, p .0)) (omega (arith, p .0)) (omega (arith, p .0))) (walk k w cur) a)
+  elsewhere : (o k cur : ℕ) → o ≤ groups → (o ≡ g → ⊥) → Each (λ v. (v < n) × (getD ids v 0 ≡ o)) (walk k w cur) → walk k w' cur ≡ walk k w cur
+  elsewhere o k cur ho d a = walk-same w w' k cur (each-imp (λ v p. untouched v (λ e. d (sym (p .1) ∙ (rw (← e) at (last-in .1)))) (omega (arith, p .0)) (omega (arith, p .0)) (omega (arith, p .0))) a)
 
   pub members-g : membersOf n w' g ≡ []
   unfolding membersOf walk
@@ -125,8 +119,8 @@ module _ (n groups : ℕ) (offsets nb ids w : List ℕ) (rep : Rep n groups offs
       let all-b = rep .members b hb in
       let joined = splice n a cb w w' (at n w g) (at n w b)
       (rw e at (rep .once g hg))
-      (all-imp (λ v. (v < n) × (getD ids v 0 ≡ g)) (λ v. v < n) (λ v p. p .0) (walk (suc a) w (at n w g)) (rw e at all-g))
-      (all-imp (λ v. (v < n) × (getD ids v 0 ≡ b)) (λ v. (v < n) × (v ≡ last → ⊥)) (λ v p. (p .0, λ q. differ (sym (p .1) ∙ (rw (← q) at (last-in .1))))) (walk cb w (at n w b)) all-b)
+      (each-imp (λ v p. p .0) (rw e at all-g))
+      (each-imp (λ v p. (p .0, λ q. differ (sym (p .1) ∙ (rw (← q) at (last-in .1))))) all-b)
       (λ v h d. untouched v d (omega arith) (omega arith) (omega arith))
       next-last in
       rw (count-b, head-b, e) joined
@@ -166,26 +160,26 @@ module _ (n groups : ℕ) (offsets nb ids w : List ℕ) (rep : Rep n groups offs
           go i h M M1 new old lm e1 (no d) (no d') =
               new ∙ members-other i (omega arith) d d' ∙ sym old ∙ sym (getD-set-other M1 g i [] [] d ∙ ap (λ m. getD m i []) e1 ∙ getD-set-other M b i (membersOf n w g ++ membersOf n w b) [] d')
 
-  in-g : All (λ v. (v < n) × (getD ids v 0 ≡ g)) (membersOf n w g)
+  in-g : Each (λ v. (v < n) × (getD ids v 0 ≡ g)) (membersOf n w g)
   in-g = rep .members g hg
 
-  low-g : All (λ v. v < n) (membersOf n w g)
-  low-g = all-imp (λ v. (v < n) × (getD ids v 0 ≡ g)) (λ v. v < n) (λ v p. p .0) (membersOf n w g) in-g
+  low-g : Each (λ v. v < n) (membersOf n w g)
+  low-g = each-imp (λ v p. p .0) in-g
 
   -- no node of another group is moved
   stays : (o v : ℕ) → (o ≡ g → ⊥) → getD ids v 0 ≡ o → getD ids' v 0 ≡ o
   stays o v d e = relabel-other b (membersOf n w g) ids v
-      (all-imp (λ x. (x < n) × (getD ids x 0 ≡ g)) (λ x. v ≡ x → ⊥) (λ x p q. d (sym e ∙ (rw (← q) at (p .1)))) (membersOf n w g) in-g) ∙ e
+      (each-imp (λ x p q. d (sym e ∙ (rw (← q) at (p .1)))) in-g) ∙ e
 
-  members-still : (o : ℕ) → o ≤ groups → All (λ v. (v < n) × (getD ids' v 0 ≡ o)) (membersOf n w' o)
+  members-still : (o : ℕ) → o ≤ groups → Each (λ v. (v < n) × (getD ids' v 0 ≡ o)) (membersOf n w' o)
   members-still o ho = go (ℕ-discrete o g) (ℕ-discrete o b)
     where
-      go : Dec (o ≡ g) → Dec (o ≡ b) → All (λ v. (v < n) × (getD ids' v 0 ≡ o)) (membersOf n w' o)
-      go (yes e) t = rw (e, members-g) tt
-      go (no d) (yes e) = rw (e, members-b) (all-append (λ v. (v < n) × (getD ids' v 0 ≡ b)) (membersOf n w g) (membersOf n w b)
-          (all-both (λ v. v < n) (λ v. getD ids' v 0 ≡ b) (membersOf n w g) low-g (relabel-in b (membersOf n w g) ids (rw (rep .nodes) low-g)))
-          (all-imp (λ v. (v < n) × (getD ids v 0 ≡ b)) (λ v. (v < n) × (getD ids' v 0 ≡ b)) (λ v p. (p .0, stays b v differ (p .1))) (membersOf n w b) (rep .members b hb)))
-      go (no d) (no d') = rw (members-other o ho d d') (all-imp (λ v. (v < n) × (getD ids v 0 ≡ o)) (λ v. (v < n) × (getD ids' v 0 ≡ o)) (λ v p. (p .0, stays o v d (p .1))) (membersOf n w o) (rep .members o ho))
+      go : Dec (o ≡ g) → Dec (o ≡ b) → Each (λ v. (v < n) × (getD ids' v 0 ≡ o)) (membersOf n w' o)
+      go (yes e) t = rw (e, members-g) none
+      go (no d) (yes e) = rw (e, members-b) (each-append
+          (each-both low-g (relabel-in b (membersOf n w g) ids (rw (rep .nodes) low-g)))
+          (each-imp (λ v p. (p .0, stays b v differ (p .1))) (rep .members b hb)))
+      go (no d) (no d') = rw (members-other o ho d d') (each-imp (λ v p. (p .0, stays o v d (p .1))) (rep .members o ho))
 
   once-still : (o : ℕ) → o ≤ groups → Once (membersOf n w' o)
   once-still o ho = go (ℕ-discrete o g) (ℕ-discrete o b)
@@ -193,9 +187,7 @@ module _ (n groups : ℕ) (offsets nb ids w : List ℕ) (rep : Rep n groups offs
       go : Dec (o ≡ g) → Dec (o ≡ b) → Once (membersOf n w' o)
       go (yes e) t = rw (e, members-g) tt
       go (no d) (yes e) = rw (e, members-b) (once-append (membersOf n w g) (membersOf n w b) (rep .once g hg) (rep .once b hb)
-          (all-imp (λ v. (v < n) × (getD ids v 0 ≡ g)) (λ x. All (λ y. y ≡ x → ⊥) (membersOf n w b))
-          (λ x p. all-imp (λ v. (v < n) × (getD ids v 0 ≡ b)) (λ y. y ≡ x → ⊥) (λ y q e'. differ (sym (q .1) ∙ (rw (← e') at (p .1)))) (membersOf n w b) (rep .members b hb))
-          (membersOf n w g) in-g))
+          (each-imp (λ x p. each-imp (λ y q e'. differ (sym (q .1) ∙ (rw (← e') at (p .1)))) (rep .members b hb)) in-g))
       go (no d) (no d') = rw (members-other o ho d d') (rep .once o ho)
 
   pub same-work : length w' ≡ length w

@@ -6,21 +6,22 @@ use native.Mathlib.Omega.{arith}
 use lib.ListN.{length, getD, set, take, drop, length-set}
 use lib.Seq.{length-take-le, getD-set-other, getD-drop, drop-drop, drop-set-lt, take-set-lt}
 use Rattle.definitions.specs.Groups.{relabelled}
+use Rattle.laws.proofs.Lists.{Each, each-head, each-tail}
 use Rattle.aggregates.specs.JoinChoice.{at}
-use Rattle.aggregates.specs.JoinState.{All, Moves, chainOf, hop, moved, walk}
+use Rattle.aggregates.specs.JoinState.{Moves, chainOf, hop, moved, walk}
 use Rattle.aggregates.proofs.joining.Chains.{hop-suc, hop-low}
 use Rattle.aggregates.proofs.joining.View.{counts-are, heads-are, drop-4, take-4}
 
 pub record Relabelling (ids₀ work : List ℕ) (first n b : ℕ) (ids : List ℕ) (left cur last : ℕ) : Type 0 where
   pub most : left ≤ n
   pub same : length ids ≡ length ids₀
-  pub nodes : All (λ v. v < length ids₀) (walk left work cur)
+  pub nodes : Each (λ v. v < length ids₀) (walk left work cur)
   pub goes : relabelled b (walk left work cur) ids ≡ relabelled b (walk n work first) ids₀
   pub here : cur ≡ hop (n - left) work first
   pub was : left < n → last ≡ hop (n - left - 1) work first
 
 module _ (ids₀ work : List ℕ) (first n b : ℕ) where
-  pub relabel-first : All (λ v. v < length ids₀) (walk n work first) → Relabelling ids₀ work first n b ids₀ n first first
+  pub relabel-first : Each (λ v. v < length ids₀) (walk n work first) → Relabelling ids₀ work first n b ids₀ n first first
   unfolding hop
   relabel-first a = let e : n - n ≡ 0 = omega arith in record { most = omega arith; same = refl; nodes = a; goes = refl; here = rw e refl; was = λ h. absurd (omega arith) }
 
@@ -35,19 +36,19 @@ module _ (ids₀ work : List ℕ) (first n b : ℕ) where
 
       pub relabel-node : cur < length ids₀
       unfolding walk
-      relabel-node = let a : All (λ v. v < length ids₀) (walk (suc (left - 1)) work cur) = rw is at (inv .nodes) in a .0
+      relabel-node = let a : Each (λ v. v < length ids₀) (walk (suc (left - 1)) work cur) = rw is at (inv .nodes) in each-head a
 
       pub relabel-step : Relabelling ids₀ work first n b (set ids cur b) (left - 1) (getD work cur 0) cur
       unfolding walk relabelled
       relabel-step =
-          let a : All (λ v. v < length ids₀) (walk (suc (left - 1)) work cur) = rw is at (inv .nodes) in
+          let a : Each (λ v. v < length ids₀) (walk (suc (left - 1)) work cur) = rw is at (inv .nodes) in
           let g : relabelled b (walk (suc (left - 1)) work cur) ids ≡ relabelled b (walk n work first) ids₀ = rw is at (inv .goes) in
           let e : n - (left - 1) ≡ suc (n - left) = omega (arith, inv .most) in
           let e' : n - (left - 1) - 1 ≡ n - left = omega (arith, inv .most) in
           record {
             most = omega (arith, inv .most);
             same = length-set ids cur b ∙ inv .same;
-            nodes = a .1;
+            nodes = each-tail a;
             goes = g;
             here = rw (e, hop-suc (n - left) work first, ← inv .here) refl;
             was = λ h. rw e' (inv .here);
@@ -60,7 +61,7 @@ pub record Relabels (nodes first n b : ℕ) (w₀ w : List ℕ) (left cur last :
   pub front : Relabelling (take nodes w₀) (drop nodes w₀) first n b (take nodes w) left cur last
 
 module _ (nodes first n b : ℕ) (w₀ : List ℕ) (long : nodes ≤ length w₀) where
-  pub relabels-first : All (λ v. v < nodes) (walk n (drop nodes w₀) first) → Relabels nodes first n b w₀ w₀ n first first
+  pub relabels-first : Each (λ v. v < nodes) (walk n (drop nodes w₀) first) → Relabels nodes first n b w₀ w₀ n first first
   relabels-first a = record { same = refl; behind = refl; front = relabel-first (take nodes w₀) (drop nodes w₀) first n b (rw (length-take-le nodes w₀ long) a) }
 
   module _ (w : List ℕ) (left cur last : ℕ) (inv : Relabels nodes first n b w₀ w left cur last) where

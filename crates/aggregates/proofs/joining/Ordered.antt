@@ -8,7 +8,7 @@ use native.Mathlib.Omega.{arith}
 use borrow.Author.Tests.{ltb-true, ltb-false, eqb-true, eqb-false, le-ltb, eq-eqb, ne-eqb}
 use lib.Dec.{eqb, ltb}
 use Rattle.definitions.specs.Groups.{before, chosen}
-use Rattle.aggregates.specs.JoinState.{All}
+use Rattle.laws.proofs.Lists.{Each, none, more, each-head, each-tail}
 use Rattle.aggregates.proofs.Stops.{by-test}
 
 module _ (edges sizes : ℕ → ℕ) where
@@ -52,18 +52,18 @@ module _ (edges sizes : ℕ → ℕ) where
   best-of best l = chosen edges sizes best l
 
   -- what was best before is no better than the group chosen, and so is each of the list
-  pub chosen-first : (best : ℕ) (l : List ℕ) → All (λ o. 0 < o) l → ((best ≡ 0 → ⊥) → Behind best (best-of best l)) × All (λ a. Behind a (best-of best l)) l
+  pub chosen-first : (best : ℕ) (l : List ℕ) → Each (λ o. 0 < o) l → ((best ≡ 0 → ⊥) → Behind best (best-of best l)) × Each (λ a. Behind a (best-of best l)) l
   unfolding chosen
-  chosen-first best [] pos = (λ d. later refl refl (omega arith), tt)
+  chosen-first best [] pos = (λ d. later refl refl (omega arith), none)
   chosen-first best (a ∷ l) pos =
-      let new = chosen-first a l (pos .1) in
-      let old = chosen-first best l (pos .1) in
-      let first = new .0 (λ z. omega (arith, pos .0)) in
+      let new = chosen-first a l (each-tail pos) in
+      let old = chosen-first best l (each-tail pos) in
+      let first = new .0 (λ z. omega (arith, each-head pos)) in
       by-test (eqb best 0)
-      (λ e. rw (chosen, e) ((λ d. absurd (d (eqb-true best 0 e))), (first, new .1)))
+      (λ e. rw (chosen, e) ((λ d. absurd (d (eqb-true best 0 e))), more first (new .1)))
       (λ e. ⊎-elim
-      (λ p. rw (chosen, e, p .0) ((λ d. behind-trans best a (best-of a l) (p .1) first), (first, new .1)))
-      (λ p. rw (chosen, e, p .0) (old .0, (behind-trans a best (best-of best l) (p .1) (old .0 (eqb-false best 0 e)), old .1)))
+      (λ p. rw (chosen, e, p .0) ((λ d. behind-trans best a (best-of a l) (p .1) first), more first (new .1)))
+      (λ p. rw (chosen, e, p .0) (old .0, more (behind-trans a best (best-of best l) (p .1) (old .0 (eqb-false best 0 e))) (old .1)))
       (sides a best))
 
   -- the test of the definitions tells the same

@@ -10,11 +10,11 @@ use lib.ListN.{length, getD, length-append, replicate, length-replicate, getD-re
 use lib.Seq.{slice, length-slice}
 use Rattle.definitions.specs.Groups.{Groups, Joining, nodesIn, sizeIn, edgesTo, chosen, namedGroups, listed, noAnchor, takerOf}
 use Rattle.laws.proofs.Tests.{both-false}
-use Rattle.laws.proofs.Lists.{getD-tab, tab-cong}
+use Rattle.laws.proofs.Lists.{Each, none, more, each-head, each-tail, each-imp, each-append, getD-tab, tab-cong}
 use Rattle.aggregates.specs.JoinChoice.{at, othersBy, namedBy, named-is}
-use Rattle.aggregates.specs.JoinState.{All, Once, walk, total, moved, membersOf, stateOf, turnOf, Rep}
-use Rattle.aggregates.proofs.Stops.{Other, all-append, all-imp, by-test, chosen-keeps}
-use Rattle.aggregates.proofs.joining.Laws.{spare, degree, spare-within, all-part, offset-within}
+use Rattle.aggregates.specs.JoinState.{Once, total, moved, membersOf, stateOf, turnOf, Rep}
+use Rattle.aggregates.proofs.Stops.{Other, by-test, chosen-keeps}
+use Rattle.aggregates.proofs.NodeLists.{spare, degree, spare-within, each-part, offset-within}
 use Rattle.aggregates.proofs.joining.Together.{chosen-cong}
 use Rattle.aggregates.proofs.joining.Counting.{better-keeps}
 use Rattle.aggregates.proofs.joining.Chains.{walk-same, length-walk, total-within, once-append}
@@ -44,8 +44,8 @@ blank n = replicate n 0
 length-blank : (n : ℕ) → length (blank n) ≡ n
 length-blank n = length-replicate {A = ℕ} n 0
 
-all-blank : (n : ℕ) (l : List ℕ) → All (λ v. v < n) l → All (λ v. _≡_ {A = ℕ} (getD (blank n) v 0) 0) l
-all-blank n l a = all-imp (λ v. v < n) (λ v. _≡_ {A = ℕ} (getD (blank n) v 0) 0) (λ v h. getD-replicate {A = ℕ} n v 0 0 h) l a
+each-blank : (n : ℕ) (l : List ℕ) → Each (λ v. v < n) l → Each (λ v. _≡_ {A = ℕ} (getD (blank n) v 0) 0) l
+each-blank n l a = each-imp (λ v h. getD-replicate {A = ℕ} n v 0 0 h) a
 
 spare-ones : (v : ℕ) (xs : List ℕ) → spare (λ _. 1) v xs ≤ length xs
 unfolding spare
@@ -58,41 +58,41 @@ unfolding total
 total-ones [] = refl
 total-ones (v ∷ l) = omega (arith, total-ones l)
 
-once-short : (n : ℕ) (l : List ℕ) → Once l → All (λ v. v < n) l → length l ≤ n
+once-short : (n : ℕ) (l : List ℕ) → Once l → Each (λ v. v < n) l → length l ≤ n
 once-short n l o a =
-    omega (arith, total-ones l, total-within (λ _. 1) l (blank n) o (rw (length-blank n) a) (all-blank n l a), spare-ones 0 (blank n), length-blank n)
+    omega (arith, total-ones l, total-within (λ _. 1) l (blank n) o (rw (length-blank n) a) (each-blank n l a), spare-ones 0 (blank n), length-blank n)
 
 -- ---- WHAT THE LISTS OF SOME NODES NAME
 
-others-ok : (g : ℕ) (ids : List ℕ) (sizes : ℕ → ℕ) (P : ℕ → Type 0) (ws : List ℕ) → All (λ w. P (getD ids w 0)) ws → All (λ o. P o × Other g sizes o) (othersBy g ids sizes ws)
+others-ok : (g : ℕ) (ids : List ℕ) (sizes : ℕ → ℕ) (P : ℕ → Type 0) (ws : List ℕ) → Each (λ w. P (getD ids w 0)) ws → Each (λ o. P o × Other g sizes o) (othersBy g ids sizes ws)
 unfolding othersBy
-others-ok g ids sizes P [] a = tt
+others-ok g ids sizes P [] a = none
 others-ok g ids sizes P (w ∷ ws) a =
     let o = getD ids w 0 in
     by-test (eqb o g || eqb (sizes o) 0)
-    (λ e. rw (othersBy, e) (others-ok g ids sizes P ws (a .1)))
+    (λ e. rw (othersBy, e) (others-ok g ids sizes P ws (each-tail a)))
     (λ e.
     let z = both-false (eqb o g) (eqb (sizes o) 0) e in
-    rw (othersBy, e) ((a .0, (omega (arith, eqb-false (sizes o) 0 (z .1)), eqb-false o g (z .0))), others-ok g ids sizes P ws (a .1)))
+    rw (othersBy, e) (more (each-head a, (omega (arith, eqb-false (sizes o) 0 (z .1)), eqb-false o g (z .0))) (others-ok g ids sizes P ws (each-tail a))))
 
 module _ (lists : ℕ → List ℕ) (g : ℕ) where
-  named-ok : (ids : List ℕ) (sizes : ℕ → ℕ) (P : ℕ → Type 0) (vs : List ℕ) → All (λ v. All (λ w. P (getD ids w 0)) (lists v)) vs → All (λ o. P o × Other g sizes o) (namedBy lists g ids sizes vs)
+  named-ok : (ids : List ℕ) (sizes : ℕ → ℕ) (P : ℕ → Type 0) (vs : List ℕ) → Each (λ v. Each (λ w. P (getD ids w 0)) (lists v)) vs → Each (λ o. P o × Other g sizes o) (namedBy lists g ids sizes vs)
   unfolding namedBy
-  named-ok ids sizes P [] a = tt
-  named-ok ids sizes P (v ∷ vs) a = all-append (λ o. P o × Other g sizes o) (othersBy g ids sizes (lists v)) (namedBy lists g ids sizes vs) (others-ok g ids sizes P (lists v) (a .0)) (named-ok ids sizes P vs (a .1))
+  named-ok ids sizes P [] a = none
+  named-ok ids sizes P (v ∷ vs) a = each-append (others-ok g ids sizes P (lists v) (each-head a)) (named-ok ids sizes P vs (each-tail a))
 
-  pub named-cong : (ids ids' : List ℕ) (p q : ℕ → ℕ) (vs : List ℕ) → All (λ v. All (λ w. (getD ids w 0 ≡ getD ids' w 0) × (p (getD ids' w 0) ≡ q (getD ids' w 0))) (lists v)) vs → namedBy lists g ids p vs ≡ namedBy lists g ids' q vs
+  pub named-cong : (ids ids' : List ℕ) (p q : ℕ → ℕ) (vs : List ℕ) → Each (λ v. Each (λ w. (getD ids w 0 ≡ getD ids' w 0) × (p (getD ids' w 0) ≡ q (getD ids' w 0))) (lists v)) vs → namedBy lists g ids p vs ≡ namedBy lists g ids' q vs
   unfolding namedBy
   named-cong ids ids' p q [] a = refl
-  named-cong ids ids' p q (v ∷ vs) a = rw (others-cong g ids ids' p q (lists v) (a .0), named-cong ids ids' p q vs (a .1)) refl
+  named-cong ids ids' p q (v ∷ vs) a = rw (others-cong g ids ids' p q (lists v) (each-head a), named-cong ids ids' p q vs (each-tail a)) refl
 
 module _ (n groups : ℕ) (offsets nb ids w : List ℕ) (rep : Rep n groups offsets nb ids w) where
   abbrev pub S : Groups
   S = stateOf n groups ids w
 
-  pub listed-all : (P : ℕ → Type 0) → ((x : ℕ) → x < n → P x) → (v : ℕ) → v < n → All P (listed offsets nb v)
+  pub listed-each : (P : ℕ → Type 0) → ((x : ℕ) → x < n → P x) → (v : ℕ) → v < n → Each P (listed offsets nb v)
   unfolding listed
-  listed-all P f v h = all-part P (getD offsets v 0) (getD offsets (suc v) 0) nb (offset-within n offsets nb (rep .lists) (suc v) h) (λ k l. f (getD nb k 0) (rep .lists .within k l))
+  listed-each P f v h = each-part P (getD offsets v 0) (getD offsets (suc v) 0) nb (offset-within n offsets nb (rep .lists) (suc v) h) (λ k l. f (getD nb k 0) (rep .lists .within k l))
 
   members-are : (o : ℕ) → o ≤ groups → nodesIn S o ≡ membersOf n w o
   unfolding stateOf
@@ -102,24 +102,24 @@ module _ (n groups : ℕ) (offsets nb ids w : List ℕ) (rep : Rep n groups offs
   unfolding membersOf
   size-is o h = ap length (members-are o h) ∙ length-walk (at (2 * n + 1) w o) w (at n w o)
 
-  pub low-members : (o : ℕ) → o ≤ groups → All (λ v. v < n) (membersOf n w o)
-  low-members o h = all-imp (λ v. (v < n) × (getD ids v 0 ≡ o)) (λ v. v < n) (λ v p. p .0) (membersOf n w o) (rep .members o h)
+  pub low-members : (o : ℕ) → o ≤ groups → Each (λ v. v < n) (membersOf n w o)
+  low-members o h = each-imp (λ v p. p .0) (rep .members o h)
 
-  named-short : (g : ℕ) (sizes : ℕ → ℕ) (vs : List ℕ) → All (λ v. v < n) vs → length (namedBy (listed offsets nb) g ids sizes vs) ≤ total (degree offsets) vs
+  named-short : (g : ℕ) (sizes : ℕ → ℕ) (vs : List ℕ) → Each (λ v. v < n) vs → length (namedBy (listed offsets nb) g ids sizes vs) ≤ total (degree offsets) vs
   unfolding namedBy total listed
   named-short g sizes [] a = omega arith
   named-short g sizes (v ∷ vs) a = omega (
     arith,
     length-append (othersBy g ids sizes (slice (getD offsets v 0) (getD offsets (suc v) 0) nb)) (namedBy (listed offsets nb) g ids sizes vs),
     others-short g ids sizes (slice (getD offsets v 0) (getD offsets (suc v) 0) nb),
-    length-slice (getD offsets v 0) (getD offsets (suc v) 0) nb (offset-within n offsets nb (rep .lists) (suc v) (a .0)),
-    named-short g sizes vs (a .1),
+    length-slice (getD offsets v 0) (getD offsets (suc v) 0) nb (offset-within n offsets nb (rep .lists) (suc v) (each-head a)),
+    named-short g sizes vs (each-tail a),
   )
 
   pub edges-within : (g : ℕ) → g ≤ groups → total (degree offsets) (membersOf n w g) ≤ length nb
   edges-within g hg = omega (
     arith,
-    total-within (degree offsets) (membersOf n w g) (blank n) (rep .once g hg) (rw (length-blank n) (low-members g hg)) (all-blank n (membersOf n w g) (low-members g hg)),
+    total-within (degree offsets) (membersOf n w g) (blank n) (rep .once g hg) (rw (length-blank n) (low-members g hg)) (each-blank n (membersOf n w g) (low-members g hg)),
     spare-within n offsets nb (rep .lists) (blank n) (length-blank n),
   )
 
@@ -139,12 +139,12 @@ module _ (n groups : ℕ) (offsets nb ids w : List ℕ) (rep : Rep n groups offs
     names-few = omega (arith, named-short g (at (2 * n + 1) w) (membersOf n w g) (low-members g hg), edges-within g hg)
 
     -- each of them is another group that has members
-    pub names-ok : All (λ o. (o ≤ groups) × Other g (at (2 * n + 1) w) o) names
+    pub names-ok : Each (λ o. (o ≤ groups) × Other g (at (2 * n + 1) w) o) names
     names-ok = named-ok (listed offsets nb) g ids (at (2 * n + 1) w) (λ o. o ≤ groups) (membersOf n w g)
-        (all-imp (λ v. v < n) (λ v. All (λ x. getD ids x 0 ≤ groups) (listed offsets nb v)) (λ v h. listed-all (λ x. getD ids x 0 ≤ groups) (rep .grouped) v h) (membersOf n w g) (low-members g hg))
+        (each-imp (λ v h. listed-each (λ x. getD ids x 0 ≤ groups) (rep .grouped) v h) (low-members g hg))
 
-    pub low-names : All (λ o. o ≤ groups) names
-    low-names = all-imp (λ o. (o ≤ groups) × Other g (at (2 * n + 1) w) o) (λ o. o ≤ groups) (λ o p. p .0) names names-ok
+    pub low-names : Each (λ o. o ≤ groups) names
+    low-names = each-imp (λ o p. p .0) names-ok
 
     -- sizes that agree give the same choice
     pub choice-same : (sizes : ℕ → ℕ) → ((o : ℕ) → o ≤ groups → sizes o ≡ at (2 * n + 1) w o) → chosen (edgesTo names) sizes 0 names ≡ chosen (edgesTo names) (at (2 * n + 1) w) 0 names
@@ -154,9 +154,7 @@ module _ (n groups : ℕ) (offsets nb ids w : List ℕ) (rep : Rep n groups offs
     pub same-names : namedGroups (listed offsets nb) noAnchor g S (nodesIn S g) ≡ names
     unfolding stateOf
     same-names = named-is (listed offsets nb) g S (nodesIn S g) ∙ rw (members-are g hg) (named-cong (listed offsets nb) g ids ids (sizeIn S) (at (2 * n + 1) w) (membersOf n w g)
-        (all-imp (λ v. v < n) (λ v. All (λ x. (getD ids x 0 ≡ getD ids x 0) × (sizeIn S (getD ids x 0) ≡ at (2 * n + 1) w (getD ids x 0))) (listed offsets nb v))
-        (λ v h. listed-all (λ x. (getD ids x 0 ≡ getD ids x 0) × (sizeIn S (getD ids x 0) ≡ at (2 * n + 1) w (getD ids x 0))) (λ x l. (refl, size-is (getD ids x 0) (rep .grouped x l))) v h)
-        (membersOf n w g) (low-members g hg)))
+        (each-imp (λ v h. listed-each (λ x. (getD ids x 0 ≡ getD ids x 0) × (sizeIn S (getD ids x 0) ≡ at (2 * n + 1) w (getD ids x 0))) (λ x l. (refl, size-is (getD ids x 0) (rep .grouped x l))) v h) (low-members g hg)))
 
     module _ (some : 0 < at (2 * n + 1) w g) (low : at (2 * n + 1) w g < floor) where
       pub taker-is : takerOf (listed offsets nb) noAnchor floor S g ≡ chosen (edgesTo names) (at (2 * n + 1) w) 0 names
@@ -167,7 +165,7 @@ module _ (n groups : ℕ) (offsets nb ids w : List ℕ) (rep : Rep n groups offs
         pub good : (b ≤ groups) × Other g (at (2 * n + 1) w) b
         good =
             let Q : ℕ → Type 0 = λ o. (o ≡ 0 → ⊥) → (o ≤ groups) × Other g (at (2 * n + 1) w) o in
-            let k : Q b = rw b-is (chosen-keeps Q (edgesTo names) (at (2 * n + 1) w) 0 names (λ z. absurd (z refl)) (all-imp (λ o. (o ≤ groups) × Other g (at (2 * n + 1) w) o) Q (λ o p z. p) names names-ok)) in
+            let k : Q b = rw b-is (chosen-keeps Q (edgesTo names) (at (2 * n + 1) w) 0 names (λ z. absurd (z refl)) (each-imp (λ o p z. p) names-ok)) in
             k found
 
         -- the two groups have different members
@@ -182,9 +180,8 @@ module _ (n groups : ℕ) (offsets nb ids w : List ℕ) (rep : Rep n groups offs
               length-walk (at (2 * n + 1) w g) w (at n w g),
               length-walk (at (2 * n + 1) w b) w (at n w b),
               once-short n (A ++ B)
-                  (once-append A B (rep .once g hg) (rep .once b (good .0)) (all-imp (λ v. (v < n) × (getD ids v 0 ≡ g)) (λ x. All (λ y. y ≡ x → ⊥) B)
-                  (λ x p. all-imp (λ v. (v < n) × (getD ids v 0 ≡ b)) (λ y. y ≡ x → ⊥) (λ y q e. good .1 .1 (sym (q .1) ∙ (rw (← e) at (p .1)))) B (rep .members b (good .0))) A (rep .members g hg)))
-                  (all-append (λ v. v < n) A B (low-members g hg) (low-members b (good .0))),
+                  (once-append A B (rep .once g hg) (rep .once b (good .0)) (each-imp (λ x p. each-imp (λ y q e. good .1 .1 (sym (q .1) ∙ (rw (← e) at (p .1)))) (rep .members b (good .0))) (rep .members g hg)))
+                  (each-append (low-members g hg) (low-members b (good .0))),
             )
 
 -- a work list that agrees up to the names stands for the same groups
@@ -194,7 +191,7 @@ module _ (n groups : ℕ) (offsets nb ids w w₁ : List ℕ) (rep : Rep n groups
   chain-still o h =
       let c : at (2 * n + 1) w₁ o ≡ at (2 * n + 1) w o = front (2 * n + 1 + o) (omega (arith, rep .few)) in
       let d : at n w₁ o ≡ at n w o = front (n + o) (omega (arith, rep .few)) in
-      rw (c, d) (walk-same w w₁ (at (2 * n + 1) w o) (at n w o) (all-imp (λ v. v < n) (λ v. getD w₁ v 0 ≡ getD w v 0) (λ v l. front v (omega arith)) (walk (at (2 * n + 1) w o) w (at n w o)) (low-members n groups offsets nb ids w rep o h)))
+      rw (c, d) (walk-same w w₁ (at (2 * n + 1) w o) (at n w o) (each-imp (λ v l. front v (omega arith)) (low-members n groups offsets nb ids w rep o h)))
 
   pub state-still : stateOf n groups ids w₁ ≡ stateOf n groups ids w
   unfolding stateOf

@@ -7,16 +7,16 @@ use lib.ListN.{length, getD, take, drop, length-drop}
 use lib.Seq.{slice, drop-at, getD-drop, getD-take, take-take, take-append-le, length-take-le}
 use Rattle.definitions.specs.Groups.{Joining, sizeIn, edgesTo, chosen, listed, noAnchor, takerOf, joined, replay, relabelled}
 use Rattle.definitions.specs.JoiningLog.{ruleOf, logOf}
+use Rattle.laws.proofs.Lists.{each-imp, each-at}
 use Rattle.aggregates.specs.JoinChoice.{at, namedBy, Named, Zeros}
-use Rattle.aggregates.specs.JoinState.{All, chainOf, moved, membersOf, stateIn, turnOf, Rep, Turned, Gathers, Moves}
+use Rattle.aggregates.specs.JoinState.{chainOf, moved, membersOf, stateIn, turnOf, Rep, Turned, Gathers, Moves}
 use Rattle.aggregates.specs.Log.{Rules, ruleIn, noted, turnLog}
-use Rattle.aggregates.proofs.Stops.{Other, all-imp}
-use Rattle.aggregates.proofs.joining.Laws.{getD-all}
+use Rattle.aggregates.proofs.Stops.{Other}
 use Rattle.aggregates.proofs.joining.View.{counts-are, heads-are}
 use Rattle.aggregates.proofs.joining.Edges.{front-kept}
 use Rattle.aggregates.proofs.joining.Ruled.{rule-same}
 use Rattle.aggregates.proofs.joining.Moved.{moved-state, moved-rep}
-use Rattle.aggregates.proofs.joining.Turns.{turn-stays, turn-joins, listed-all, low-members, edges-within, none-empty, none-floor, names, names-few, names-ok, named-cong, choice-same, taker-is, good, both-few, state-still, rep-still}
+use Rattle.aggregates.proofs.joining.Turns.{turn-stays, turn-joins, listed-each, low-members, edges-within, none-empty, none-floor, names, names-few, names-ok, named-cong, choice-same, taker-is, good, both-few, state-still, rep-still}
 
 pub chain-is : (n : ℕ) (w : List ℕ) (g : ℕ) → chainOf n w g ≡ membersOf n (drop n w) g
 unfolding membersOf
@@ -59,10 +59,8 @@ module _ (n groups : ℕ) (offsets nb w : List ℕ) (rep : Rep n groups offsets 
     -- the names by the whole list
     named-are : namedBy (listed offsets nb) g w (at (3 * n + 1) w) (chainOf n w g) ≡ named
     named-are = rw (chain-is n w g) (named-cong (listed offsets nb) g w (take n w) (at (3 * n + 1) w) (at (2 * n + 1) (drop n w)) (membersOf n (drop n w) g)
-        (all-imp (λ v. v < n) (λ v. All (λ x. (getD w x 0 ≡ getD (take n w) x 0) × (at (3 * n + 1) w (getD (take n w) x 0) ≡ at (2 * n + 1) (drop n w) (getD (take n w) x 0))) (listed offsets nb v))
-        (λ v h. listed-all n groups offsets nb (take n w) (drop n w) rep (λ x. (getD w x 0 ≡ getD (take n w) x 0) × (at (3 * n + 1) w (getD (take n w) x 0) ≡ at (2 * n + 1) (drop n w) (getD (take n w) x 0)))
-        (λ x l. (sym (getD-take n w x 0 l), counts-are n w (getD (take n w) x 0))) v h)
-        (membersOf n (drop n w) g) (low-members n groups offsets nb (take n w) (drop n w) rep g hg)))
+        (each-imp (λ v h. listed-each n groups offsets nb (take n w) (drop n w) rep (λ x. (getD w x 0 ≡ getD (take n w) x 0) × (at (3 * n + 1) w (getD (take n w) x 0) ≡ at (2 * n + 1) (drop n w) (getD (take n w) x 0)))
+        (λ x l. (sym (getD-take n w x 0 l), counts-are n w (getD (take n w) x 0))) v h) (low-members n groups offsets nb (take n w) (drop n w) rep g hg)))
 
     -- after `gather`
     module _ (w₁ : List ℕ) (end : ℕ) (long : length w₁ ≡ length w)
@@ -101,7 +99,7 @@ module _ (n groups : ℕ) (offsets nb w : List ℕ) (rep : Rep n groups offsets 
           let j = k - (5 * n + 3) in
           let e : 5 * n + 3 + j ≡ k = omega arith in
           let is : getD w₁ k 0 ≡ getD named j 0 = ap (λ x. getD w₁ x 0) (sym e) ∙ (sym (getD-take end w₁ (5 * n + 3 + j) 0 (omega arith)) ∙ sym (getD-drop (5 * n + 3) (take end w₁) j 0) ∙ ap (λ l. getD l j 0) names-are) in
-          omega (arith, is, getD-all (λ o. (o ≤ groups) × Other g (at (2 * n + 1) (drop n w)) o) named (names-ok n groups offsets nb (take n w) (drop n w) rep floor g hg) j (omega (arith, count)) .0, rep .few)
+          omega (arith, is, each-at named j 0 (names-ok n groups offsets nb (take n w) (drop n w) rep floor g hg) (omega (arith, count)) .0, rep .few)
 
       pub zeros-still : Zeros (4 * n + 2) (5 * n + 3) w₁
       zeros-still k lo hi =

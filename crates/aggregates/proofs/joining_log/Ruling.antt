@@ -9,8 +9,8 @@ use borrow.Author.Tests.{eq-eqb, ne-eqb}
 use lib.ListN.{length, getD}
 use lib.Seq.{slice, slice-cons, slice-empty}
 use Rattle.definitions.specs.Groups.{edgesTo}
+use Rattle.laws.proofs.Lists.{Each, none, each-head, each-tail}
 use Rattle.aggregates.specs.JoinChoice.{bump, at}
-use Rattle.aggregates.specs.JoinState.{All}
 use Rattle.aggregates.specs.Log.{Rules, ruleAgainst, ruleBy}
 use Rattle.aggregates.proofs.joining.Together.{low, same-names, edges-counted, sizes-kept}
 
@@ -60,10 +60,10 @@ module _ (P : ℕ → Type 0) (e m e' m' : ℕ → ℕ) (same-e : (x : ℕ) → 
       go (no d) (yes x) (no y) = against-members e m b a d (same-e a q ∙ x ∙ sym (same-e b p)) (λ h. y (sym (same-m a q) ∙ h ∙ same-m b p)) ∙ sym (against-members e' m' b a d x y)
       go (no d) (yes x) (yes y) = against-id e m b a d (same-e a q ∙ x ∙ sym (same-e b p)) (same-m a q ∙ y ∙ sym (same-m b p)) ∙ sym (against-id e' m' b a d x y)
 
-  pub rule-cong : (r : ℕ) (l : List ℕ) → All P l → ruleBy e m b r l ≡ ruleBy e' m' b r l
+  pub rule-cong : (r : ℕ) (l : List ℕ) → Each P l → ruleBy e m b r l ≡ ruleBy e' m' b r l
   unfolding ruleBy
   rule-cong r [] a = refl
-  rule-cong r (x ∷ l) a = ap (λ t. ruleBy e m b (max r t) l) (against-cong x (a .0)) ∙ rule-cong (max r (ruleAgainst e' m' b x)) l (a .1)
+  rule-cong r (x ∷ l) a = ap (λ t. ruleBy e m b (max r t) l) (against-cong x (each-head a)) ∙ rule-cong (max r (ruleAgainst e' m' b x)) l (each-tail a)
 
 -- `tally` and the scan: by the edges that lead to a group
 pub rule-by : (w : List ℕ) (counts hits from end b : ℕ) → Rules counts hits from end b w → ruleBy (at hits (bump hits (slice from end w) w)) (at counts (bump hits (slice from end w) w)) b 1 (slice from end (bump hits (slice from end w) w)) ≡ ruleBy (edgesTo (slice from end w)) (at counts w) b 1 (slice from end w)

@@ -1,12 +1,12 @@
 -- Lists of nodes: what holds of every element, and the entries of the lists of different nodes, which together are at most all.
 use mathlib.Core.Path.{_≡_}
-use mathlib.Core.List.{List, [], _∷_}
+use mathlib.Core.List.{List, [], _∷_, _++_}
 use Prim.Native.Nat.{ℕ, zero, suc, _+_, _-_, _≤_, _<_}
 use native.Mathlib.Omega.{arith}
 use lib.ListN.{length, getD, set, take}
 use lib.Seq.{slice, length-slice, getD-drop, getD-take}
+use Rattle.laws.proofs.Lists.{Each, each-head, each-right, each-by}
 use Rattle.aggregates.specs.Lists.{Lists}
-use Rattle.aggregates.specs.JoinState.{All}
 
 -- the entries of the lists of the nodes that are marked 0
 unfoldable pub spare : (ℕ → ℕ) → ℕ → List ℕ → ℕ
@@ -53,21 +53,12 @@ module _ (n : ℕ) (offsets nb : List ℕ) (ok : Lists n offsets nb) where
       let e' : 0 + length ids ≡ n = omega arith in
       omega (arith, ok .ends, rw e' at (spare-from offsets 0 ids (λ u h. ok .rises u (omega arith))))
 
-pub all-getD : (P : ℕ → Type 0) (xs : List ℕ) → ((k : ℕ) → k < length xs → P (getD xs k 0)) → All P xs
-all-getD P [] f = tt
-all-getD P (x ∷ xs) f = (f 0 (omega arith), all-getD P xs (λ k h. f (suc k) (omega arith)))
-
-pub getD-all : (P : ℕ → Type 0) (l : List ℕ) → All P l → (k : ℕ) → k < length l → P (getD l k 0)
-getD-all P [] a k h = absurd (omega arith)
-getD-all P (x ∷ l) a zero h = a .0
-getD-all P (x ∷ l) a (suc k) h = getD-all P l (a .1) k (omega arith)
-
-pub all-both : (P Q : ℕ → Type 0) (l : List ℕ) → All P l → All Q l → All (λ v. P v × Q v) l
-all-both P Q [] a b = tt
-all-both P Q (x ∷ l) a b = ((a .0, b .0), all-both P Q l (a .1) (b .1))
+-- the last of a list
+pub each-last : {P : ℕ → Type 0} (l : List ℕ) {x : ℕ} → Each P (l ++ (x ∷ [])) → P x
+each-last l a = each-head (each-right l a)
 
 -- the elements of a part of a list, by their places in the whole
-pub all-part : (P : ℕ → Type 0) (f t : ℕ) (nb : List ℕ) → t ≤ length nb → ((k : ℕ) → k < length nb → P (getD nb k 0)) → All P (slice f t nb)
-all-part P f t nb h b = all-getD P (slice f t nb) (λ k l.
+pub each-part : (P : ℕ → Type 0) (f t : ℕ) (nb : List ℕ) → t ≤ length nb → ((k : ℕ) → k < length nb → P (getD nb k 0)) → Each P (slice f t nb)
+each-part P f t nb h b = each-by (slice f t nb) 0 (λ k l.
     let m : f + k < t = omega (arith, length-slice f t nb h) in
     rw (getD-drop f (take t nb) k 0, getD-take t nb (f + k) 0 m) (b (f + k) (omega arith)))
