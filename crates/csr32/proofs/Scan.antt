@@ -24,24 +24,34 @@ unfolding any
 any-end f xs i h = rw (h, drop-length xs)
 
 -- A scan that goes on to the end: something was found, or is found in what is left.
-module _ {A : Type 0} (f : A → Bool) (xs : List A) (i : ℕ) (found : Bool) (e : any f xs ≡ (found || any f (drop i xs))) where
-  module _ (d : A) (h : i < length xs) (now : Bool) where
-    pub scan-hit : now ≡ true → f (getD xs i d) ≡ true → any f xs ≡ (now || any f (drop (i + 1) xs))
-    scan-hit n t = e ∙ rw (any-found f xs i d h t, n) (either found)
-      where
-        either : (b : Bool) → (b || true) ≡ true
-        either true = refl
-        either false = refl
+module _ (whole left found : Bool) (e : whole ≡ (found || left)) where
+  pub went-hit : (now next : Bool) → now ≡ true → left ≡ true → whole ≡ (now || next)
+  went-hit now next n t = e ∙ rw (t, n) (either found)
+    where
+      either : (b : Bool) → (b || true) ≡ true
+      either true = refl
+      either false = refl
 
-    pub scan-miss : now ≡ found → f (getD xs i d) ≡ false → any f xs ≡ (now || any f (drop (i + 1) xs))
-    scan-miss n t = e ∙ rw (any-passed f xs i d h t, n)
+  pub went-miss : (now next : Bool) → now ≡ found → left ≡ next → whole ≡ (now || next)
+  went-miss now next n t = e ∙ rw (t, n)
 
-  pub scan-end : i ≡ length xs → found ≡ any f xs
-  scan-end h = sym (e ∙ rw (any-end f xs i h) (alone found))
+  pub went-end : left ≡ false → found ≡ whole
+  went-end t = sym (e ∙ rw t (alone found))
     where
       alone : (b : Bool) → (b || false) ≡ b
       alone true = refl
       alone false = refl
+
+module _ {A : Type 0} (f : A → Bool) (xs : List A) (i : ℕ) (found : Bool) (e : any f xs ≡ (found || any f (drop i xs))) where
+  module _ (d : A) (h : i < length xs) (now : Bool) where
+    pub scan-hit : now ≡ true → f (getD xs i d) ≡ true → any f xs ≡ (now || any f (drop (i + 1) xs))
+    scan-hit n t = went-hit _ _ found e now _ n (any-found f xs i d h t)
+
+    pub scan-miss : now ≡ found → f (getD xs i d) ≡ false → any f xs ≡ (now || any f (drop (i + 1) xs))
+    scan-miss n t = went-miss _ _ found e now _ n (any-passed f xs i d h t)
+
+  pub scan-end : i ≡ length xs → found ≡ any f xs
+  scan-end h = went-end _ _ found e (any-end f xs i h)
 
 -- a pointer and the one before it
 module _ (p : List ℕ) (i : ℕ) (k : 0 < i) (h : i < length p) where

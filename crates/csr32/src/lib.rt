@@ -17,21 +17,22 @@ ghost use Rattle.definitions.specs.Answers.{answerOf};
 ghost use Rattle.csr32.specs.Rows.{Rows, outside, unreal};
 ghost use Rattle.csr32.specs.Found.{some};
 
-// Whether some pointer is above the one after it.
+// Whether some pointer is above the one after it. The loop does not leave early: so the compiler takes several numbers at once.
 pub fn pointer_falls(row_ptr: &[u32]) -> bool
     ensures { λ r. ⌜ r ≡ falls (now («row_ptr» .entry)) ⌝ }
 {
+    let mut found = false;
     let mut i: usize = 1;
     while i < row_ptr.len() {
         if row_ptr[i] < row_ptr[i - 1] {
-            return true;
+            found = true;
         }
         i += 1;
     }
-    false
+    found
 }
 
-// Whether some number is not below top. The loop does not leave early: so the compiler takes several numbers at once.
+// Whether some number is not below top. Again the loop does not leave early.
 fn reaches(numbers: &[u32], top: u32) -> bool
     ensures { λ r. ⌜ r ≡ outside top (now (numbers .entry)) ⌝ }
 {

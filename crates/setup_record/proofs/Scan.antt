@@ -1,22 +1,20 @@
--- A test over a list, element by element: what the elements not yet passed say.
-use Prim.Native.Nat.{ℕ, _+_, _<_}
-use mathlib.Core.Path.{_≡_}
-use mathlib.Core.Bool.{Bool, true, false}
-use mathlib.Core.List.{List}
-use native.Mathlib.Numerals.{add-one}
-use lib.ListN.{length, getD, drop}
-use lib.Seq.{drop-cons, drop-length}
-use Rattle.definitions.specs.Lists.{all}
+-- Every number is below a bound where none is at it or above.
+use Prim.Native.Nat.{ℕ, _<_, _≤_}
+use mathlib.Core.Path.{_≡_, refl}
+use mathlib.Core.Bool.{not, _&&_, _||_}
+use mathlib.Core.List.{List, [], _∷_}
+use native.Mathlib.Decide.{decLe}
+use native.Mathlib.Omega.{arith}
+use lib.Dec.{leb, ltb}
+use borrow.Author.Tests.{le-leb, lt-leb, lt-ltb, le-ltb}
+use Rattle.definitions.specs.Lists.{any, all}
+use Rattle.csr32.specs.Rows.{outside}
 
-module _ {A : Type 0} (p : A → Bool) (d : A) (xs : List A) (i : ℕ) where
-  pub all-found : i < length xs → p (getD xs i d) ≡ false → all p (drop i xs) ≡ false
-  unfolding all
-  all-found h e = rw (drop-cons xs i d h, e, all)
-
-  pub all-passed : i < length xs → p (getD xs i d) ≡ true → all p (drop i xs) ≡ all p (drop (i + 1) xs)
-  unfolding all
-  all-passed h e = rw (add-one, drop-cons xs i d h, e, all)
-
-pub all-end : {A : Type 0} (p : A → Bool) (xs : List A) (i : ℕ) → i ≡ length xs → all p (drop i xs) ≡ true
-unfolding all
-all-end p xs i h = rw (h, drop-length xs)
+pub below-all : (b : ℕ) (xs : List ℕ) → not (outside b xs) ≡ all (λ k. ltb k b) xs
+unfolding all any
+below-all b [] = refl
+below-all b (x ∷ xs) = step (decLe b x) (below-all b xs)
+  where
+    step : Dec (b ≤ x) → not (outside b xs) ≡ all (λ k. ltb k b) xs → not (leb b x || outside b xs) ≡ (ltb x b && all (λ k. ltb k b) xs)
+    step (yes h) e = rw (le-leb b x h, le-ltb x b h)
+    step (no h) e = let q : x < b = omega arith in rw (lt-leb b x q, lt-ltb x b q, e)
