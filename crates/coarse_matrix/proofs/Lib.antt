@@ -3,3 +3,4 @@ pub mod Checks
 pub mod Marking
 pub mod Weighing
 pub mod Product
+pub mod Zeros

@@ -6,8 +6,8 @@ use mathlib.Core.List.{List, [], _∷_, _++_, map, flatMap, foldl-append}
 use native.Mathlib.Omega.{arith}
 use native.Mathlib.Numerals.{add-one}
 use lib.Dec.{eqb}
-use lib.ListN.{length, getD, take, drop, replicate, length-append, length-drop, getD-replicate, length-replicate}
-use lib.Seq.{getD-take, getD-drop, length-take-le, take-at}
+use lib.ListN.{length, getD, take, drop, replicate, length-drop, getD-replicate, length-replicate}
+use lib.Seq.{getD-take, getD-drop, length-take-le}
 use lib.Ieee.{Float, nan}
 use borrow.Author.Tests.{eqb-true, eqb-false, eq-eqb}
 use Rattle.definitions.specs.Lists.{upTo, keep, square, padded}
@@ -20,11 +20,12 @@ use Rattle.averaging.proofs.Lists.{square-is}
 use Rattle.averaging.proofs.Laws.{average-fits}
 use Rattle.averaging.proofs.Places.{place}
 use Rattle.csr32.proofs.Stored.{where-append, where-hit, where-miss, where-none}
+use Rattle.laws.proofs.Lists.{Each, each-head, each-tail, each-by}
 use Rattle.laws.proofs.Growing.{flatMap-snoc, upTo-snoc, rows-none}
 use Rattle.laws.specs.Scatter.{put, scatter}
 use Rattle.coarse_matrix.specs.Galerkin.{scaled, productPuts, putAt, mark, Room, Told, Seen, Put, weightPuts, weighedPuts, rowTerms, RowAdded, RowsAdded}
 use Rattle.laws.proofs.Scattering.{plus, scatter-at, length-scatter}
-use Rattle.coarse_matrix.proofs.Squares.{All, all-of, at-row, off-row}
+use Rattle.coarse_matrix.proofs.Squares.{at-row, off-row}
 use Rattle.coarse_matrix.proofs.Marking.{others-all}
 use Rattle.coarse_matrix.proofs.Weighing.{listed-below}
 
@@ -62,9 +63,9 @@ keep-member (x ∷ js) (suc t) h e = step (eqb x (getD js t 0)) refl (keep-membe
     step false q ih = ih (rw (q, keep) at e)
 
 module _ (c base token : ℕ) (ints : List ℕ) (floats : List Float) (count : ℕ) (es : List Entry) (s : Seen c base token ints floats count es) (big : c + count ≤ length ints) where
-  listed : All (λ k. getD floats (base + k) nan ≡ total (putAt k es)) (take count (drop c ints))
+  listed : Each (λ k. getD floats (base + k) nan ≡ total (putAt k es)) (take count (drop c ints))
   unfolding mark
-  listed = all-of (λ k. getD floats (base + k) nan ≡ total (putAt k es)) 0 (take count (drop c ints)) (λ t h. found t h)
+  listed = each-by (take count (drop c ints)) 0 (λ t h. found t h)
     where
       n : length (take count (drop c ints)) ≡ count
       n = length-take-le count (drop c ints) (rw (length-drop c ints) (omega arith))
@@ -85,27 +86,27 @@ module _ (c base token : ℕ) (ints : List ℕ) (floats : List Float) (count : �
 
 -- ---- what a transfer row's weights put at (i, j)
 
-module _ (c base : ℕ) (floats : List Float) (terms : ℕ → List Float) (js : List ℕ) (within : All (λ k. k < c) js)
-    (sums : All (λ k. getD floats (base + k) nan ≡ total (terms k)) js) (touched : (j : ℕ) → keep (λ k. eqb k j) js ≡ mark (terms j) j) where
-  weight-hit : (i j : ℕ) (e : Entry) → j < c → e .col ≡ i → (ks : List ℕ) → All (λ k. k < c) ks → All (λ k. getD floats (base + k) nan ≡ total (terms k)) ks
+module _ (c base : ℕ) (floats : List Float) (terms : ℕ → List Float) (js : List ℕ) (within : Each (λ k. k < c) js)
+    (sums : Each (λ k. getD floats (base + k) nan ≡ total (terms k)) js) (touched : (j : ℕ) → keep (λ k. eqb k j) js ≡ mark (terms j) j) where
+  weight-hit : (i j : ℕ) (e : Entry) → j < c → e .col ≡ i → (ks : List ℕ) → Each (λ k. k < c) ks → Each (λ k. getD floats (base + k) nan ≡ total (terms k)) ks
       → putAt (i * c + j) (weightPuts base floats (e .col * c) (e .value) ks) ≡ map (λ k. e .value *ᶠ total (terms k)) (keep (λ k. eqb k j) ks)
   unfolding keep
   weight-hit i j e hj q [] h a = where-none (λ n. eqb n (i * c + j))
-  weight-hit i j e hj q (k ∷ ks) h a = step (eqb k j) refl (weight-hit i j e hj q ks (h .1) (a .1))
+  weight-hit i j e hj q (k ∷ ks) h a = step (eqb k j) refl (weight-hit i j e hj q ks (each-tail h) (each-tail a))
     where
       f : ℕ → Entry
       f k = put (e .col * c + k) (e .value *ᶠ getD floats (base + k) nan)
 
       step : (b : Bool) → eqb k j ≡ b → putAt (i * c + j) (map f ks) ≡ map (λ k. e .value *ᶠ total (terms k)) (keep (λ k. eqb k j) ks)
           → putAt (i * c + j) (f k ∷ map f ks) ≡ map (λ k. e .value *ᶠ total (terms k)) (keep (λ k. eqb k j) (k ∷ ks))
-      step true p ih = where-hit (λ n. eqb n (i * c + j)) (f k) (map f ks) (at-row (e .col) i k j c (h .0) hj q ∙ p) ∙ rw (p, keep) (rw (ih, a .0))
-      step false p ih = where-miss (λ n. eqb n (i * c + j)) (f k) (map f ks) (at-row (e .col) i k j c (h .0) hj q ∙ p) ∙ rw (p, keep) ih
+      step true p ih = where-hit (λ n. eqb n (i * c + j)) (f k) (map f ks) (at-row (e .col) i k j c (each-head h) hj q ∙ p) ∙ rw (p, keep) (rw (ih, each-head a))
+      step false p ih = where-miss (λ n. eqb n (i * c + j)) (f k) (map f ks) (at-row (e .col) i k j c (each-head h) hj q ∙ p) ∙ rw (p, keep) ih
 
-  weight-miss : (i j : ℕ) (e : Entry) → j < c → (e .col ≡ i → ⊥) → (ks : List ℕ) → All (λ k. k < c) ks → putAt (i * c + j) (weightPuts base floats (e .col * c) (e .value) ks) ≡ []
+  weight-miss : (i j : ℕ) (e : Entry) → j < c → (e .col ≡ i → ⊥) → (ks : List ℕ) → Each (λ k. k < c) ks → putAt (i * c + j) (weightPuts base floats (e .col * c) (e .value) ks) ≡ []
   weight-miss i j e hj q [] h = where-none (λ n. eqb n (i * c + j))
   weight-miss i j e hj q (k ∷ ks) h =
-      where-miss (λ n. eqb n (i * c + j)) (put (e .col * c + k) (e .value *ᶠ getD floats (base + k) nan)) (weightPuts base floats (e .col * c) (e .value) ks) (off-row (e .col) i k j c (h .0) hj q)
-      ∙ weight-miss i j e hj q ks (h .1)
+      where-miss (λ n. eqb n (i * c + j)) (put (e .col * c + k) (e .value *ᶠ getD floats (base + k) nan)) (weightPuts base floats (e .col * c) (e .value) ks) (off-row (e .col) i k j c (each-head h) hj q)
+      ∙ weight-miss i j e hj q ks (each-tail h)
 
   marked : (w : Float) (j : ℕ) (ts : List Float) → terms j ≡ ts → map (λ k. w *ᶠ total (terms k)) (mark ts j) ≡ weightedSum w ts
   unfolding mark weightedSum

@@ -1,5 +1,5 @@
 -- Scattering into a square matrix.
-use Prim.Native.Nat.{ℕ, zero, suc, _+_, _-_, _*_, _<_, _≤_}
+use Prim.Native.Nat.{ℕ, suc, _+_, _-_, _*_, _<_, _≤_}
 use mathlib.Core.Path.{_≡_, refl, ap, sym, _∙_}
 use mathlib.Core.Bool.{Bool, true, false}
 use mathlib.Core.List.{List, [], _∷_, _++_, flatMap, zipWith}
@@ -8,7 +8,7 @@ use native.Mathlib.Nat.{mul-le-mul-right}
 use native.Mathlib.Numerals.{add-one}
 use lib.Dec.{eqb}
 use lib.ListN.{length, getD, take, drop, replicate, length-append, length-drop, length-replicate, getD-replicate}
-use lib.Seq.{slice, slice-cons, slice-empty, getD-take, length-take-le, take-all, take-at, drop-at}
+use lib.Seq.{slice, slice-cons, slice-empty, getD-take, length-take-le, take-all, take-at}
 use lib.Ieee.{Float, nan}
 use borrow.Author.Tests.{eqb-true, eqb-false, eq-eqb, ne-eqb}
 use Rattle.definitions.specs.Lists.{upTo, square, padded}
@@ -22,56 +22,28 @@ use Rattle.definitions.specs.Matrix.{Entry, valuesWhere, rowOf, entriesOf, csr,
 use Rattle.definitions.specs.Coarse.{constantTerms, constantEntry, averagedSquare}
 use Rattle.csr32.proofs.Stored.{where-hit, where-miss, where-none}
 use Rattle.laws.proofs.Kept.{flatMap-keep}
+use Rattle.laws.proofs.Lists.{Each, each-head, each-tail, each-imp, each-by, each-take, each-drop, each-zipWith}
 use Rattle.laws.specs.Bounds.{Compressed}
 use Rattle.laws.specs.Scatter.{put, bump, scatter, scattered}
 use Rattle.coarse_matrix.specs.Scatter.{moved, rowPuts}
 use Rattle.laws.proofs.Scattering.{length-scattered, scattered-at, putsAt, rows-step}
 
--- ---- what holds of every element
-
-abbrev pub All : {A : Type 0} → (A → Type 0) → List A → Type 0
-All P [] = Unit {0}
-All P (x ∷ xs) = P x × All P xs
-
-pub all-of : {A : Type 0} (P : A → Type 0) (d : A) (xs : List A) → ((k : ℕ) → k < length xs → P (getD xs k d)) → All P xs
-all-of P d [] h = tt
-all-of P d (x ∷ xs) h = (h zero (omega arith), all-of P d xs (λ k l. h (suc k) (omega arith)))
-
-pub all-map : {A : Type 0} (P Q : A → Type 0) (f : (x : A) → P x → Q x) (xs : List A) → All P xs → All Q xs
-all-map P Q f [] h = tt
-all-map P Q f (x ∷ xs) h = (f x (h .0), all-map P Q f xs (h .1))
-
-pub all-take : {A : Type 0} (P : A → Type 0) (n : ℕ) (xs : List A) → All P xs → All P (take n xs)
-all-take P zero xs h = tt
-all-take P (suc n) [] h = tt
-all-take P (suc n) (x ∷ xs) h = (h .0, all-take P n xs (h .1))
-
-pub all-drop : {A : Type 0} (P : A → Type 0) (n : ℕ) (xs : List A) → All P xs → All P (drop n xs)
-all-drop P zero xs h = h
-all-drop P (suc n) [] h = tt
-all-drop P (suc n) (x ∷ xs) h = all-drop P n xs (h .1)
-
-pub all-zip : (P : ℕ → Type 0) (xs : List ℕ) (ys : List Float) → All P xs → All (λ e. P (e .col)) (zipWith (λ c v. put c v) xs ys)
-unfolding zipWith
-all-zip P [] ys h = tt
-all-zip P (x ∷ xs) [] h = tt
-all-zip P (x ∷ xs) (y ∷ ys) h = (h .0, all-zip P xs ys (h .1))
-
-pub all-stored : (P : ℕ → Type 0) (idx : List ℕ) (vals : List Float) (a e : ℕ) → ((k : ℕ) → k < length idx → P (getD idx k 0)) → All (λ e. P (e .col)) (stored idx vals a e)
-all-stored P idx vals a e h = all-zip P (slice a e idx) (slice a e vals) (all-drop P a (take e idx) (all-take P e idx (all-of P 0 idx h)))
+-- what holds of every column that is stored
+pub each-stored : (P : ℕ → Type 0) (idx : List ℕ) (vals : List Float) (a e : ℕ) → ((k : ℕ) → k < length idx → P (getD idx k 0)) → Each (λ e. P (e .col)) (stored idx vals a e)
+each-stored P idx vals a e h = each-zipWith (λ c v. put c v) (slice a e vals) (λ c v p. p) (each-drop a (each-take e (each-by idx 0 h)))
 
 -- ---- the numbers of moved entries
 
-pub where-moved : (p q : ℕ → Bool) (g : ℕ → ℕ) (es : List Entry) → All (λ e. p (g (e .col)) ≡ q (e .col)) es → valuesWhere p (moved g es) ≡ valuesWhere q es
+pub where-moved : (p q : ℕ → Bool) (g : ℕ → ℕ) (es : List Entry) → Each (λ e. p (g (e .col)) ≡ q (e .col)) es → valuesWhere p (moved g es) ≡ valuesWhere q es
 where-moved p q g [] h = where-none p ∙ sym (where-none q)
-where-moved p q g (e ∷ es) h = step (q (e .col)) refl (where-moved p q g es (h .1))
+where-moved p q g (e ∷ es) h = step (q (e .col)) refl (where-moved p q g es (each-tail h))
   where
     m : Entry
     m = put (g (e .col)) (e .value)
 
     step : (b : Bool) → q (e .col) ≡ b → valuesWhere p (moved g es) ≡ valuesWhere q es → valuesWhere p (moved g (e ∷ es)) ≡ valuesWhere q (e ∷ es)
-    step true k ih = where-hit p m (moved g es) (h .0 ∙ k) ∙ ap (λ l. e .value ∷ l) ih ∙ sym (where-hit q e es k)
-    step false k ih = where-miss p m (moved g es) (h .0 ∙ k) ∙ ih ∙ sym (where-miss q e es k)
+    step true k ih = where-hit p m (moved g es) (each-head h ∙ k) ∙ ap (λ l. e .value ∷ l) ih ∙ sym (where-hit q e es k)
+    step false k ih = where-miss p m (moved g es) (each-head h ∙ k) ∙ ih ∙ sym (where-miss q e es k)
 
 pub where-never : (es : List Entry) → valuesWhere (λ _. false) es ≡ []
 where-never [] = where-none (λ _. false)
@@ -111,16 +83,14 @@ module _ (n c : ℕ) (ptr idx : List ℕ) (vals : List Float) (column : ℕ → 
   constant-terms i j hj =
       flatMap-keep (λ r. eqb (column r) i) (λ r. putsAt (i * c + j) (rowPuts column c (rowOf ptr idx vals) r)) (λ r. valuesWhere (λ k. eqb (column k) j) (rowOf ptr idx vals r))
       (λ r q. where-moved (λ k. eqb k (i * c + j)) (λ k. eqb (column k) j) (λ k. column r * c + column k) (rowOf ptr idx vals r)
-      (all-map (λ e. column (e .col) < c) (λ e. eqb (column r * c + column (e .col)) (i * c + j) ≡ eqb (column (e .col)) j)
-      (λ e h. at-row (column r) i (column (e .col)) j c h hj (eqb-true (column r) i q)) (rowOf ptr idx vals r) (in-row r)))
+      (each-imp (λ e h. at-row (column r) i (column (e .col)) j c h hj (eqb-true (column r) i q)) (in-row r)))
       (λ r q. where-moved (λ k. eqb k (i * c + j)) (λ _. false) (λ k. column r * c + column k) (rowOf ptr idx vals r)
-      (all-map (λ e. column (e .col) < c) (λ e. eqb (column r * c + column (e .col)) (i * c + j) ≡ false)
-      (λ e h. off-row (column r) i (column (e .col)) j c h hj (eqb-false (column r) i q)) (rowOf ptr idx vals r) (in-row r))
+      (each-imp (λ e h. off-row (column r) i (column (e .col)) j c h hj (eqb-false (column r) i q)) (in-row r))
       ∙ where-never (rowOf ptr idx vals r))
       (upTo n)
     where
-      in-row : (r : ℕ) → All (λ e. column (e .col) < c) (rowOf ptr idx vals r)
-      in-row r = all-stored (λ k. column k < c) idx vals (getD ptr r 0) (getD ptr (suc r) 0) within
+      in-row : (r : ℕ) → Each (λ e. column (e .col) < c) (rowOf ptr idx vals r)
+      in-row r = each-stored (λ k. column k < c) idx vals (getD ptr r 0) (getD ptr (suc r) 0) within
 
   -- averaged, with zeros after it
   pub constant-law : (w z l u v : List Float) → c ≤ 2_048 → c * c ≤ length w → z ≡ replicate (length w) zeroᶠ → l ≡ scattered (rowPuts column c (rowOf ptr idx vals)) n (take (c * c - 0) z)

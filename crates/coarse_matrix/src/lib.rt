@@ -13,7 +13,7 @@ ghost use mathlib.Core.Path.{_≡_};
 ghost use mathlib.Core.Bool.{true};
 ghost use Prim.Native.Nat.{_≤_};
 ghost use lib.ListN.{length};
-ghost use Rattle.definitions.specs.Numbers.{zeroᶠ};
+ghost use Rattle.definitions.specs.Numbers.{zeroᶠ, nonzeros as nonzerosOf};
 ghost use Rattle.definitions.specs.Matrix.{csr, maxRows};
 ghost use Rattle.definitions.specs.Refusal.{resultLeft, workLeft};
 ghost use Rattle.definitions.specs.Answers.{answerOf};
@@ -277,4 +277,17 @@ pub fn galerkin_coarse(
             Answer::Accepted
         }
     }
+}
+
+// How many numbers of a list are not zero; -0 is zero.
+pub fn nonzeros(m: &[f64]) -> u64
+    ensures { λ r. ⌜ r ≡ nonzerosOf (now (m .entry)) ⌝ }
+{
+    let mut count = 0;
+    for k in 0..m.len() {
+        if m[k] != 0.0 {
+            count += 1;
+        }
+    }
+    count
 }

@@ -1,5 +1,5 @@
 -- The worked examples, computed by antt beside what is expected. `proved` has document 01's cases marked ◆, in one table with the one theorem `proved-hold`;
--- `tried` its other examples; `logs` those of the joining log; `orders` orders and lengths that no example shows.
+-- `tried` its other examples; `logs` those of the joining log; `complexities` those of the operator complexity; `orders` orders and lengths that no example shows.
 use Prim.Native.Nat.{ℕ, zero, suc, _+_, _*_}
 use Prim.Native.Char.{code}
 use Prim.Native.String.{String}
@@ -8,9 +8,9 @@ use mathlib.Core.Bool.{true, false}
 use mathlib.Core.List.{List, [], _∷_, _++_, map, flatMap}
 use lib.Dec.{T, eqb, ltb}
 use lib.ListN.{length, replicate}
-use lib.Ieee.{Float, binary64, neg, ofBits, toBits}
+use lib.Ieee.{Float, binary64, nan, neg, ofBits, toBits}
 use Rattle.definitions.specs.Lists.{tab, pointersFrom}
-use Rattle.definitions.specs.Numbers.{rootᶠ, ofℕ}
+use Rattle.definitions.specs.Numbers.{rootᶠ, ofℕ, nonzeros}
 use Rattle.definitions.specs.Refusal.{Outcome, refused, done, _>>=_, numberOf, valuesOf}
 use Rattle.definitions.specs.Matrix.{Matrix, Entry}
 use Rattle.definitions.specs.Block.{blocksCall, blockApplyCall}
@@ -213,6 +213,37 @@ logs =
 pub logs-hold : map (λ c. c .computed) logs ≡ map (λ c. c .expected) logs
 unfolding all-open logs
 logs-hold = refl
+
+-- ---- the operator complexity
+
+-- both counts of a setup
+abbrev counts : Outcome Built → List ℕ
+counts (refused r) = numberOf r ∷ valuesOf r
+counts (done b) = b .setup .complexity ∷ b .setup .baseline ∷ []
+
+abbrev counted : Matrix → TwoLevelAggregation → ℕ → List ℕ
+counted a g size = counts (setupOf a (options g PiecewiseConstant size) ample)
+
+minus : ℕ → Float
+minus n = neg (ofℕ n)
+
+pub complexities : List Case
+unfolding minus
+complexities =
+    is (counted (diag2 16 4) Graph 1) (4 ∷ 2 ∷ [])
+    -- 4 1; 1 4 and 4 1; -1 4, whose pair cancels when it is averaged: 8 if counted before
+    ∷ is (counted (matrix ((at 0 (ofℕ 4) ∷ at 1 (ofℕ 1) ∷ []) ∷ (at 0 (ofℕ 1) ∷ at 1 (ofℕ 4) ∷ []) ∷ [])) Graph 1) (8 ∷ 4 ∷ [])
+    ∷ is (counted (matrix ((at 0 (ofℕ 4) ∷ at 1 (ofℕ 1) ∷ []) ∷ (at 0 (minus 1) ∷ at 1 (ofℕ 4) ∷ []) ∷ [])) Graph 1) (6 ∷ 4 ∷ [])
+    -- the pair 3 and -1 does not cancel; two links between the same groups do, when they are added up
+    ∷ is (counted (matrix ((at 0 (ofℕ 4) ∷ at 1 (ofℕ 3) ∷ []) ∷ (at 0 (minus 1) ∷ at 1 (ofℕ 4) ∷ []) ∷ [])) Graph 1) (8 ∷ 4 ∷ [])
+    ∷ is (counted (matrix ((at 0 (ofℕ 4) ∷ at 2 (ofℕ 1) ∷ []) ∷ (at 1 (ofℕ 4) ∷ at 3 (minus 1) ∷ []) ∷ (at 0 (ofℕ 1) ∷ at 2 (ofℕ 4) ∷ []) ∷ (at 1 (minus 1) ∷ at 3 (ofℕ 4) ∷ []) ∷ [])) Contiguous 2) (10 ∷ 8 ∷ [])
+    -- +0 and -0 are zero; a negative number, the smallest number and NaN are not
+    ∷ is (nonzeros (ofℕ 0 ∷ minus 0 ∷ minus 1 ∷ ofBits binary64 1 ∷ nan ∷ []) ∷ []) (3 ∷ [])
+    ∷ []
+
+pub complexities-hold : map (λ c. c .computed) complexities ≡ map (λ c. c .expected) complexities
+unfolding all-open complexities minus
+complexities-hold = refl
 
 -- ---- orders and lengths
 

@@ -6,7 +6,7 @@ use lib.Dec.{leb, ltb, eqb}
 use lib.ListN.{length, getD}
 use lib.Ieee.{Float}
 use Rattle.definitions.specs.Lists.{square, pointersFrom}
-use Rattle.definitions.specs.Numbers.{zeroᶠ, largest}
+use Rattle.definitions.specs.Numbers.{zeroᶠ, largest, nonzeros}
 use Rattle.definitions.specs.Refusal.{Outcome, Checked, done, require, _>>=_, resultLeft, workLeft}
 use Rattle.definitions.specs.Matrix.{Matrix, Entry, validOf}
 use Rattle.definitions.specs.Diagonal.{diagonalOf}
@@ -106,7 +106,7 @@ builtFrom a o factors g t m factor =
         policy = policy;
         damping = t .damping;
         scale = largest m;
-        complexity = e + c * c;
+        complexity = e + nonzeros m;
         baseline = e;
       };
       ints = g .ids ++ transferInts (o .basis) (t .weights);

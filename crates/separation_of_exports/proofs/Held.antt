@@ -6,20 +6,23 @@ use native.Mathlib.Nat.{le-refl, le-trans, lt-of-le-of-lt, add-le-add, mul-one, 
 use native.Mathlib.Omega.{arith}
 use lib.Dec.{T, ltb, ltb→lt, leb→le}
 use lib.ListN.{length, length-append}
-use lib.Ieee.{binary64}
+use lib.Ieee.{Float, binary64, ne}
 use lib.Ieee.Bits.{toBits-lt}
 use Rattle.definitions.specs.Lists.{pointersFrom}
+use Rattle.definitions.specs.Numbers.{zeroᶠ, nonzeros}
+use Rattle.definitions.specs.Coarse.{averaged, averagedSquare, entryIn}
 use Rattle.definitions.specs.Refusal.{done}
 use Rattle.definitions.specs.Matrix.{Matrix, Entry, maxRows, maxEntries}
 use Rattle.definitions.specs.Block.{maxBlock}
 use Rattle.definitions.specs.Groups.{maxGroup}
 use Rattle.definitions.specs.Places.{nodeCount}
-use Rattle.definitions.specs.Setup.{maxCoarse, transferFor, transferInts, transferFloats, builtFrom}
+use Rattle.definitions.specs.Setup.{maxCoarse, transferFor, transferInts, transferFloats, coarseMatrix, builtFrom}
 use Rattle.definitions.specs.Record.{recordNumbers}
 use Rattle.definitions.specs.declared.Options.{Options}
 use Rattle.definitions.specs.declared.TwoLevelBasis.{TwoLevelBasis}
 use Rattle.definitions.specs.declared.TwoLevelBasis.the-variants.{PiecewiseConstant, JacobiSmoothed}
-use Rattle.laws.proofs.Lists.{Each, none, more, each-imp, each-append}
+use Rattle.laws.proofs.Lists.{Each, none, more, each-imp, each-append, length-square}
+use Rattle.laws.proofs.Kept.{keep-length}
 use Rattle.laws.proofs.Csr.{values-length}
 use Rattle.laws.proofs.Record.{HoldsF64s, aggregation-small, basis-small, policy-small}
 use Rattle.separation.proofs.Stages.{Stages, dimension, built, sound}
@@ -87,15 +90,20 @@ module _ {a : Matrix} {o : Options} (s : Stages a o) where
 
   -- ---- the record
 
+  -- no more numbers are not zero than the coarse matrix has
+  counted : (n : ℕ) (m : List Float) → nonzeros (averagedSquare n m) ≤ n * n
+  unfolding nonzeros averagedSquare
+  counted n m = subst (λ (k : ℕ). nonzeros (averagedSquare n m) ≤ k) (length-square n (averaged (entryIn m n))) (keep-length (λ x. ne x zeroᶠ) (averagedSquare n m))
+
   pub built-numbers : HoldsF64s (built s .setup) → Each (λ x. x < 2 ^ 64) (recordNumbers (built s .setup))
   unfolding recordNumbers builtFrom
   built-numbers h =
       let S = sound s in
       let c = dimension s in
       let nodes : nodeCount a o ≤ a .rows = div-le-self (a .rows) (o .block) in
-      let square : c * c ≤ maxCoarse * maxCoarse = mul-le-mul small small in
+      let places : nonzeros (averagedSquare c (coarseMatrix a o (s .groups) (s .transfer))) ≤ maxCoarse * maxCoarse = le-trans (counted c (coarseMatrix a o (s .groups) (s .transfer))) (mul-le-mul small small) in
       more (up-to maxRows tt (S .rows-limit)) (more (up-to maxEntries tt (S .entries-limit)) (more (up-to maxBlock tt (S .block-limit)) (more (up-to maxGroup tt (S .group-limit))
       (more (up-to maxRows tt (le-trans nodes (S .rows-limit))) (more (up-to maxCoarse tt count-small) (more (up-to maxCoarse tt small) (more (up-to (maxRows + maxEntries) tt (transfers-bound (o .basis) (s .transferred)))
       (more (up-to 2 tt (leb→le _ 2 (aggregation-small (o .aggregation)))) (more (up-to 1 tt (leb→le _ 1 (basis-small (o .basis)))) (more (up-to 2 tt (leb→le _ 2 (policy-small _)))
       (more (toBits-lt binary64 _ (h .damping)) (more (toBits-lt binary64 _ (h .scale))
-      (more (up-to (maxEntries + maxCoarse * maxCoarse) tt (add-le-add (S .entries-limit) square)) (more (up-to maxEntries tt (S .entries-limit)) none))))))))))))))
+      (more (up-to (maxEntries + maxCoarse * maxCoarse) tt (add-le-add (S .entries-limit) places)) (more (up-to maxEntries tt (S .entries-limit)) none))))))))))))))

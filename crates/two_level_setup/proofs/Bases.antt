@@ -51,7 +51,7 @@ pub ample-same : (a : Matrix) (s : Setup) (i i' f f' wi wi' wf wf' : ℕ) → i'
 ample-same a s i i' f f' wi wi' wf wf' p q r t w = rw (p, q, r, t) w
 
 -- one with other numbers for the transfer
-pub ample-filled : (a : Matrix) (s t : Setup) (room : Lengths) (n : ℕ) (damping : Float) → Ample a s room → n ≤ a .rows + length (a .values) → t ≡ filled s n damping (s .scale) → Ample a t room
+pub ample-filled : (a : Matrix) (s t : Setup) (room : Lengths) (n : ℕ) (damping : Float) → Ample a s room → n ≤ a .rows + length (a .values) → t ≡ filled s n damping (s .scale) (s .complexity) → Ample a t room
 unfolding filled
 ample-filled a s t room n damping w h e = subst (λ (x : Setup). Ample a x room) (sym e) (record {
   front = w .front;
@@ -148,7 +148,7 @@ module _ (a : Matrix) (s : Setup) (ints : List ℕ) (floats : List Float) (workI
       (smoothed-is a p smooth ∙ chain-stops (diagonalOf a) (λ d. estimateOf a d) (rowsFor a p smooth) r k))
 
   pub smoothed-built : (rho damping : Float) → x ≡ Estimated rho damping → length floats1 ≡ length floats → length workFloats1 ≡ length workFloats → (n : ℕ) (y : Lent) → WeightsStage a s damping (lentOf ints floats1 workInts workFloats1) n y
-      → (t : Setup) → t ≡ filled s n damping (s .scale) → Simulates (Begun a) (transferStage a) s (lentOf ints floats workInts workFloats) (BuiltSetup t) y
+      → (t : Setup) → t ≡ filled s n damping (s .scale) (s .complexity) → Simulates (Begun a) (transferStage a) s (lentOf ints floats workInts workFloats) (BuiltSetup t) y
   unfolding transferStage transferred
   smoothed-built rho damping e lf lw n y ws t et p es bg h =
       let smooth = smooth-too p es in
@@ -171,5 +171,5 @@ module _ (a : Matrix) (s : Setup) (ints : List ℕ) (floats : List Float) (workI
       let same : rowsFor a p smooth d (q .0) ≡ made = rw (q .2, es) in
       let k : transferStage a p ≡ done (transferred p made) = goes-on (transferFor (p .setup .basis) a (p .setup .block) (p .ids) (p .setup .coarse)) (rowsFor a p smooth d (q .0)) (λ z. done (transferred p z))
       (smoothed-is a p smooth ∙ chain-ends (diagonalOf a) (λ z. estimateOf a z) (rowsFor a p smooth) d (q .0) (b .1) (b .2)) ∙ ap (λ z. done (transferred p z)) same in
-      let answer : transferred p made .setup ≡ t = sym (et ∙ ap (λ z. filled z n damping (z .scale)) (sym es) ∙ ap (λ m. filled (p .setup) m damping (p .setup .scale)) (r .0)) in
+      let answer : transferred p made .setup ≡ t = sym (et ∙ ap (λ z. filled z n damping (z .scale) (z .complexity)) (sym es) ∙ ap (λ m. filled (p .setup) m damping (p .setup .scale) (p .setup .complexity)) (r .0)) in
       subst (λ (z : Setup). Leaves (transferStage a p) (BuiltSetup z) y) answer (leaves-done (transferStage a p) (transferred p made) y k (r .1))

@@ -16,7 +16,7 @@ use Rattle.definitions.specs.declared.Setup.{Setup}
 use Rattle.definitions.specs.declared.SetupAnswer.{SetupAnswer}
 use Rattle.laws.proofs.Lists.{length-square}
 use Rattle.laws.proofs.Outcomes.{bind-done, done-inj}
-use Rattle.two_level_setup.specs.Stages.{Parts, partsAnswer, filled, matrixOf, stored, coarseStage}
+use Rattle.two_level_setup.specs.Stages.{Parts, partsAnswer, filled, matrixOf, measured, stored, coarseStage}
 use Rattle.two_level_setup.specs.Fit.{Ample, MatrixFit}
 use Rattle.two_level_setup.specs.Contracts.{roomIn, Holds, Simulates, Weighed, MatrixStage, Factored, factoredAnswer}
 use Rattle.two_level_setup.proofs.Padding.{padded-all, padded-join}
@@ -31,31 +31,34 @@ unfolding matrixOf
 matrix-long a p = square-long (p .setup .coarse) (square (p .setup .coarse) (coarseEntry (p .setup .basis) a (p .setup .block) (p .ids) (p .weights)))
 
 -- the factor's answer is the stage's
-told : (s : Setup) (p : Parts) (m : List Float) (f : Outcome (List Float)) → p .setup ≡ s → factoredAnswer s (largest m) f ≡ partsAnswer (f >>= (λ l. done (stored p m l)))
-unfolding factoredAnswer partsAnswer stored _>>=_
-told s p m (done l) e = rw e
-told s p m (refused r) e = refl
+told : (entries : ℕ) (s : Setup) (p : Parts) (m : List Float) (f : Outcome (List Float)) → p .setup ≡ s → factoredAnswer (measured entries s m) (largest m) f ≡ partsAnswer (f >>= (λ l. done (stored entries p m l)))
+unfolding factoredAnswer partsAnswer measured filled stored _>>=_
+told entries s p m (done l) e = rw e
+told entries s p m (refused r) e = refl
 
 -- of ample lists, what the coarse matrix is lent
 pub matrix-fits : (a : Matrix) (s : Setup) (ints : List ℕ) (floats : List Float) (workInts : List ℕ) (workFloats : List Float) → Ample a s (roomIn ints floats workInts workFloats)
-    → MatrixFit a s (roomIn ints floats (take (2 * s .coarse) workInts) (take (s .coarse * s .coarse + s .coarse) workFloats))
+    → MatrixFit a s (roomIn ints floats (take (a .rows + 2 * s .coarse) workInts) (take (s .coarse * s .coarse + s .coarse) workFloats))
 matrix-fits a s ints floats workInts workFloats w = record {
   front = w .front;
   counted = w .counted;
   small = w .small;
   ints = w .ints;
   floats = omega (arith, w .floats);
-  workInts = rw (length-take-le (2 * s .coarse) workInts (omega (arith, w .workInts))) (omega arith);
+  workInts = rw (length-take-le (a .rows + 2 * s .coarse) workInts (omega (arith, w .workInts))) (omega arith);
   workFloats = rw (length-take-le (s .coarse * s .coarse + s .coarse) workFloats (omega (arith, w .workFloats))) (omega arith);
 }
 
 module _ (a : Matrix) (s : Setup) (ints : List ℕ) (floats : List Float) (workInts : List ℕ) (workFloats : List Float) (w : Ample a s (roomIn ints floats workInts workFloats))
-    (backInts : List ℕ) (made : List Float) (li : length backInts ≡ length (take (2 * s .coarse) workInts)) (lm : length made ≡ length (take (s .coarse * s .coarse + s .coarse) workFloats)) where
+    (backInts : List ℕ) (made : List Float) (li : length backInts ≡ length (take (a .rows + 2 * s .coarse) workInts)) (lm : length made ≡ length (take (s .coarse * s .coarse + s .coarse) workFloats)) where
   abbrev c : ℕ
   c = s .coarse
 
+  abbrev entries : ℕ
+  entries = length (a .values)
+
   abbrev few : ℕ
-  few = 2 * c
+  few = a .rows + 2 * c
 
   abbrev part : ℕ
   part = c * c + c
@@ -85,6 +88,9 @@ module _ (a : Matrix) (s : Setup) (ints : List ℕ) (floats : List Float) (workI
   work-long : length work ≡ length workFloats
   work-long = length-front workFloats made part lm
 
+  pub work-fits : part ≤ length work
+  work-fits = omega (arith, work-long, part-fits)
+
   pub stop-front : length (take stop floats) ≡ stop
   stop-front = length-take-le stop floats stop-fits
 
@@ -95,13 +101,13 @@ module _ (a : Matrix) (s : Setup) (ints : List ℕ) (floats : List Float) (workI
   factor-fits = (w .small, rw stop-front (omega arith), rw work-front (omega arith))
 
   module _ (r : SetupAnswer) (floats1 back : List Float) (lf : length floats1 ≡ length (take stop floats)) (lb : length back ≡ length (take part work)) where
-    pub coarse-left : MatrixStage a s ints floats (take few workInts) (take part workFloats) backInts made → Factored s start (take stop floats) (take part work) r floats1 back
+    pub coarse-left : MatrixStage a s ints floats (take few workInts) (take part workFloats) backInts made → Factored (measured entries s (take (c * c) (take part work))) start (take stop floats) (take part work) r floats1 back
         → Simulates (Weighed a) (coarseStage a) s (lentOf ints floats workInts workFloats) r (lentOf ints (floats1 ++ drop stop floats) (backInts ++ drop few workInts) (back ++ drop part work))
-    unfolding coarseStage stored filled
+    unfolding coarseStage stored measured filled
     coarse-left stage fd p es wd h = record {
-      answer = fd .answer ∙ ap (λ l. factoredAnswer s (largest l) (coarseFactor c l)) is ∙ ap (λ n. factoredAnswer s (largest mm) (coarseFactor n mm)) c-same ∙ told s p mm (coarseFactor (p .setup .coarse) mm) es;
+      answer = fd .answer ∙ ap (λ l. factoredAnswer (measured entries s l) (largest l) (coarseFactor c l)) is ∙ ap (λ n. factoredAnswer (measured entries s mm) (largest mm) (coarseFactor n mm)) c-same ∙ told entries s p mm (coarseFactor (p .setup .coarse) mm) es;
       left = λ q eq.
-          let d = bind-done (coarseFactor (p .setup .coarse) mm) (λ l. done (stored p mm l)) q eq in
+          let d = bind-done (coarseFactor (p .setup .coarse) mm) (λ l. done (stored entries p mm l)) q eq in
           let el : coarseFactor c (take (c * c) (take part work)) ≡ done (d .0) = ap (λ l. coarseFactor c l) is ∙ ap (λ n. coarseFactor n mm) c-same ∙ d .1 in
           subst (λ z. Holds z (lentOf ints (floats1 ++ drop stop floats) (backInts ++ drop few workInts) (back ++ drop part work))) (done-inj (d .2)) (holds (d .0) el);
     }
@@ -137,7 +143,7 @@ module _ (a : Matrix) (s : Setup) (ints : List ℕ) (floats : List Float) (workI
         front : take start (take stop floats) ≡ before
         front = ap (λ l. take start l) (front-padded zeroᶠ stop floats before stands short stop-fits) ∙ padded-all zeroᶠ (length (take stop floats)) start before before-long
 
-        holds : (l : List Float) → coarseFactor c (take (c * c) (take part work)) ≡ done l → Holds (stored p mm l) (lentOf ints (floats1 ++ drop stop floats) (backInts ++ drop few workInts) (back ++ drop part work))
+        holds : (l : List Float) → coarseFactor c (take (c * c) (take part work)) ≡ done l → Holds (stored entries p mm l) (lentOf ints (floats1 ++ drop stop floats) (backInts ++ drop few workInts) (back ++ drop part work))
         holds l el =
             let cp : List Float = coarsePart (p .setup .policy) (p .setup .coarse) l in
             let fs : floats1 ≡ padded zeroᶠ (length (take stop floats)) (before ++ cp)

@@ -4,6 +4,7 @@ use mathlib.Core.List.{List, []}
 use Prim.Native.Nat.{ℕ, _*_}
 use lib.Dec.{leb}
 use lib.Ieee.{Float}
+use lib.ListN.{length}
 use Rattle.definitions.specs.Refusal.{Outcome, Checked, refused, done, require, _>>=_}
 use Rattle.definitions.specs.Matrix.{Matrix}
 use Rattle.definitions.specs.Block.{factorsOf}
@@ -44,7 +45,7 @@ module _ (a : Matrix) (o : Options) (room : Lengths) where
   unfolding coarseStage transferred grouped started filled stored matrixOf coarseMatrix builtOf builtFrom
   part-splits factors g t =
       let m : List Float = averagedSquare (g .count * o .block) (coarseMatrix a o g t) in
-      made-then (coarseFactor (g .count * o .block) m) (λ l. stored (transferred (grouped a o factors g) t) m l) (λ p. done (builtOf p))
+      made-then (coarseFactor (g .count * o .block) m) (λ l. stored (length (a .values)) (transferred (grouped a o factors g) t) m l) (λ p. done (builtOf p))
 
   -- from the transfer on
   level-splits : (factors : List Float) (g : Grouping) → (transferStage a (grouped a o factors g) >>= (λ q. coarseStage a q) >>= (λ p. done (builtOf p)))

@@ -42,10 +42,11 @@ use Rattle.two_level_setup.proofs.Composition.{built-is, leaves-refused
 
 -- ---- what numbers are at most
 
+pub sized-bounds : (rows entries block : ℕ) → rows ≤ 1_048_576 → entries ≤ 16_777_216 → 1 ≤ block → block ≤ maxBlock → Bounds rows entries block
+sized-bounds rows entries block h k l m = record { rowsMost = h; entriesMost = k; used = mul-le-mul h m; nodes = div-le-self rows block; some = l }
+
 pub bounds : (a : Matrix) (o : Options) → Front a o → Bounds (a .rows) (length (a .values)) (o .block)
-bounds a o f =
-    let q = front-rows a o f in
-    record { rowsMost = q .fewRows; entriesMost = q .fewEntries; used = mul-le-mul (q .fewRows) (f .most); nodes = div-le-self (a .rows) (o .block); some = f .least }
+bounds a o f = let q = front-rows a o f in sized-bounds (a .rows) (length (a .values)) (o .block) (q .fewRows) (q .fewEntries) (f .least) (f .most)
 
 pub groups-most : (a : Matrix) (o : Options) (groups : ℕ) → Front a o → groups ≤ nodeCount a o → groups * o .block ≤ 8_388_608
 groups-most a o groups f h = let b = bounds a o f in let m : groups ≤ 1_048_576 = omega (arith, b .nodes, b .rowsMost, h) in mul-le-mul m (f .most)

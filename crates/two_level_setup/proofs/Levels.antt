@@ -1,8 +1,8 @@
 -- The two levels put together: room, transfer and coarse part; then the fine level and these.
 use mathlib.Core.Path.{_≡_, ap, sym, _∙_, subst}
 use lib.ListN.{length}
-use Rattle.definitions.specs.Refusal.{_>>=_}
-use Rattle.definitions.specs.Matrix.{Matrix}
+use Rattle.definitions.specs.Refusal.{done, _>>=_}
+use Rattle.definitions.specs.Matrix.{Matrix, validOf}
 use Rattle.definitions.specs.Places.{Lengths}
 use Rattle.definitions.specs.Setup.{Lent}
 use Rattle.definitions.specs.Answers.{answerOf}
@@ -17,9 +17,11 @@ use Rattle.csr32.specs.Calls.{accepted-done, refused-is, goes-on, stops}
 use Rattle.two_level_setup.specs.Stages.{Parts, optionsOf, fineOf, roomChecked, transferStage, coarseStage, coarseLevelOf, buildOf}
 use Rattle.two_level_setup.specs.Fit.{Fit, Counted}
 use Rattle.two_level_setup.specs.Contracts.{roomIn, Leaves, Simulates, Begun, Weighed}
+use Rattle.two_level_setup.specs.Asking.{Sized, Judged}
 use Rattle.two_level_setup.proofs.Composition.{leaves-refused, leaves-same, stops-there, goes-further}
 use Rattle.two_level_setup.proofs.FineParts.{fine-begun, fine-fits}
 use Rattle.two_level_setup.proofs.Bases.{transfer-weighed}
+use Rattle.two_level_setup.proofs.Asking.{fit-with, judged-as, judged-valid}
 
 -- ---- the coarse level
 
@@ -46,7 +48,7 @@ module _ (a : Matrix) (s : Setup) (room : Lengths) (x : Lent) (z : Answer) (ez :
 
 -- ---- the fine level, then the coarse one
 
-module _ (a : Matrix) (o : Options) (x : Lent) (fit : Fit a o (roomIn (x .ints) (x .floats) (x .workInts) (x .workFloats))) (r : SetupAnswer) (y : Lent) (l : Leaves (fineOf a o) r y)
+module _ (a : Matrix) (o : Options) (x : Lent) (sized : Sized a o (roomIn (x .ints) (x .floats) (x .workInts) (x .workFloats))) (r : SetupAnswer) (y : Lent) (j : Judged a (fineOf a o) x r y)
     (li : length (y .ints) ≡ length (x .ints)) (lf : length (y .floats) ≡ length (x .floats)) (lwi : length (y .workInts) ≡ length (x .workInts)) (lwf : length (y .workFloats) ≡ length (x .workFloats)) where
   abbrev before : Lengths
   before = roomIn (x .ints) (x .floats) (x .workInts) (x .workFloats)
@@ -57,14 +59,24 @@ module _ (a : Matrix) (o : Options) (x : Lent) (fit : Fit a o (roomIn (x .ints) 
   same : after ≡ before
   same = rw (li, lf, lwi, lwf)
 
-  pub level-fits : (s : Setup) → r ≡ BuiltSetup s → Fit a (optionsOf s) after × Counted a s
-  level-fits s e = fine-fits a o (fit .front) after (subst (λ z. Fit a o z) (sym same) fit) s (sym e ∙ l .answer)
-
-  pub built-refused : (q : Refusal) (z : Lent) → r ≡ NoSetup q → Leaves (buildOf a o before) (NoSetup q) z
+  pub built-refused : (q : Refusal) → r ≡ NoSetup q → Judged a (buildOf a o before) x (NoSetup q) y
   unfolding buildOf
-  built-refused q z e = stops-there (fineOf a o) (λ p. coarseLevelOf a before p) r y l q z e
+  built-refused q e = record {
+    valid = λ v. stops-there (fineOf a o) (λ p. coarseLevelOf a before p) r y (j .valid v) q y e;
+    invalid = λ t k. let p = j .invalid t k in (sym e ∙ p .0, p .1);
+  }
 
-  pub built-whole : (s : Setup) → r ≡ BuiltSetup s → (r1 : SetupAnswer) (z : Lent) → Simulates (Begun a) (coarseLevelOf a after) s y r1 z → Leaves (buildOf a o before) r1 z
-  unfolding buildOf
-  built-whole s e r1 z k =
-      goes-further (fineOf a o) (λ p. coarseLevelOf a before p) r y l s r1 z e (λ p ep es h. subst (λ n. Leaves (coarseLevelOf a n p) r1 z) same (k p es (fine-begun a o (fit .front) p ep) h))
+  module _ (s : Setup) (e : r ≡ BuiltSetup s) where
+    valid : validOf a ≡ done tt
+    valid = judged-valid a (fineOf a o) x r y j s e
+
+    fit : Fit a o before
+    fit = fit-with a o before sized valid
+
+    pub level-fits : Fit a (optionsOf s) after × Counted a s
+    level-fits = fine-fits a o (fit .front) after (subst (λ z. Fit a o z) (sym same) fit) s (sym e ∙ j .valid valid .answer)
+
+    pub built-whole : (r1 : SetupAnswer) (z : Lent) → Simulates (Begun a) (coarseLevelOf a after) s y r1 z → Judged a (buildOf a o before) x r1 z
+    unfolding buildOf
+    built-whole r1 z k = judged-as a (buildOf a o before) x r1 z valid
+        (goes-further (fineOf a o) (λ p. coarseLevelOf a before p) r y (j .valid valid) s r1 z e (λ p ep es h. subst (λ n. Leaves (coarseLevelOf a n p) r1 z) same (k p es (fine-begun a o (fit .front) p ep) h)))

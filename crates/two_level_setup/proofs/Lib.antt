@@ -8,12 +8,14 @@ pub mod Clearing
 pub mod FineParts
 pub mod Policy
 pub mod Damping
+pub mod Columns
 pub mod Weights
 pub mod Bases
 pub mod Matrices
 pub mod Storing
 pub mod CoarseParts
--- put together: room, the two levels, and all of setup
+-- put together: room, sizes before entries, the two levels, and all of setup
 pub mod Rooms
+pub mod Asking
 pub mod Levels
 pub mod Checks

@@ -4,44 +4,34 @@ use mathlib.Core.Bool.{Bool, true, false, not}
 use mathlib.Core.List.{List, [], _++_, map, zipWith, append-nil, append-assoc}
 use Prim.Native.Nat.{ℕ, zero, suc, _+_, _-_, _*_, _/_, _%_, _≤_, _<_}
 use native.Mathlib.Omega.{arith}
-use native.Mathlib.Nat.{div-le-self}
 use lib.Dec.{T}
-use lib.Seq.{slice}
+use lib.Seq.{slice, take-at, drop-at, length-take-le}
 use native.Mathlib.Decide.{decLt}
-use lib.ListN.{length, take, replicate, getD, List·getD-eq-default}
+use lib.ListN.{length, take, drop, replicate, getD, List·getD-eq-default}
 use lib.Ieee.{Float}
-use borrow.Author.Tests.{le-leb, lt-leb, eq-eqb}
-use Rattle.definitions.specs.Lists.{padded, between, any, square, pointersFrom, falls}
+use borrow.Author.Tests.{le-leb, eq-eqb}
+use Rattle.definitions.specs.Lists.{tab, padded, between, square, pointersFrom, falls}
 use Rattle.definitions.specs.Numbers.{zeroᶠ}
 use Rattle.definitions.specs.Refusal.{Outcome, done, resultLeft, workLeft}
 use Rattle.definitions.specs.Matrix.{Matrix, Entry, maxRows, structureOf, rowOf}
-use Rattle.definitions.specs.Block.{maxBlock}
 use Rattle.definitions.specs.Transfer.{coarseColumn}
 use Rattle.definitions.specs.Coarse.{constantEntry, galerkinEntry, averagedSquare}
 use Rattle.definitions.specs.Setup.{coarseEntry, transferInts, transferFloats, lentOf}
 use Rattle.definitions.specs.declared.Setup.{Setup}
 use Rattle.definitions.specs.declared.TwoLevelBasis.the-variants.{PiecewiseConstant, JacobiSmoothed}
 use Rattle.definitions.specs.declared.Refusal.the-variants.{TooLarge, NotSquare, BlockSize, NotMultiple, CoarseTooLarge, CoarseListTooShort, SetupMisfit}
-use Rattle.laws.proofs.Lists.{Each, none, more, each-map, each-flatMap, each-imp, part-mid}
+use Rattle.laws.proofs.Lists.{Each, length-tab, each-map, each-flatMap, each-imp, part-mid}
 use Rattle.laws.proofs.Csr.{columnsOf, numbersOf, pointers-length, pointers-first, pointers-last, pointers-rise, columns-length, values-length, row-back}
 use Rattle.laws.proofs.SetupLists.{pointers-read, columns-read}
 use Rattle.csr32.specs.Calls.{goes-on, passed}
 use Rattle.csr32.specs.Rows.{outside, valid-structure}
 use Rattle.coarse_matrix.specs.Calls.{constantChecks, constantChecked, constantCoarseCall, transferFits, galerkinChecks, galerkinChecked, galerkinCoarseCall}
-use Rattle.two_level_grouping.specs.Front.{Front, front-rows}
-use Rattle.two_level_setup.specs.Stages.{Parts, matrixOf, optionsOf}
-use Rattle.two_level_setup.specs.Fit.{MatrixFit, Counted}
-use Rattle.two_level_setup.specs.Contracts.{roomIn, Holds, Weighted, Weighed, MatrixStage}
+use Rattle.two_level_setup.specs.Stages.{Parts, matrixOf}
+use Rattle.two_level_setup.specs.Fit.{MatrixFit}
+use Rattle.two_level_setup.specs.Contracts.{roomIn, Holds, Weighted, Weighed, Listed, MatrixStage}
 use Rattle.two_level_setup.proofs.Padding.{padded-front}
-
-pub none-outside : (n : ℕ) {xs : List ℕ} → Each (λ x. x < n) xs → outside n xs ≡ false
-unfolding any
-none-outside n none = refl
-none-outside n (more {x = x} h k) = rw (lt-leb n x h) (none-outside n k)
-
--- groups no more than nodes are within the limit of rows
-pub few-groups : (a : Matrix) (s : Setup) → Front a (optionsOf s) → Counted a s → s .groups ≤ maxRows
-few-groups a s f m = omega (arith, m .few, m .nodes, div-le-self (a .rows) (s .block), front-rows a (optionsOf s) f .fewRows)
+use Rattle.two_level_setup.proofs.Lending.{put-zeros}
+use Rattle.two_level_setup.proofs.Columns.{whole-nodes, ids-small, none-outside, listed-made, listed-below, constant-listed}
 
 -- rows laid end to end read back, those past the end as well
 row-all : (rows : List (List Entry)) (i : ℕ) → rowOf (pointersFrom 0 rows) (columnsOf rows) (numbersOf rows) i ≡ getD rows i []
@@ -73,9 +63,6 @@ module _ (a : Matrix) (s : Setup) (ints : List ℕ) (floats : List Float) (workI
   abbrev c : ℕ
   c = s .coarse
 
-  product : s .groups * s .block ≡ c
-  product = sym (w .counted .coarse)
-
   module _ (p : Parts) (es : p .setup ≡ s) (wd : Weighed a p) (h : Holds p (lentOf ints floats workInts workFloats)) where
     ids-long : length (p .ids) ≡ n
     ids-long = wd .sound .ids ∙ ap (λ (t : Setup). t .nodes) es
@@ -92,31 +79,52 @@ module _ (a : Matrix) (s : Setup) (ints : List ℕ) (floats : List Float) (workI
 
   -- ---- the basis that is constant over a group
 
+  abbrev listed : List ℕ → List ℕ
+  listed ids = tab (coarseColumn (s .block) ids) (a .rows)
+
   constant-passes : (ids : List ℕ) → length ids ≡ n → Each (λ x. x < s .groups) ids
-      → constantCoarseCall a (s .block) ids (s .groups) (length workFloats) ≡ done (averagedSquare c (square c (constantEntry a (coarseColumn (s .block) ids))))
+      → constantCoarseCall a 1 (listed ids) c (length workFloats) ≡ done (averagedSquare c (square c (constantEntry a (coarseColumn (s .block) ids))))
   unfolding constantCoarseCall constantChecked constantChecks
   constant-passes ids l e =
       let f = w .front in
       let m = w .counted in
-      goes-on _ tt _ (goes-on _ tt _ (passed _ TooLarge (le-leb (s .groups) maxRows (few-groups a s f m)))
+      let one : c * 1 ≡ c = omega arith in
+      let z : a .rows % 1 ≡ 0 = omega arith in
+      let long : length (listed ids) ≡ a .rows / 1 = length-tab (coarseColumn (s .block) ids) (a .rows) ∙ omega arith in
+      let below : Each (λ j. j < c) (listed ids) = rw (m .coarse) (listed-below (s .block) ids (a .rows) (s .groups) (f .least) (rw l (whole-nodes (a .rows) (s .block) n (f .whole) (m .nodes))) e) in
+      goes-on _ tt _ (goes-on _ tt _ (passed _ TooLarge (le-leb c maxRows (omega (arith, w .small))))
       ∙ goes-on (structureOf a) tt _ (valid-structure a (f .valid))
       ∙ goes-on _ tt _ (passed _ NotSquare (eq-eqb (a .rows) (a .cols) (sym (f .square))))
-      ∙ goes-on _ tt _ (passed _ BlockSize (rw (le-leb 1 (s .block) (f .least), le-leb (s .block) maxBlock (f .most))))
-      ∙ goes-on _ tt _ (passed _ NotMultiple (eq-eqb (a .rows % s .block) 0 (f .whole)))
-      ∙ goes-on _ tt _ (passed _ (CoarseTooLarge (s .groups * s .block)) (le-leb (s .groups * s .block) 2048 (rw product (w .small))))
-      ∙ goes-on _ tt _ (passed _ (CoarseListTooShort (s .groups * s .block)) (rw product (le-leb (c * c) (length workFloats) (omega (arith, w .workFloats)))))
-      ∙ passed _ SetupMisfit (rw (eq-eqb (length ids) (a .rows / s .block) (l ∙ m .nodes), none-outside (s .groups) e)))
-      ∙ ap (λ k. done (averagedSquare k (square k (constantEntry a (coarseColumn (s .block) ids))))) product
+      ∙ goes-on _ tt _ (passed _ BlockSize refl)
+      ∙ goes-on _ tt _ (passed _ NotMultiple (eq-eqb (a .rows % 1) 0 z))
+      ∙ goes-on _ tt _ (passed _ (CoarseTooLarge (c * 1)) (le-leb (c * 1) 2048 (rw one (w .small))))
+      ∙ goes-on _ tt _ (passed _ (CoarseListTooShort (c * 1)) (rw one (le-leb (c * c) (length workFloats) (omega (arith, w .workFloats)))))
+      ∙ passed _ SetupMisfit (rw (eq-eqb (length (listed ids)) (a .rows / 1) long, none-outside c below)))
+      ∙ ap (λ k. done (averagedSquare k (square k (constantEntry a (coarseColumn 1 (listed ids)))))) one
+      ∙ ap (λ f. done (averagedSquare c (square c f))) (constant-listed (s .block) ids (a .rows) a (f .valid) (f .square) refl)
 
-  pub constant-made : s .basis ≡ PiecewiseConstant → (workFloats' : List Float)
-      → workFloats' ≡ resultLeft zeroᶠ (constantCoarseCall a (s .block) (between 0 n ints) (s .groups) (length workFloats)) workFloats → MatrixStage a s ints floats workInts workFloats workInts workFloats'
-  unfolding resultLeft matrixOf coarseEntry
-  constant-made b workFloats' e p es wd h =
-      let z : n - 0 ≡ n = omega arith in
-      let r : between 0 n ints ≡ p .ids = rw z (ap (λ l. take n l) (h .ints) ∙ padded-front 0 (length ints) n (p .ids) (transferInts (p .setup .basis) (p .weights)) (ids-long p es wd h)) in
-      let k : constantCoarseCall a (s .block) (between 0 n ints) (s .groups) (length workFloats) ≡ done (averagedSquare c (square c (constantEntry a (coarseColumn (s .block) (p .ids)))))
-      = ap (λ l. constantCoarseCall a (s .block) l (s .groups) (length workFloats)) r ∙ constant-passes (p .ids) (ids-long p es wd h) (ids-below p es wd h) in
-      (h .workInts, e ∙ ap (λ x. resultLeft zeroᶠ x workFloats) k ∙ rw (es, b))
+  -- the columns listed in the front of the work integers, read there, and cleared
+  module _ (basis : s .basis ≡ PiecewiseConstant) (back zeros : List ℕ) (lb : length back ≡ length (take (a .rows) workInts)) (ls : Listed (s .block) (between 0 n ints) (take (a .rows) workInts) back) where
+    abbrev mid : List ℕ
+    mid = back ++ drop (a .rows) workInts
+
+    pub constant-made : (workFloats' : List Float) → workFloats' ≡ resultLeft zeroᶠ (constantCoarseCall a 1 (take (a .rows) mid) c (length workFloats)) workFloats
+        → zeros ≡ replicate (length (take (a .rows) mid)) 0 → MatrixStage a s ints floats workInts workFloats (zeros ++ drop (a .rows) mid) workFloats'
+    unfolding resultLeft matrixOf coarseEntry
+    constant-made workFloats' e ez p es wd h =
+        let ni = ids-long p es wd h in
+        let below = ids-below p es wd h in
+        let long : length (take (a .rows) workInts) ≡ a .rows = length-take-le (a .rows) workInts (omega (arith, w .workInts)) in
+        let r : take n ints ≡ p .ids = ap (λ l. take n l) (h .ints) ∙ padded-front 0 (length ints) n (p .ids) (transferInts (p .setup .basis) (p .weights)) ni in
+        let made : back ≡ listed (p .ids)
+        = listed-made (s .block) n (a .rows) ints workInts back (p .ids) (omega (arith, w .workInts)) r ls (ids-small (s .groups) (s .block) (w .front .least) (subst (λ m. m ≤ 2048) (w .counted .coarse) (w .small)) below) in
+        let front : take (a .rows) mid ≡ back = take-at back (drop (a .rows) workInts) (a .rows) (lb ∙ long) in
+        let rest : drop (a .rows) mid ≡ drop (a .rows) workInts = drop-at back (drop (a .rows) workInts) (a .rows) (lb ∙ long) in
+        let k : constantCoarseCall a 1 (take (a .rows) mid) c (length workFloats) ≡ done (averagedSquare c (square c (constantEntry a (coarseColumn (s .block) (p .ids)))))
+        = ap (λ l. constantCoarseCall a 1 l c (length workFloats)) (front ∙ made) ∙ constant-passes (p .ids) ni below in (
+          ap (λ l. zeros ++ l) rest ∙ put-zeros 0 (a .rows) workInts zeros (h .workInts) (ez ∙ ap (λ l. replicate (length l) 0) front ∙ ap (λ m. replicate m 0) lb),
+          e ∙ ap (λ x. resultLeft zeroᶠ x workFloats) k ∙ rw (es, basis),
+        )
 
   -- ---- the smoothed basis
 

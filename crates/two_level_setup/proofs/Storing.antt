@@ -134,7 +134,7 @@ module _ (s : Setup) (start : ℕ) (floats work : List Float) where
         abbrev after : List Float
         after = putMid start (length floats - start) floats more
 
-        pub factored : (t : Setup) (floats' work' : List Float) → length after ≡ length floats → t ≡ filled s (s .transfers) (s .damping) scale → Stored (s .policy) dim start after work floats' work'
+        pub factored : (t : Setup) (floats' work' : List Float) → length after ≡ length floats → t ≡ filled s (s .transfers) (s .damping) scale (s .complexity) → Stored (s .policy) dim start after work floats' work'
             → Factored s start floats work (BuiltSetup t) floats' work'
         unfolding factoredAnswer resultLeft
         factored t floats' work' la et st =

@@ -6,17 +6,17 @@ use mathlib.Core.Bool.{Bool}
 use mathlib.Core.List.{List, [], _++_}
 use lib.ListN.{length, take, drop, replicate}
 use lib.Ieee.{Float}
-use Rattle.definitions.specs.Lists.{padded}
+use Rattle.definitions.specs.Lists.{padded, tab}
 use Rattle.definitions.specs.Numbers.{zeroᶠ, largest}
 use Rattle.definitions.specs.Refusal.{Outcome, refused, done, _>>=_}
 use Rattle.definitions.specs.Matrix.{Matrix, Entry}
 use Rattle.definitions.specs.Diagonal.{diagonalOf}
 use Rattle.definitions.specs.Estimate.{Estimate, estimateOf}
-use Rattle.definitions.specs.Transfer.{transferOf}
+use Rattle.definitions.specs.Transfer.{coarseColumn, transferOf}
 use Rattle.definitions.specs.Coarse.{packedLength, coarseFactor, coarsePart, inverseOf}
 pub use Rattle.definitions.specs.Setup.{lentOf}
 use Rattle.definitions.specs.Places.{Lengths, entryNeeds, coarseNeeds, covers}
-use Rattle.definitions.specs.Setup.{Lent, transferFloats}
+use Rattle.definitions.specs.Setup.{Lent, maxCoarse, transferFloats}
 use Rattle.definitions.specs.Answers.{answerOf, estimateAnswer}
 use Rattle.definitions.specs.declared.Answer.{Answer}
 use Rattle.definitions.specs.declared.EstimateAnswer.{EstimateAnswer}
@@ -94,9 +94,19 @@ pub record Damped (a : Matrix) (used : ℕ) (floats work : List Float) (r : Esti
   pub diagonal : (d : List Float) → diagonalOf a ≡ done d → (factors : List Float) → length factors ≡ used → floats ≡ padded zeroᶠ (length floats) factors → floats' ≡ padded zeroᶠ (length floats) (factors ++ d)
   pub clear : (d : List Float) (e : Estimate) → diagonalOf a ≡ done d → estimateOf a d ≡ done e → work ≡ replicate (length work) zeroᶠ → work' ≡ replicate (length work) zeroᶠ
 
--- the front of a work list goes behind the front of a list, over zeros, and is cleared
+-- the coarse column of each row, where each id is one
+abbrev pub Listed : ℕ → List ℕ → List ℕ → List ℕ → Type 0
+Listed size ids columns columns' = Each (λ g. g ≤ maxCoarse) ids → columns' ≡ tab (coarseColumn size ids) (length columns)
+
+-- those behind the ids, and the work list cleared again
+abbrev pub ColumnsPlaced : ℕ → ℕ → ℕ → List ℕ → List ℕ → List ℕ → List ℕ → Type 0
+ColumnsPlaced size nodes rows ints work ints' work' =
+    (ids : List ℕ) → ints ≡ padded 0 (length ints) ids → length ids ≡ nodes → Each (λ g. g ≤ maxCoarse) ids → work ≡ replicate (length work) 0
+    → (ints' ≡ padded 0 (length ints) (ids ++ tab (coarseColumn size ids) rows)) × (work' ≡ replicate (length work) 0)
+
+-- the front of a work list goes behind the front of a list, over what stood there if that is no longer, and is cleared
 pub record MovedInts (at count : ℕ) (to from to' from' : List ℕ) : Type 0 where
-  pub moved : (xs : List ℕ) → from ≡ padded 0 (length from) xs → length xs ≡ count → at + count ≤ length to → drop at to ≡ replicate (length to - at) 0 → to' ≡ take at to ++ padded 0 (length to - at) xs
+  pub moved : (xs ys : List ℕ) → from ≡ padded 0 (length from) xs → length xs ≡ count → at + count ≤ length to → length ys ≤ count → drop at to ≡ padded 0 (length to - at) ys → to' ≡ take at to ++ padded 0 (length to - at) xs
   pub clear : (xs : List ℕ) → from ≡ padded 0 (length from) xs → length xs ≡ count → from' ≡ replicate (length from) 0
 
 -- or over whatever stood there up to an end, with zeros behind it
@@ -131,7 +141,7 @@ pub record Stored (policy : TwoLevelCoarseApplyPolicy) (c start : ℕ) (floats w
   pub clear : work' ≡ replicate (length work) zeroᶠ
 
 unfoldable pub factoredAnswer : Setup → Float → Outcome (List Float) → SetupAnswer
-factoredAnswer s scale (done l) = BuiltSetup (filled s (s .transfers) (s .damping) scale)
+factoredAnswer s scale (done l) = BuiltSetup (filled s (s .transfers) (s .damping) scale (s .complexity))
 factoredAnswer s scale (refused r) = NoSetup r
 
 -- the factor of the coarse matrix that stands at the front of the work floats

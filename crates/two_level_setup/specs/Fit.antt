@@ -70,5 +70,5 @@ pub record MatrixFit (a : Matrix) (s : Setup) (room : Lengths) : Type 0 where
   pub small : s .coarse ≤ maxCoarse
   pub ints : s .nodes + 2 * a .rows + length (a .values) + 1 ≤ room .ints
   pub floats : a .rows * s .block + a .rows + length (a .values) ≤ room .floats
-  pub workInts : 2 * s .coarse ≤ room .workInts
+  pub workInts : a .rows + 2 * s .coarse ≤ room .workInts
   pub workFloats : s .coarse * s .coarse + s .coarse ≤ room .workFloats

@@ -2,3 +2,4 @@
 pub mod Stages
 pub mod Fit
 pub mod Contracts
+pub mod Asking

@@ -4,7 +4,7 @@ use mathlib.Core.List.{List, [], _++_}
 use lib.Dec.{leb}
 use lib.Ieee.{Float}
 use Rattle.definitions.specs.Lists.{square}
-use Rattle.definitions.specs.Numbers.{zeroᶠ, largest}
+use Rattle.definitions.specs.Numbers.{zeroᶠ, largest, nonzeros}
 use Rattle.definitions.specs.Refusal.{Outcome, Checked, refused, done, require, _>>=_}
 use Rattle.definitions.specs.Matrix.{Matrix, Entry}
 use Rattle.definitions.specs.Block.{factorsOf}
@@ -21,7 +21,7 @@ use lib.ListN.{length}
 
 -- ---- the record, which fills up
 
--- once the groups are known: no transfer yet, and no coarse scale
+-- once the groups are known: no transfer yet, no coarse scale, and nothing coarse counted
 unfoldable pub started : ℕ → ℕ → Options → ℕ → Setup
 started rows entries o groups =
     let c = groups * o .block in
@@ -39,13 +39,13 @@ started rows entries o groups =
       policy = resolved (o .policy) c;
       damping = zeroᶠ;
       scale = zeroᶠ;
-      complexity = entries + c * c;
+      complexity = entries;
       baseline = entries;
     }
 
--- with the transfer's two numbers and the coarse scale
-unfoldable pub filled : Setup → ℕ → Float → Float → Setup
-filled s transfers damping scale = record {
+-- with the transfer's two numbers, the coarse scale and the first count of the complexity
+unfoldable pub filled : Setup → ℕ → Float → Float → ℕ → Setup
+filled s transfers damping scale complexity = record {
   rows = s .rows;
   entries = s .entries;
   block = s .block;
@@ -59,7 +59,7 @@ filled s transfers damping scale = record {
   policy = s .policy;
   damping = damping;
   scale = scale;
-  complexity = s .complexity;
+  complexity = complexity;
   baseline = s .baseline;
 }
 
@@ -106,7 +106,7 @@ roomChecked a s room =
 
 -- the transfer: 19 to 22
 unfoldable pub transferred : Parts → Transfer → Parts
-transferred p t = record { setup = filled (p .setup) (length (transferFloats (t .weights))) (t .damping) (p .setup .scale); factors = p .factors; ids = p .ids; weights = t .weights; coarse = p .coarse }
+transferred p t = record { setup = filled (p .setup) (length (transferFloats (t .weights))) (t .damping) (p .setup .scale) (p .setup .complexity); factors = p .factors; ids = p .ids; weights = t .weights; coarse = p .coarse }
 
 unfoldable pub transferStage : Matrix → Parts → Outcome Parts
 transferStage a p = transferFor (p .setup .basis) a (p .setup .block) (p .ids) (p .setup .coarse) >>= (λ t. done (transferred p t))
@@ -115,9 +115,13 @@ transferStage a p = transferFor (p .setup .basis) a (p .setup .block) (p .ids) (
 unfoldable pub matrixOf : Matrix → Parts → List Float
 matrixOf a p = averagedSquare (p .setup .coarse) (square (p .setup .coarse) (coarseEntry (p .setup .basis) a (p .setup .block) (p .ids) (p .weights)))
 
-unfoldable pub stored : Parts → List Float → List Float → Parts
-stored p m factor = record {
-  setup = filled (p .setup) (p .setup .transfers) (p .setup .damping) (largest m);
+-- the record with the coarse matrix's numbers that are not zero beside the entries
+unfoldable pub measured : ℕ → Setup → List Float → Setup
+measured entries s m = filled s (s .transfers) (s .damping) (s .scale) (entries + nonzeros m)
+
+unfoldable pub stored : ℕ → Parts → List Float → List Float → Parts
+stored entries p m factor = record {
+  setup = filled (p .setup) (p .setup .transfers) (p .setup .damping) (largest m) (entries + nonzeros m);
   factors = p .factors;
   ids = p .ids;
   weights = p .weights;
@@ -125,7 +129,7 @@ stored p m factor = record {
 }
 
 unfoldable pub coarseStage : Matrix → Parts → Outcome Parts
-coarseStage a p = coarseFactor (p .setup .coarse) (matrixOf a p) >>= (λ factor. done (stored p (matrixOf a p) factor))
+coarseStage a p = coarseFactor (p .setup .coarse) (matrixOf a p) >>= (λ factor. done (stored (length (a .values)) p (matrixOf a p) factor))
 
 -- ---- put together
 

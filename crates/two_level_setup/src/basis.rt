@@ -1,6 +1,7 @@
 // The transfer: constant over each group, or smoothed by the diagonal and the damping factor.
 use definitions::Answer;
 use definitions::EstimateAnswer;
+use definitions::MAX_COARSE;
 use definitions::Places;
 use definitions::Setup;
 use definitions::SetupAnswer;
@@ -8,19 +9,45 @@ use definitions::TransferAnswer;
 use definitions::TwoLevelBasis;
 use transfer::smoothed_transfer;
 ghost use mathlib.Core.Path.{_≡_};
-ghost use Prim.Native.Nat.{_+_, _≤_};
+ghost use Prim.Native.Nat.{_+_, _*_, _<_, _≤_};
 ghost use lib.ListN.{length};
 ghost use Rattle.definitions.specs.Matrix.{csr};
 ghost use Rattle.definitions.specs.Setup.{lentOf};
 ghost use Rattle.definitions.specs.declared.TwoLevelBasis.the-variants.{JacobiSmoothed};
 ghost use Rattle.two_level_setup.specs.Stages.{transferStage};
 ghost use Rattle.two_level_setup.specs.Fit.{Ample, DampingFit, Placed};
-ghost use Rattle.two_level_setup.specs.Contracts.{roomIn, Damped, MovedInts, MovedFloats, WeightsStage, Begun, Simulates, StaysAmple};
+ghost use Rattle.two_level_setup.specs.Contracts.{roomIn, Listed, ColumnsPlaced, Damped, MovedInts, MovedFloats, WeightsStage, Begun, Simulates, StaysAmple};
 
 fn at_most(x: u64, most: usize) -> usize
     ensures { λ r. ⌜ (r ≤ most) × (x ≤ most → r ≡ x) ⌝ }
 {
     if x < most as u64 { x as usize } else { most }
+}
+
+// The coarse column of an unknown of a node. An id above the limit of coarse columns, which no node has, counts as that limit.
+fn column_of(id: u32, size: usize, part: usize) -> u32
+    requires { ⌜ (size ≤ 8) × (part < size) ⌝ }
+    ensures { λ r. ⌜ (id ≤ 2048 → r ≡ id * size + part) ⌝ }
+{
+    let group = at_most(id as u64, MAX_COARSE);
+    (group * size + part) as u32
+}
+
+// The coarse column of each row, so that whoever reads it for every entry need not divide.
+pub(crate) fn list_columns(size: usize, ids: &[u32], columns: &mut [u32])
+    requires { ⌜ (1 ≤ size) × (size ≤ 8) × (length (now columns) ≡ length (now ids) * size) ⌝ }
+    ensures { λ _. ⌜ Listed size (now (ids .entry)) (now (columns .entry)) (now (columns .exit)) ⌝ }
+{
+    let mut node: usize = 0;
+    let mut part: usize = 0;
+    for row in 0..columns.len() {
+        columns[row] = column_of(ids[node], size, part);
+        part += 1;
+        if part == size {
+            part = 0;
+            node += 1;
+        }
+    }
 }
 
 // Pointers and columns go from the front of the work list behind the groups, and are cleared there.
@@ -33,12 +60,24 @@ fn keep_columns(nodes: usize, count: usize, ints: &mut [u32], work: &mut [u32])
     numbers::zero_ints(&mut work[zero..count]);
 }
 
+// The coarse columns of the rows, behind the ids: pointers and columns of the transfer will stand there. The front of the work list is cleared again.
+fn place_columns(size: usize, nodes: usize, rows: usize, ints: &mut [u32], work: &mut [u32])
+    requires { ⌜ (1 ≤ size) × (size ≤ 8) × (rows ≡ nodes * size) × (nodes + rows ≤ length (now ints)) × (rows ≤ length (now work)) ⌝ }
+    ensures { λ _. ⌜ ColumnsPlaced size nodes rows (now (ints .entry)) (now (work .entry)) (now (ints .exit)) (now (work .exit)) ⌝ }
+{
+    let zero = 0;
+    list_columns(size, &ints[zero..nodes], &mut work[..rows]);
+    keep_columns(nodes, rows, ints, work);
+}
+
 // Weights go from the front of the work list behind the block factors, where the diagonal stood up to `end`, and are cleared there.
+// Of the diagonal only what the weights leave is cleared.
 fn keep_weights(used: usize, end: usize, count: usize, floats: &mut [f64], work: &mut [f64])
     requires { ⌜ (used ≤ end) × ((end ≤ length (now floats)) × (count ≤ length (now work))) ⌝ }
     ensures { λ _. ⌜ MovedFloats used end count (now (floats .entry)) (now (work .entry)) (now (floats .exit)) (now (work .exit)) ⌝ }
 {
-    numbers::zero_floats(&mut floats[used..end]);
+    let last = used + at_most(count as u64, end - used);
+    numbers::zero_floats(&mut floats[last..end]);
     let zero = 0;
     numbers::copy_floats(&work[zero..count], &mut floats[used..]);
     numbers::zero_floats(&mut work[zero..count]);
@@ -106,22 +145,23 @@ fn weights(
 {
     let size = setup.block as usize;
     let nodes = p.pointers;
-    let zero = 0;
+    let listed = nodes + rows;
     let used = p.weights;
     let end = used + rows;
     let c = setup.coarse as usize;
     let most = rows + values.len();
     let few = rows + most + 1 + 2 * c;
     let part = most + c;
+    place_columns(size, nodes, rows, ints, work_ints);
     let answer = smoothed_transfer(
         rows,
         cols,
         row_ptr,
         col_idx,
         values,
-        size,
-        &ints[zero..nodes],
-        setup.groups as usize,
+        1,
+        &ints[nodes..listed],
+        c,
         &floats[used..end],
         damping,
         &mut work_ints[..few],

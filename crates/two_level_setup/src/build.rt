@@ -4,6 +4,8 @@ use super::coarse::coarse;
 use super::fine::fine;
 use definitions::Answer;
 use definitions::MAX_COARSE;
+use definitions::MAX_ENTRIES;
+use definitions::MAX_ROWS;
 use definitions::Options;
 use definitions::Refusal;
 use definitions::Setup;
@@ -15,7 +17,8 @@ ghost use Rattle.definitions.specs.Places.{covers};
 ghost use Rattle.definitions.specs.Setup.{lentOf};
 ghost use Rattle.two_level_setup.specs.Stages.{optionsOf, coarseLevelOf, buildOf};
 ghost use Rattle.two_level_setup.specs.Fit.{Fit, Bounds, Counted, roomOf};
-ghost use Rattle.two_level_setup.specs.Contracts.{roomIn, RoomFor, RoomAnswer, Begun, Simulates, Leaves};
+ghost use Rattle.two_level_setup.specs.Contracts.{roomIn, RoomFor, RoomAnswer, Begun, Simulates};
+ghost use Rattle.two_level_setup.specs.Asking.{Sized, SizesTold, Judged};
 
 // Whether four lists are as long as asked.
 fn long_enough(
@@ -51,7 +54,7 @@ fn square(c: usize) -> usize
 }
 
 // Whether the lists are as long as setup asks for a coarse dimension c: 13 before it is known, with 0, and 18.
-pub(crate) fn has_room(
+fn has_room(
     rows: usize,
     entries: usize,
     block: u64,
@@ -107,6 +110,47 @@ fn room(
         Answer::Accepted
     } else {
         Answer::Refused(Refusal::CoarseListTooShort(setup.coarse))
+    }
+}
+
+// Whether all pass that sizes alone decide: the limits of cause 1, 9 to 12, and 13.
+pub(crate) fn sizes_fit(
+    rows: usize,
+    cols: usize,
+    row_ptr: &[u32],
+    col_idx: &[u32],
+    values: &[f64],
+    options: Options,
+    ints: usize,
+    floats: usize,
+    work_ints: usize,
+    work_floats: usize,
+) -> bool
+    ensures { λ r. ⌜ (
+        let a = csr rows cols (now («row_ptr» .entry)) (now («col_idx» .entry)) (now (values .entry)) in
+        SizesTold a options (roomOf ints floats «work_ints» «work_floats») r
+        ) ⌝ }
+{
+    if MAX_ROWS < rows {
+        return false;
+    }
+    let entries = values.len();
+    if MAX_ENTRIES < entries {
+        return false;
+    }
+    let shaped = two_level_grouping::shape(rows, cols, options.block, options.group);
+    match shaped {
+        Answer::Refused(_) => false,
+        Answer::Accepted => has_room(
+            rows,
+            entries,
+            options.block,
+            0,
+            ints,
+            floats,
+            work_ints,
+            work_floats,
+        ),
     }
 }
 
@@ -176,7 +220,7 @@ fn coarse_level(
     }
 }
 
-// All stages. A refusal leaves the lists as they happen to be.
+// All stages. A refusal from 14 on leaves the lists as they happen to be.
 pub(crate) fn build(
     rows: usize,
     cols: usize,
@@ -189,12 +233,13 @@ pub(crate) fn build(
     work_ints: &mut [u32],
     work_floats: &mut [f64],
 ) -> SetupAnswer
-    requires { ⌜ Fit (csr rows cols (now «row_ptr») (now «col_idx») (now values)) options (roomIn (now ints) (now floats) (now «work_ints») (now «work_floats»)) ⌝ }
+    requires { ⌜ Sized (csr rows cols (now «row_ptr») (now «col_idx») (now values)) options (roomIn (now ints) (now floats) (now «work_ints») (now «work_floats»)) ⌝ }
     ensures { λ r. ⌜ (
         let a = csr rows cols (now («row_ptr» .entry)) (now («col_idx» .entry)) (now (values .entry)) in
         let room = roomIn (now (ints .entry)) (now (floats .entry)) (now («work_ints» .entry)) (now («work_floats» .entry)) in
+        let x = lentOf (now (ints .entry)) (now (floats .entry)) (now («work_ints» .entry)) (now («work_floats» .entry)) in
         let y = lentOf (now (ints .exit)) (now (floats .exit)) (now («work_ints» .exit)) (now («work_floats» .exit)) in
-        Leaves (buildOf a options room) r y
+        Judged a (buildOf a options room) x r y
         ) ⌝ }
 {
     let answer = fine(

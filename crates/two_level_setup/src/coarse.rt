@@ -1,21 +1,24 @@
 // The coarse part: the coarse matrix by the basis asked for, and its factor or inverse.
+use crate::basis::list_columns;
 use coarse_matrix::constant_coarse;
 use coarse_matrix::galerkin_coarse;
+use coarse_matrix::nonzeros;
 use definitions::FactorAnswer;
 use definitions::Places;
 use definitions::Setup;
 use definitions::SetupAnswer;
 use definitions::TwoLevelBasis;
 use definitions::TwoLevelCoarseApplyPolicy;
+ghost use mathlib.Core.Path.{_≡_};
 ghost use Prim.Native.Nat.{_+_, _*_, _≤_};
-ghost use lib.ListN.{length};
+ghost use lib.ListN.{length, take};
 ghost use Rattle.definitions.specs.Matrix.{csr};
 ghost use Rattle.definitions.specs.Setup.{lentOf};
-ghost use Rattle.two_level_setup.specs.Stages.{coarseStage};
+ghost use Rattle.two_level_setup.specs.Stages.{measured, coarseStage};
 ghost use Rattle.two_level_setup.specs.Fit.{Ample, MatrixFit, Placed};
 ghost use Rattle.two_level_setup.specs.Contracts.{roomIn, MatrixStage, Inverted, Stored, Factored, Weighed, Simulates};
 
-// The coarse matrix, to the front of the work floats.
+// The coarse matrix, to the front of the work floats; the work integers are cleared again.
 fn matrix(
     rows: usize,
     cols: usize,
@@ -42,17 +45,19 @@ fn matrix(
     match basis {
         TwoLevelBasis::PiecewiseConstant => {
             let zero = 0;
+            list_columns(size, &ints[zero..nodes], &mut work_ints[..rows]);
             constant_coarse(
                 rows,
                 cols,
                 row_ptr,
                 col_idx,
                 values,
-                size,
-                &ints[zero..nodes],
-                setup.groups as usize,
+                1,
+                &work_ints[..rows],
+                setup.coarse as usize,
                 work_floats,
             );
+            numbers::zero_ints(&mut work_ints[..rows]);
         }
         TwoLevelBasis::JacobiSmoothed => {
             let first = p.columns;
@@ -127,7 +132,20 @@ fn factor(setup: Setup, start: usize, floats: &mut [f64], work: &mut [f64]) -> S
     }
 }
 
-// Coarse matrix, then factor. Each is lent only the fronts that it needs, since a stage clears what it is lent; behind them stand zeros already.
+// The record with its first count: the entries, and the numbers of the coarse matrix at the front of the work list that are not zero.
+fn measure(entries: usize, setup: Setup, work: &[f64]) -> Setup
+    requires { ⌜ (entries ≤ 16_777_216) × (setup .coarse ≤ 2048) × (setup .coarse * (setup .coarse) ≤ length (now work)) ⌝ }
+    ensures { λ r. ⌜ r ≡ measured entries setup (take (setup .coarse * (setup .coarse)) (now (work .entry))) ⌝ }
+{
+    let c = setup.coarse as usize;
+    let places = c * c;
+    let count = nonzeros(&work[..places]);
+    let mut filled = setup;
+    filled.complexity = entries as u64 + count;
+    filled
+}
+
+// Coarse matrix, its count, then its factor. Each is lent only the fronts that it needs, since a stage clears what it is lent; behind them stand zeros already.
 pub(crate) fn coarse(
     rows: usize,
     cols: usize,
@@ -150,7 +168,7 @@ pub(crate) fn coarse(
 {
     let p = layout::places(setup);
     let c = setup.coarse as usize;
-    let few = 2 * c;
+    let few = rows + 2 * c;
     let part = c * c + c;
     matrix(
         rows,
@@ -165,7 +183,13 @@ pub(crate) fn coarse(
         &mut work_ints[..few],
         &mut work_floats[..part],
     );
+    let measured = measure(values.len(), setup, &work_floats[..part]);
     let start = p.coarse;
     let stop = start + c * c;
-    factor(setup, start, &mut floats[..stop], &mut work_floats[..part])
+    factor(
+        measured,
+        start,
+        &mut floats[..stop],
+        &mut work_floats[..part],
+    )
 }

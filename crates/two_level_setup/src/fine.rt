@@ -12,8 +12,8 @@ ghost use Rattle.definitions.specs.Matrix.{csr};
 ghost use Rattle.definitions.specs.Setup.{lentOf};
 ghost use Rattle.definitions.specs.Coarse.{resolved};
 ghost use Rattle.two_level_setup.specs.Stages.{started, fineOf};
-ghost use Rattle.two_level_setup.specs.Fit.{Fit};
-ghost use Rattle.two_level_setup.specs.Contracts.{roomIn, Leaves};
+ghost use Rattle.two_level_setup.specs.Asking.{Sized, Judged};
+ghost use Rattle.two_level_setup.specs.Contracts.{roomIn};
 
 // Auto takes the inverse from a coarse dimension of 1,024 on.
 fn resolve(policy: TwoLevelCoarseApplyPolicy, c: u64) -> TwoLevelCoarseApplyPolicy
@@ -56,12 +56,12 @@ fn start(rows: usize, entries: usize, options: Options, groups: u64) -> Setup
         policy: policy,
         damping: 0.0,
         scale: 0.0,
-        complexity: entries as u64 + c * c,
+        complexity: entries as u64,
         baseline: entries as u64,
     }
 }
 
-// Block factors, then groups: causes 14 to 16.
+// Block factors, then groups: causes 1 to 8, which the blocks ask, and 14 to 16.
 pub(crate) fn fine(
     rows: usize,
     cols: usize,
@@ -74,11 +74,12 @@ pub(crate) fn fine(
     work_ints: &mut [u32],
     work_floats: &mut [f64],
 ) -> SetupAnswer
-    requires { ⌜ Fit (csr rows cols (now «row_ptr») (now «col_idx») (now values)) options (roomIn (now ints) (now floats) (now «work_ints») (now «work_floats»)) ⌝ }
+    requires { ⌜ Sized (csr rows cols (now «row_ptr») (now «col_idx») (now values)) options (roomIn (now ints) (now floats) (now «work_ints») (now «work_floats»)) ⌝ }
     ensures { λ r. ⌜ (
         let a = csr rows cols (now («row_ptr» .entry)) (now («col_idx» .entry)) (now (values .entry)) in
+        let x = lentOf (now (ints .entry)) (now (floats .entry)) (now («work_ints» .entry)) (now («work_floats» .entry)) in
         let y = lentOf (now (ints .exit)) (now (floats .exit)) (now («work_ints» .exit)) (now («work_floats» .exit)) in
-        Leaves (fineOf a options) r y
+        Judged a (fineOf a options) x r y
         ) ⌝ }
 {
     let size = options.block as usize;

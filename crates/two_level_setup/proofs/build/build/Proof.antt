@@ -16,7 +16,7 @@ returns : tie.Need-returns
 returns c =
     let a = c .before .before .before .before .before .before .before .before .before .before .before .before .before .before .before .before .before .before .before .before .before .before .before .args in
     let f = c .before .before .before .before .before .before .before .before .before .before .before .fine in
-    built-refused (csr (a .rows) (a .cols) (a .row-ptr .now) (a .col-idx .now) (a .values .now)) (a .options) (lentOf (a .ints .now) (a .floats .now) (a .work-ints .now) (a .work-floats .now)) (c .before .before .before .before .before .before .before .before .before .before .before .before .before .before .before .before .before .before .before .before .before .before .before .pre) (f .result) (lentOf (f .last .1 .1 .1 .1 .1 .1 .0) (f .last .1 .1 .1 .1 .1 .1 .1 .0) (f .last .1 .1 .1 .1 .1 .1 .1 .1 .0) (f .last .1 .1 .1 .1 .1 .1 .1 .1 .1 .0)) (f .ensures) (f .kept .1 .1 .1 .1 .1 .1 .0) (f .kept .1 .1 .1 .1 .1 .1 .1 .0) (f .kept .1 .1 .1 .1 .1 .1 .1 .1 .0) (f .kept .1 .1 .1 .1 .1 .1 .1 .1 .1 .0) _ _ (c .before .answer .given .1)
+    built-refused (csr (a .rows) (a .cols) (a .row-ptr .now) (a .col-idx .now) (a .values .now)) (a .options) (lentOf (a .ints .now) (a .floats .now) (a .work-ints .now) (a .work-floats .now)) (c .before .before .before .before .before .before .before .before .before .before .before .before .before .before .before .before .before .before .before .before .before .before .before .pre) (f .result) (lentOf (f .last .1 .1 .1 .1 .1 .1 .0) (f .last .1 .1 .1 .1 .1 .1 .1 .0) (f .last .1 .1 .1 .1 .1 .1 .1 .1 .0) (f .last .1 .1 .1 .1 .1 .1 .1 .1 .1 .0)) (f .ensures) (f .kept .1 .1 .1 .1 .1 .1 .0) (f .kept .1 .1 .1 .1 .1 .1 .1 .0) (f .kept .1 .1 .1 .1 .1 .1 .1 .1 .0) (f .kept .1 .1 .1 .1 .1 .1 .1 .1 .1 .0) _ (c .before .answer .given .1)
 
 returns-2 : tie.Need-returns-2
 returns-2 c =
