@@ -12,7 +12,7 @@ ghost use mathlib.Core.Bool.{true, _&&_};
 ghost use Prim.Native.Nat.{_+_, _≤_};
 ghost use Rattle.definitions.specs.Coarse.{coarseLength};
 ghost use Rattle.definitions.specs.Places.{usedInts, placesOf};
-ghost use Rattle.layout.specs.Layout.{placeable, layoutOf};
+ghost use Rattle.layout.specs.Layout.{placeable, partLength, layoutOf};
 
 fn both(a: bool, b: bool) -> bool
     ensures { λ r. ⌜ r ≡ (a && b) ⌝ }
@@ -40,6 +40,16 @@ fn coarse_length(policy: TwoLevelCoarseApplyPolicy, c: usize) -> usize
         TwoLevelCoarseApplyPolicy::FactorSolve => c * (c + 1) / 2,
         TwoLevelCoarseApplyPolicy::ExplicitInverse => c * c,
     }
+}
+
+// The same for any coarse dimension: 0 for one that is over its limit.
+pub fn part_length(policy: TwoLevelCoarseApplyPolicy, c: usize) -> usize
+    ensures { λ r. ⌜ r ≡ partLength policy c ⌝ }
+{
+    if c <= MAX_COARSE {
+        return coarse_length(policy, c);
+    }
+    0
 }
 
 fn used_ints(basis: TwoLevelBasis, s: Setup) -> usize

@@ -5,11 +5,11 @@ use mathlib.Core.List.{List, [], _++_, append-assoc}
 use Prim.Native.Nat.{ℕ, suc, _+_, _-_, _*_, _%_, _<_, _≤_}
 use native.Mathlib.Omega.{arith}
 use lib.Dec.{ltb}
-use lib.ListN.{length, getD, drop, replicate, length-append, length-replicate, length-take}
-use lib.Seq.{drop-at}
+use lib.ListN.{length, getD, take, drop, replicate, length-append, length-replicate}
+use lib.Seq.{drop-at, drop-drop, length-take-le}
 use lib.Ieee.{Float}
 use borrow.Author.Tests.{le-leb, lt-ltb, le-ltb, eq-eqb}
-use borrow.Rule.Slice.PartMut.{putMid, same-len-mid, put-same}
+use borrow.Rule.Slice.PartMut.{putMid, mid-len, same-len-mid, put-same}
 use Rattle.definitions.specs.Lists.{between, padded, pointersFrom, joinedLists}
 use Rattle.definitions.specs.Numbers.{zeroᶠ}
 use Rattle.definitions.specs.Refusal.{Outcome, refused, done, require, _>>=_, resultLeft, workLeft, keepsAll}
@@ -47,9 +47,12 @@ module _ (a : Matrix) (o : Options) where
   abbrev n : ℕ
   n = nodeCount a o
 
-  -- where the neighbour lists begin, and where they may end
+  -- where the part lent to the search begins, where the neighbour lists do, and where they may end
+  abbrev first : ℕ
+  first = 4 * n + length (a .values) + 16
+
   abbrev base : ℕ
-  base = 6 * n + length (a .values) + 16
+  base = first + 2 * n
 
   abbrev ending : ℕ
   ending = base + n + 1 + length (a .values)
@@ -73,15 +76,15 @@ module _ (a : Matrix) (o : Options) where
 
   -- ---- the first stage's checks
 
-  neighbours-pass : Shape a o → (k : TwoLevelAggregation) → readOf k a ≡ done tt → (room floatRoom : ℕ) → ending ≤ room → 3 * n ≤ floatRoom
-      → neighboursWithin k a (o .block) base room floatRoom ≡ done (replicate base 0 ++ flatNeighbours k a (o .block) n)
+  neighbours-pass : Shape a o → (k : TwoLevelAggregation) → readOf k a ≡ done tt → (room floatRoom : ℕ) → 2 * n + n + 1 + length (a .values) ≤ room → 3 * n ≤ floatRoom
+      → neighboursWithin k a (o .block) (2 * n) room floatRoom ≡ done (replicate (2 * n) 0 ++ flatNeighbours k a (o .block) n)
   unfolding neighboursWithin
   neighbours-pass f k v room floatRoom h1 h2 =
       goes-on (readOf k a) tt _ v
       ∙ goes-on _ tt _ (passed _ NotSquare (eq-eqb (a .cols) (a .rows) (f .square)))
       ∙ goes-on _ tt _ (passed _ BlockSize (rw (le-leb 1 (o .block) (f .least), le-leb (o .block) maxBlock (f .most))))
       ∙ goes-on _ tt _ (passed _ NotMultiple (eq-eqb (a .rows % o .block) 0 (f .whole)))
-      ∙ goes-on _ tt _ (passed _ ListTooShort (rw (le-leb (2 * n) base (omega arith), le-leb ending room h1, le-leb (3 * n) floatRoom h2)))
+      ∙ goes-on _ tt _ (passed _ ListTooShort (rw (le-leb (2 * n) (2 * n) (omega arith), le-leb (2 * n + n + 1 + length (a .values)) room h1, le-leb (3 * n) floatRoom h2)))
 
   module _ (k : TwoLevelAggregation) (room workRoom floatRoom : ℕ) (y : Ready a o room workRoom floatRoom) (some : 0 < n) where
     abbrev lists : List (List ℕ)
@@ -95,27 +98,27 @@ module _ (a : Matrix) (o : Options) where
     reach = omega (arith, y .work)
 
     module _ (work work1 : List ℕ) (long : length work ≡ workRoom)
-        (came : work1 ≡ resultLeft 0 (neighboursWithin k a (o .block) base (length (between 0 ending work)) floatRoom) (between 0 ending work)) (kept : length work1 ≡ length (between 0 ending work)) where
+        (came : work1 ≡ resultLeft 0 (neighboursWithin k a (o .block) (2 * n) (length (between first ending work)) floatRoom) (between first ending work)) (kept : length work1 ≡ length (between first ending work)) where
       abbrev lent : List ℕ
-      lent = between 0 ending work
+      lent = between first ending work
 
       abbrev within : Outcome (List ℕ)
-      within = neighboursWithin k a (o .block) base (length lent) floatRoom
+      within = neighboursWithin k a (o .block) (2 * n) (length lent) floatRoom
 
       abbrev after : List ℕ
-      after = putMid 0 (ending - 0) work work1
+      after = putMid first (ending - first) work work1
 
       abbrev flat : List ℕ
-      flat = replicate base 0 ++ flatNeighbours k a (o .block) n
+      flat = replicate (2 * n) 0 ++ flatNeighbours k a (o .block) n
 
       abbrev rest : List ℕ
-      rest = replicate (length lent - length flat) 0 ++ drop (ending - 0) work
+      rest = replicate (length lent - length flat) 0 ++ drop (ending - first) (drop first work)
 
-      lent-long : length lent ≡ ending
-      lent-long = let z : ending - 0 ≡ ending = omega arith in rw z (length-take ending work ∙ omega (arith, reach))
+      lent-long : length lent ≡ ending - first
+      lent-long = mid-len first ending work (omega (arith, reach, long))
 
       after-long : length after ≡ length work
-      after-long = same-len-mid 0 (ending - 0) work work1 kept
+      after-long = same-len-mid first (ending - first) work work1 kept
 
       passes-valid : readOf k a ≡ done tt → within ≡ done flat
       passes-valid v = neighbours-pass (shape-of a o (y .shape)) k v (length lent) floatRoom (omega (arith, lent-long)) (y .floats)
@@ -130,7 +133,7 @@ module _ (a : Matrix) (o : Options) where
             let q : keepsAll r ≡ true = keeps-refused (readOf k a) r (read-keeps k a) v in
             let c : within ≡ refused r = stops (readOf k a) r _ v in
             let w : work1 ≡ lent = came ∙ result-kept 0 lent r q within c in
-            let p : after ≡ work = ap (λ l. putMid 0 (ending - 0) work l) w ∙ put-same 0 (ending - 0) work in
+            let p : after ≡ work = ap (λ l. putMid first (ending - first) work l) w ∙ put-same first (ending - first) work in
             rw (p, ef ∙ work-kept zeroᶠ floats r q within c) (invalid-kept ids work floats k a (listsOf k a o) r v)
 
         module _ (e : x ≡ Accepted) where
@@ -150,10 +153,12 @@ module _ (a : Matrix) (o : Options) where
           stands : drop base after ≡ pointersFrom 0 lists ++ (joinedLists lists ++ rest)
           unfolding resultLeft padded flatNeighbours
           stands =
-              rw (came-is, append-assoc flat (replicate (length lent - length flat) 0) (drop (ending - 0) work), append-assoc (replicate base 0) (flatNeighbours k a (o .block) n) rest)
-              (drop-at (replicate base 0) (flatNeighbours k a (o .block) n ++ rest) base (length-replicate base 0) ∙ append-assoc (pointersFrom 0 lists) (joinedLists lists) rest)
+              sym (drop-drop (2 * n) first after)
+              ∙ ap (drop (2 * n)) (drop-at (take first work) (work1 ++ drop (ending - first) (drop first work)) first (length-take-le first work (omega (arith, reach, long))))
+              ∙ rw (came-is, append-assoc flat (replicate (length lent - length flat) 0) (drop (ending - first) (drop first work)), append-assoc (replicate (2 * n) 0) (flatNeighbours k a (o .block) n) rest)
+              (drop-at (replicate (2 * n) 0) (flatNeighbours k a (o .block) n ++ rest) (2 * n) (length-replicate (2 * n) 0) ∙ append-assoc (pointersFrom 0 lists) (joinedLists lists) rest)
 
-          fits : length flat ≤ ending
+          fits : length flat ≤ ending - first
           unfolding resultLeft padded
           fits =
               let e : length (flat ++ replicate (length lent - length flat) 0) ≡ length lent = rw (← came-is) kept in
@@ -164,7 +169,7 @@ module _ (a : Matrix) (o : Options) where
           few : length (joinedLists lists) ≤ length (a .values)
           unfolding flatNeighbours
           few =
-              let b : length flat ≡ base + length (pointersFrom 0 lists ++ joinedLists lists) = length-append (replicate base 0) (pointersFrom 0 lists ++ joinedLists lists) ∙ ap (λ m. m + length (pointersFrom 0 lists ++ joinedLists lists)) (length-replicate base 0) in
+              let b : length flat ≡ 2 * n + length (pointersFrom 0 lists ++ joinedLists lists) = length-append (replicate (2 * n) 0) (pointersFrom 0 lists ++ joinedLists lists) ∙ ap (λ m. m + length (pointersFrom 0 lists ++ joinedLists lists)) (length-replicate (2 * n) 0) in
               let s : length (pointersFrom 0 lists ++ joinedLists lists) ≡ suc n + length (joinedLists lists)
               = length-append (pointersFrom 0 lists) (joinedLists lists) ∙ ap (λ m. m + length (joinedLists lists)) (pointers-length 0 lists ∙ ap suc list-count) in
               omega (arith, fits, b, s)

@@ -75,7 +75,7 @@ shape-of a o e =
     }
 
 -- 1 to 8, and 9 to 12 by sizes
-front-with : (a : Matrix) (o : Options) → validOf a ≡ done tt → Shape a o → Front a o
+pub front-with : (a : Matrix) (o : Options) → validOf a ≡ done tt → Shape a o → Front a o
 front-with a o v s = record { valid = v; square = s .square; least = s .least; most = s .most; some = s .some; fewest = s .fewest; whole = s .whole }
 
 -- 10 alone

@@ -20,7 +20,7 @@ ghost use Rattle.definitions.specs.declared.TwoLevelAggregation.the-variants.{C
 ghost use Rattle.two_level_grouping.specs.Calls.{hasRoom, sizesFit, asked, aggregateCall, Grouped, Answered, Ready, noNode, numbersOf, listsOf, readThen};
 
 // Causes 9 to 12, in this order.
-fn shape(rows: usize, cols: usize, block: u64, group: u64) -> Answer
+pub fn shape(rows: usize, cols: usize, block: u64, group: u64) -> Answer
     ensures { λ r. ⌜ r ≡ answerOf (shapeOf rows cols block group) ⌝ }
 {
     if cols != rows {
@@ -219,6 +219,7 @@ fn no_node(
 }
 
 // Graph and StrongGraph: the causes of the matrix, which the search for neighbours asks, and 16; then the groups by the nodes' lists, which stand behind the grouping's room in the work list.
+// The search is lent no more of that room than it uses, since it clears what it is lent, and grouping clears all of it.
 fn by_graph(
     rows: usize,
     cols: usize,
@@ -251,8 +252,8 @@ fn by_graph(
             work_floats,
         );
     }
-    let zero = 0;
-    let base = 6 * nodes + values.len() + 16;
+    let first = 4 * nodes + values.len() + 16;
+    let base = first + 2 * nodes;
     let need = base + nodes + 1 + values.len();
     let found = adjacency::neighbours(
         rows,
@@ -262,8 +263,8 @@ fn by_graph(
         values,
         size,
         aggregation,
-        base,
-        &mut work_ints[zero..need],
+        2 * nodes,
+        &mut work_ints[first..need],
         work_floats,
     );
     match found {

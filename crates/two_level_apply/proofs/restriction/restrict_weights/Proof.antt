@@ -17,45 +17,6 @@ use Rattle.two_level_apply.proofs.restriction.restrict_weights.Tie as t
 facts : (s : tie.Start) → Room (s .args .s) (s .args .p) (length (s .args .ints .now)) (length (s .args .floats .now))
 facts s = let l = s .pre .0 in room (s .args .s) (s .args .ints .now) (s .args .floats .now) (l .fits) (s .pre .3) (s .args .p) (l .places)
 
-add-e : tie.Need-add-e
-add-e c = omega (arith, facts (c .before .before .before .before))
-
-mul-restrict-smoothed : tie.Need-mul-restrict-smoothed
-mul-restrict-smoothed c = omega (arith, facts (c .before .before .before .before))
-
-sub-restrict-smoothed : tie.Need-sub-restrict-smoothed
-sub-restrict-smoothed c = omega (arith, facts (c .before .before .before .before))
-
-part-restrict-smoothed-start : tie.Need-part-restrict-smoothed-start
-part-restrict-smoothed-start c = omega (arith, facts (c .before .before .before .before))
-
-part-restrict-smoothed-end : tie.Need-part-restrict-smoothed-end
-part-restrict-smoothed-end c = omega (arith, facts (c .before .before .before .before))
-
-mul-restrict-smoothed-2 : tie.Need-mul-restrict-smoothed-2
-mul-restrict-smoothed-2 c = omega (arith, facts (c .before .before .before .before .before))
-
-sub-restrict-smoothed-2 : tie.Need-sub-restrict-smoothed-2
-sub-restrict-smoothed-2 c = omega (arith, facts (c .before .before .before .before .before))
-
-part-restrict-smoothed-start-2 : tie.Need-part-restrict-smoothed-start-2
-part-restrict-smoothed-start-2 c = omega (arith, facts (c .before .before .before .before .before))
-
-part-restrict-smoothed-end-2 : tie.Need-part-restrict-smoothed-end-2
-part-restrict-smoothed-end-2 c = omega (arith, facts (c .before .before .before .before .before))
-
-mul-restrict-smoothed-3 : tie.Need-mul-restrict-smoothed-3
-mul-restrict-smoothed-3 c = omega (arith, facts (c .before .before .before .before .before .before))
-
-sub-restrict-smoothed-3 : tie.Need-sub-restrict-smoothed-3
-sub-restrict-smoothed-3 c = omega (arith, facts (c .before .before .before .before .before .before))
-
-part-restrict-smoothed-start-3 : tie.Need-part-restrict-smoothed-start-3
-part-restrict-smoothed-start-3 c = omega (arith, facts (c .before .before .before .before .before .before))
-
-part-restrict-smoothed-end-3 : tie.Need-part-restrict-smoothed-end-3
-part-restrict-smoothed-end-3 c = omega (arith, facts (c .before .before .before .before .before .before))
-
 slice-aggregate-restrict-smoothed : tie.Need-slice-aggregate-restrict-smoothed
 slice-aggregate-restrict-smoothed c = let s = c .before .before .before .before .before .before .before .before in sym (length-take-le (s .args .s .coarse) (s .args .work .now) (s .pre .2))
 
@@ -79,19 +40,19 @@ pub restrict-weights-spec : {M : Type 1} → statement M
 restrict-weights-spec =
     tie.close
     (tie.spec
-    add-e
-    mul-restrict-smoothed
-    sub-restrict-smoothed
-    part-restrict-smoothed-start
-    part-restrict-smoothed-end
-    mul-restrict-smoothed-2
-    sub-restrict-smoothed-2
-    part-restrict-smoothed-start-2
-    part-restrict-smoothed-end-2
-    mul-restrict-smoothed-3
-    sub-restrict-smoothed-3
-    part-restrict-smoothed-start-3
-    part-restrict-smoothed-end-3
+    (λ c. omega (arith, facts (c .before .before .before .before)))
+    (λ c. omega (arith, facts (c .before .before .before .before)))
+    (λ c. omega (arith, facts (c .before .before .before .before)))
+    (λ c. omega (arith, facts (c .before .before .before .before)))
+    (λ c. omega (arith, facts (c .before .before .before .before)))
+    (λ c. omega (arith, facts (c .before .before .before .before .before)))
+    (λ c. omega (arith, facts (c .before .before .before .before .before)))
+    (λ c. omega (arith, facts (c .before .before .before .before .before)))
+    (λ c. omega (arith, facts (c .before .before .before .before .before)))
+    (λ c. omega (arith, facts (c .before .before .before .before .before .before)))
+    (λ c. omega (arith, facts (c .before .before .before .before .before .before)))
+    (λ c. omega (arith, facts (c .before .before .before .before .before .before)))
+    (λ c. omega (arith, facts (c .before .before .before .before .before .before)))
     (λ c. search needs)
     slice-aggregate-restrict-smoothed
     restrict-smoothed-requires
