@@ -100,7 +100,8 @@ uint64_t yelomawin_estimate(uint64_t rows, uint64_t cols,
 /* With n rows, e entries, block size b and N = n / b nodes the lists need, before the coarse dimension c is known (cause 13),
  *   setup_ints N + 2 n + e + 1, setup_floats n b + n + e, work_ints 8 n + 4 e + 16, work_floats 8 n + 2 e
  * and for c (cause 18, which returns c) setup_floats c c, work_floats c c + 4 c and work_ints 4 c more.
- * `record` receives the record; an apply needs all YELOMAWIN_RECORD numbers of it. Causes 1 to 24 in their order, and 255 before them. */
+ * `record` receives the record, in which YELOMAWIN_COMPLEXITY counts the entries and the coarse entries that are not zero; an apply
+ * needs all YELOMAWIN_RECORD numbers of it. Causes 1 to 24 in their order, and 255 before them. */
 uint64_t yelomawin_setup(uint64_t rows, uint64_t cols,
     const uint32_t *row_ptr, size_t row_ptr_len, const uint32_t *col_idx, size_t col_idx_len, const double *values, size_t values_len,
     uint64_t block_size, uint64_t group_size, uint64_t aggregation, uint64_t basis, uint64_t coarse_policy,

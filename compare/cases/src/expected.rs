@@ -20,13 +20,13 @@ pub fn accepted(values: &[u64], results: Vec<Vec<u64>>) -> Expected {
 
 /// The record of a setup; the complexity counts by their definition.
 pub fn record(a: &Csr, o: &Options, k: &Kept) -> [u64; 15] {
-    let (n, e, c) = (a.rows, a.values.len(), k.coarse);
-    let sizes = [n, e, o.block, o.group, n / o.block, k.groups, c, k.weights.len()].map(|x| x as u64);
+    let (n, e) = (a.rows, a.values.len());
+    let sizes = [n, e, o.block, o.group, n / o.block, k.groups, k.coarse, k.weights.len()].map(|x| x as u64);
     let policies = [o.aggregation, o.basis, if k.inverse { 2 } else { 1 }].map(u64::from);
     let mut all = [0; 15];
     all[..8].copy_from_slice(&sizes);
     all[8..11].copy_from_slice(&policies);
-    all[11..].copy_from_slice(&[k.damping.to_bits(), k.scale.to_bits(), (e + c * c) as u64, e as u64]);
+    all[11..].copy_from_slice(&[k.damping.to_bits(), k.scale.to_bits(), (e + k.nonzeros) as u64, e as u64]);
     all
 }
 

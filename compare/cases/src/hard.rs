@@ -5,7 +5,7 @@ use hybit_precond::probe;
 
 type Rows = Vec<Vec<(u32, f64)>>;
 
-const KINDS: [&str; 10] = [
+const KINDS: [&str; 11] = [
     "weight that is NaN",
     "coarse matrix of NaN alone",
     "block pivot at the tolerance",
@@ -16,6 +16,7 @@ const KINDS: [&str; 10] = [
     "residual of -0 and the smallest subnormal",
     "diagonal entry of 1.7e308",
     "three rounds of joining",
+    "coarse pair that cancels",
 ];
 
 /// What a seed plants.
@@ -35,7 +36,8 @@ pub fn hard(seed: u64) -> Case {
         6 => empty_row(g),
         7 => tiny_residual(g),
         8 => largest_diagonal(g),
-        _ => three_rounds(g),
+        9 => three_rounds(g),
+        _ => cancelled_pair(g),
     }
 }
 
@@ -224,6 +226,18 @@ fn three_rounds(g: &mut Random) -> Case {
     Case::Group { lists, size: 16 + g.below(32) }
 }
 
+/// Chains of which some links are opposite both ways: such a pair of the coarse matrix is zero once it is averaged.
+fn cancelled_pair(g: &mut Random) -> Case {
+    let (nodes, size, basis) = (2 + g.below(8), 1 + g.below(3), g.below(2));
+    let mut rows = chains(g, nodes, size);
+    for i in 0..rows.len() {
+        let turned = !g.one_in(3);
+        rows[i].iter_mut().filter(|e| turned && (e.0 as usize) < i).for_each(|e| e.1 = -e.1);
+    }
+    let o = options(g, size, basis);
+    two_level(g, rows, o)
+}
+
 /// A coarse dimension at which Auto begins to invert.
 pub fn wide(seed: u64) -> Case {
     let g = &mut Random(seed);
@@ -264,5 +278,10 @@ mod tests {
         assert!(count(8, &accepted) > 50);
         let one = |_: &Case, a: &Answer| matches!(a, Answer::Groups(_, ids) if ids[..6].iter().all(|&g| g == 0));
         assert!(count(9, &one) > 100, "{}", count(9, &one));
+        let cancelled = |c: &Case, a: &Answer| {
+            let (Case::TwoLevel { a: m, .. }, Answer::TwoLevel(k, _)) = (c, a) else { return false };
+            m.values.len() > m.rows && k.nonzeros < k.coarse + (m.values.len() - m.rows) && k.transfer_ptr.is_empty() && k.coarse == m.rows
+        };
+        assert!(count(10, &accepted) > 300 && count(10, &cancelled) > 20, "{} {}", count(10, &accepted), count(10, &cancelled));
     }
 }

@@ -93,6 +93,8 @@ pub struct Kept {
     pub damping: f64,
     /// The coarse matrix's largest magnitude, NaN passed over.
     pub scale: f64,
+    /// Of its numbers, both halves and the diagonal, those that are not zero.
+    pub nonzeros: usize,
     pub inverse: bool,
 }
 
@@ -124,6 +126,7 @@ pub fn kept(p: &TwoLevelBlockJacobiPreconditioner, matrix: &Csr32Matrix) -> Kept
         SmoothedTransferValues::F32(v) => v.iter().map(|&x| x as f64).collect(),
         _ => Vec::new(),
     };
+    let matrix = coarse(p, matrix);
     let inverse = p.coarse_apply_policy == TwoLevelCoarseApplyPolicy::ExplicitInverse;
     Kept {
         groups: p.aggregate_count,
@@ -135,7 +138,8 @@ pub fn kept(p: &TwoLevelBlockJacobiPreconditioner, matrix: &Csr32Matrix) -> Kept
         weights,
         coarse_part: if inverse { p.coarse_inverse.clone() } else { p.coarse_lower_packed.clone() },
         damping: p.smoothing_omega,
-        scale: coarse(p, matrix).iter().fold(0.0, |s, v| s.max(v.abs())),
+        scale: matrix.iter().fold(0.0, |s, v| s.max(v.abs())),
+        nonzeros: matrix.iter().filter(|&&v| v != 0.0).count(),
         inverse,
     }
 }

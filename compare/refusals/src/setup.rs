@@ -183,13 +183,13 @@ fn pair(x: f64) -> Csr {
     Csr::full([[1.0, x], [x, 1.0]])
 }
 
-/// The record as numbers: sizes, policies, damping factor and scale by their bits, both counts.
+/// The record as numbers: sizes, policies, damping factor and scale by their bits, both counts, the first with what is not zero in the coarse matrix.
 #[allow(clippy::too_many_arguments)]
-fn record(i: &Setup, nodes: u64, groups: u64, coarse: u64, transfers: u64, policy: u64, damping: f64, scale: f64) -> Vec<u64> {
+fn record(i: &Setup, nodes: u64, groups: u64, coarse: u64, transfers: u64, policy: u64, damping: f64, scale: f64, nonzeros: u64) -> Vec<u64> {
     let e = i.a.values.len() as u64;
     vec![
         i.a.rows, e, i.block, i.group, nodes, groups, coarse, transfers, i.aggregation, i.basis, policy,
-        damping.to_bits(), scale.to_bits(), e + coarse * coarse, e,
+        damping.to_bits(), scale.to_bits(), e + nonzeros, e,
     ]
 }
 
@@ -200,6 +200,7 @@ fn accepted() -> Vec<Case<Setup>> {
     let plain = Setup::on(mixed.clone(), 1, 2, CONTIGUOUS, CONSTANT, 1);
     let inverse = Setup { policy: INVERSE, ..plain.clone() };
     let apart = Setup { policy: FACTOR, ..Setup::on(Csr::full([[16.0, 0.0], [0.0, 4.0]]), 1, 1, GRAPH, CONSTANT, 2) };
+    let skew = Setup { policy: FACTOR, ..Setup::on(Csr::full([[4.0, 1.0], [-1.0, 4.0]]), 1, 1, GRAPH, CONSTANT, 2) };
     let widest = Setup { group: ROWS, ..plain.clone() };
     let block = Setup::on(Csr::plain(), 2, 1, STRONG, CONSTANT, 2);
     let smoothed = Setup::on(Csr::full([[4.0]]), 1, 1, GRAPH, SMOOTHED, 1);
@@ -207,12 +208,13 @@ fn accepted() -> Vec<Case<Setup>> {
     let weight: f64 = 1.0 - (damping * 4.0) * 0.25;
     let coarse = weight * (4.0 * weight);
     vec![
-        of("lists longer", plain.clone(), record(&plain, 2, 1, 1, 0, FACTOR, 0.0, 4.0), &[0, 0], &[4.0, 4.0, 2.0]),
-        of("inverse", inverse.clone(), record(&inverse, 2, 1, 1, 0, INVERSE, 0.0, 4.0), &[0, 0], &[4.0, 4.0, 0.25]),
-        of("diag(16, 4)", apart.clone(), record(&apart, 2, 2, 2, 0, FACTOR, 0.0, 16.0), &[0, 1], &[4.0, 2.0, 4.0, 0.0, 2.0]),
-        of("group size at the limit", widest.clone(), record(&widest, 2, 1, 1, 0, FACTOR, 0.0, 4.0), &[0, 0], &[4.0, 4.0, 2.0]),
-        of("one node of two rows", block.clone(), record(&block, 1, 1, 2, 0, FACTOR, 0.0, 5.0), &[0], &[2.0, 0.0, 1.0, 2.0, 2.0, 1.0, 2.0]),
-        of("[4] smoothed", smoothed.clone(), record(&smoothed, 1, 1, 1, 1, FACTOR, damping, coarse), &[0, 0, 1, 0], &[2.0, weight, coarse.sqrt()]),
+        of("lists longer", plain.clone(), record(&plain, 2, 1, 1, 0, FACTOR, 0.0, 4.0, 1), &[0, 0], &[4.0, 4.0, 2.0]),
+        of("inverse", inverse.clone(), record(&inverse, 2, 1, 1, 0, INVERSE, 0.0, 4.0, 1), &[0, 0], &[4.0, 4.0, 0.25]),
+        of("diag(16, 4)", apart.clone(), record(&apart, 2, 2, 2, 0, FACTOR, 0.0, 16.0, 2), &[0, 1], &[4.0, 2.0, 4.0, 0.0, 2.0]),
+        of("[4 1; -1 4]", skew.clone(), record(&skew, 2, 2, 2, 0, FACTOR, 0.0, 4.0, 2), &[0, 1], &[2.0, 2.0, 2.0, 0.0, 2.0]),
+        of("group size at the limit", widest.clone(), record(&widest, 2, 1, 1, 0, FACTOR, 0.0, 4.0, 1), &[0, 0], &[4.0, 4.0, 2.0]),
+        of("one node of two rows", block.clone(), record(&block, 1, 1, 2, 0, FACTOR, 0.0, 5.0, 4), &[0], &[2.0, 0.0, 1.0, 2.0, 2.0, 1.0, 2.0]),
+        of("[4] smoothed", smoothed.clone(), record(&smoothed, 1, 1, 1, 1, FACTOR, damping, coarse, 1), &[0, 0, 1, 0], &[2.0, weight, coarse.sqrt()]),
     ]
 }
 
@@ -222,7 +224,7 @@ fn bound() -> Vec<Case<Setup>> {
     let case = |what: &str, i: Setup, policy: u64, coarse: Vec<f64>| {
         let n = i.coarse;
         let floats = [vec![2.0; n as usize], coarse].concat();
-        Case::accepted(what, i.clone(), &record(&i, n, n, n, 0, policy, 0.0, 4.0), vec![(0..n).collect(), bits(&floats)]).large()
+        Case::accepted(what, i.clone(), &record(&i, n, n, n, 0, policy, 0.0, 4.0, n), vec![(0..n).collect(), bits(&floats)]).large()
     };
     let packed = (0..1023).flat_map(|i| (0..=i).map(move |j| if i == j { 2.0 } else { 0.0 })).collect();
     let inverse = (0..1024 * 1024).map(|k| if k % 1025 == 0 { 0.25 } else { 0.0 }).collect();

@@ -74,7 +74,7 @@ pub fn setup(report: &Report, setup: &Setup, parts: &Parts) -> Result<(), Stop> 
     let line = |level: &str, unknowns: usize, entries: u64, memory: usize, more: String| {
         report.say(format!("{level:<10} {unknowns:>10} {entries:>12} {:>10} {:>12}   {more}", share(entries), bytes(memory)))
     };
-    report.say(format!("{:<10} {:>10} {:>12} {:>10} {:>12}", "level", "unknowns", "entries", "of both", "memory"))?;
+    report.say(format!("{:<10} {:>10} {:>12} {:>10} {:>12}", "level", "unknowns", "non-zeros", "of both", "memory"))?;
     line("0, matrix", n, without, 4 * (n + 1) + 12 * e, format!("{}, their factors {}", counted(setup.nodes(), "node"), bytes(8 * l.factors.len())))?;
     let coarse = if setup.inverts() { "inverted" } else { "factored" };
     line("1, coarse", c, with - without, 8 * l.coarse.len(), format!("{}, {coarse}, scale {:e}", counted(setup.groups(), "group"), setup.coarse_scale()))?;
@@ -86,7 +86,7 @@ pub fn setup(report: &Report, setup: &Setup, parts: &Parts) -> Result<(), Stop> 
     let built = lengths(n, e, b, c);
     let built = 4 * (built.setup_ints + built.work_ints) + 8 * (built.setup_floats + built.work_floats);
     report.say(format!(
-        "operator complexity {with}/{without} = {:.3}, grid complexity {}/{n} = {:.3}; the setup holds {}, and needs {} while it is built",
+        "operator complexity {with}/{without} = {:.3} (non-zeros of both levels over those of the matrix, as PyAMG has it), grid complexity {}/{n} = {:.3}; the setup holds {}, and needs {} while it is built",
         with as f64 / without as f64, n + c, (n + c) as f64 / n as f64, bytes(held), bytes(built)
     ))?;
     let mut members = vec![0usize; setup.groups()];

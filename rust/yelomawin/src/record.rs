@@ -24,7 +24,7 @@ pub struct Record {
     pub coarse_policy: CoarsePolicy,
     pub damping_factor: f64,
     pub coarse_scale: f64,
-    /// The operator complexity as two counts: matrix entries and coarse entries together, and matrix entries alone.
+    /// The operator complexity as two counts: the matrix entries and the coarse entries that are not zero together, and the matrix entries alone.
     pub complexity: u64,
     pub baseline: u64,
 }

@@ -189,7 +189,8 @@ impl Setup {
     pub fn coarse_scale(&self) -> f64 {
         self.record.coarse_scale
     }
-    /// The operator complexity as two counts: matrix entries and coarse entries together, and matrix entries alone.
+    /// The operator complexity as two counts: the matrix entries and the coarse entries that are not zero together, and the matrix entries alone.
+    /// The first over the second is what PyAMG calls `operator_complexity`.
     pub fn complexity(&self) -> (u64, u64) {
         (self.record.complexity, self.record.baseline)
     }

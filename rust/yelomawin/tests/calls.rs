@@ -152,11 +152,20 @@ fn coarse_dimension_above_the_limit() {
 }
 
 #[test]
+fn complexity_counts_what_is_not_zero() {
+    // 4 1; 1 4 fills its coarse matrix; of 4 1; -1 4 the pair cancels when it is averaged
+    for (below, both) in [(1.0, 8), (-1.0, 6)] {
+        let a = Matrix { rows: 2, cols: 2, row_ptr: &[0, 2, 4], col_idx: &[0, 1, 0, 1], values: &[4.0, 1.0, below, 4.0] };
+        assert_eq!(Setup::build(&a, &options()).unwrap().complexity(), (both, 4));
+    }
+}
+
+#[test]
 fn setups_and_their_applies() {
     let mut setup = Setup::build(&diag(), &options()).unwrap();
     assert_eq!((setup.nodes(), setup.groups(), setup.coarse_dimension(), setup.transfers()), (2, 2, 2, 0));
     assert_eq!(setup.group_of_node(), [0, 1]);
-    assert_eq!(setup.complexity(), (6, 2));
+    assert_eq!(setup.complexity(), (4, 2));
     let mut z = [0.0; 2];
     setup.apply(&[16.0, 40.0], &mut z).unwrap();
     assert_eq!(z, [2.0, 20.0]);
