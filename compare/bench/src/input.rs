@@ -23,12 +23,17 @@ fn beside(nodes: usize, v: usize) -> impl Iterator<Item = usize> {
     [up, left, right, down].into_iter().flatten()
 }
 
-/// A frame of racking with 6 unknowns a node, each linked with two unknowns of every node beside it.
+/// A frame of racking with 6 unknowns a node.
 pub fn frame(rows: usize) -> Csr {
-    let nodes = rows / BLOCK;
-    let mut a = Csr { rows: nodes * BLOCK, cols: nodes * BLOCK, row_ptr: vec![0], col_idx: Vec::new(), values: Vec::new() };
-    for i in 0..nodes * BLOCK {
-        let (v, k) = (i / BLOCK, i % BLOCK);
+    frame_of(rows, BLOCK)
+}
+
+/// The same with any number of unknowns a node, each linked with two unknowns of every node beside it, or the only one.
+pub fn frame_of(rows: usize, block: usize) -> Csr {
+    let nodes = rows / block;
+    let mut a = Csr { rows: nodes * block, cols: nodes * block, row_ptr: vec![0], col_idx: Vec::new(), values: Vec::new() };
+    for i in 0..nodes * block {
+        let (v, k) = (i / block, i % block);
         let mut reach = 0.0;
         let mut own = 0;
         let mut others = beside(nodes, v).peekable();
@@ -40,11 +45,11 @@ pub fn frame(rows: usize) -> Csr {
             }
             let Some(w) = others.next() else { break };
             // Towards lower nodes the next unknown, towards higher ones the one before.
-            let also = if w < v { (k + 1) % BLOCK } else { (k + BLOCK - 1) % BLOCK };
-            for j in [k.min(also), k.max(also)] {
-                let x = link(i, w * BLOCK + j);
+            let also = if w < v { (k + 1) % block } else { (k + block - 1) % block };
+            for &j in &[k.min(also), k.max(also)][usize::from(k == also)..] {
+                let x = link(i, w * block + j);
                 reach += x.abs();
-                a.col_idx.push((w * BLOCK + j) as u32);
+                a.col_idx.push((w * block + j) as u32);
                 a.values.push(x);
             }
         }
@@ -56,9 +61,25 @@ pub fn frame(rows: usize) -> Csr {
     a
 }
 
+/// A diagonal with one dense row and column.
+pub fn arrow(rows: usize) -> Csr {
+    let mut a = Csr { rows, cols: rows, row_ptr: vec![0], col_idx: Vec::new(), values: Vec::new() };
+    for i in 0..rows {
+        let columns = if i == 0 { 0..rows } else { 0..1 };
+        a.col_idx.extend(columns.map(|j| j as u32));
+        if i > 0 {
+            a.col_idx.push(i as u32);
+        }
+        let from = a.values.len();
+        a.values.extend(a.col_idx[from..].iter().map(|&j| if j as usize != i { link(i, j as usize) / rows as f64 } else { 2.0 }));
+        a.row_ptr.push(a.values.len() as u32);
+    }
+    a
+}
+
 /// The frame's nodes as neighbour lists: offsets and neighbours.
-pub fn frame_graph(rows: usize) -> (Vec<u32>, Vec<u32>) {
-    let nodes = rows / BLOCK;
+pub fn frame_graph(rows: usize, block: usize) -> (Vec<u32>, Vec<u32>) {
+    let nodes = rows / block;
     let (mut offsets, mut neighbours) = (vec![0], Vec::new());
     for v in 0..nodes {
         neighbours.extend(beside(nodes, v).map(|w| w as u32));
@@ -68,10 +89,10 @@ pub fn frame_graph(rows: usize) -> (Vec<u32>, Vec<u32>) {
 }
 
 /// The group size that brings the coarse dimension of a frame nearest to one, and not above the limit.
-pub fn group_size(rows: usize, coarse: usize) -> usize {
-    let (offsets, neighbours) = frame_graph(rows);
+pub fn group_size(rows: usize, block: usize, coarse: usize) -> usize {
+    let (offsets, neighbours) = frame_graph(rows, block);
     let least = (rows / coarse).max(1);
-    let dimension = |g: usize| BLOCK * yelomawin::group(g, &offsets, &neighbours).unwrap().0;
+    let dimension = |g: usize| block * yelomawin::group(g, &offsets, &neighbours).unwrap().0;
     (0..24)
         .map(|k| least + k * least.div_ceil(20))
         .map(|g| (dimension(g), g))

@@ -1,7 +1,8 @@
 //! Times and peak memory of the Rust and of the library on the same input in one run: `bench [quick | all] [--write FOLDER]`.
-//! Prints Markdown; with a folder, writes BENCHMARKS.md and benchmarks.svg there. `bench grouping` measures the grouping alone.
+//! Prints Markdown; with a folder, writes BENCHMARKS.md and benchmarks.svg there. `bench grouping` measures the grouping alone, `bench shapes` setup and apply on matrices of other shapes.
 mod calls;
 mod input;
+mod limits;
 mod memory;
 mod middle;
 mod plot;
@@ -51,6 +52,7 @@ fn all() -> (Vec<Row>, Vec<Memory>) {
         }
     }
     rows.extend(calls::stages(&input::ring(1 << 20), 8).into_iter().map(|r| Row { what: format!("{}, 16 entries a row", r.what), ..r }));
+    rows.extend(calls::shapes());
     let mut memory = memory::measured(300_000, 600);
     memory.extend(memory::measured(LARGEST, 600));
     (rows, memory)
@@ -75,10 +77,11 @@ fn main() {
         ["quick"] => ("quick", quick, None),
         ["quick", "--write", folder] => ("quick", quick, Some(folder)),
         ["grouping"] => ("grouping", || (groupings(), Vec::new()), None),
+        ["shapes"] => ("shapes", || (calls::shapes(), Vec::new()), None),
         [] | ["all"] => ("all", all, None),
         ["--write", folder] | ["all", "--write", folder] => ("all", all, Some(folder)),
         _ => {
-            eprintln!("usage: bench [quick | all] [--write FOLDER] | grouping");
+            eprintln!("usage: bench [quick | all] [--write FOLDER] | grouping | shapes");
             std::process::exit(2);
         }
     };

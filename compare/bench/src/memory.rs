@@ -45,7 +45,7 @@ fn peak(side: &str, args: &[usize]) -> Peak {
 }
 
 pub fn measured(rows: usize, coarse: usize) -> Vec<Memory> {
-    let group = input::group_size(rows, coarse);
+    let group = input::group_size(rows, input::BLOCK, coarse);
     let mut out = Vec::new();
     for (basis, name) in [(0, "constant"), (1, "smoothed")] {
         let args = [rows, group, basis, 1];

@@ -2,6 +2,7 @@
 //! averaging and the factor inside its setup: their time there is the setup's less that of the stages before it.
 use crate::calls::{both, lent, narrow, options, same};
 use crate::input::{self, BLOCK};
+use crate::limits::{self, Work};
 use crate::table::{Row, counted};
 use cases::{Csr, answers};
 use hybit_precond::{BlockJacobiPreconditioner, probe};
@@ -69,7 +70,10 @@ pub fn neighbours(a: &Csr) -> (Vec<Row>, f64) {
         let listed = [offsets, narrow(&listed)].concat();
         assert!(ints[base..][..listed.len()] == listed, "neighbour lists differ");
         let size = format!("{} rows, {} entries", counted(n), counted(e));
-        out.push(Row::new(format!("neighbour lists, {name}"), size, n, rust, Some(rust + checks), ours));
+        // The columns, and for StrongGraph the values; the lists and the stamps.
+        let read = if strong == 0 { limits::ints(n + e) } else { limits::matrix(n, e).and(limits::floats(3 * nodes)) };
+        let row = Row::new(format!("neighbour lists, {name}"), size, n, rust, Some(rust + checks), ours);
+        out.push(row.limited(read.and(limits::ints(listed.len() + nodes))));
     }
     let graph = out[0].rust;
     (out, graph)
@@ -81,7 +85,7 @@ pub fn stages(a: &Csr, coarse: usize, graph: f64) -> Vec<Row> {
     let a = lent(&m);
     let (n, e) = (a.rows, a.values.len());
     let nodes = n / BLOCK;
-    let group = input::group_size(n, coarse);
+    let group = input::group_size(n, BLOCK, coarse);
     let (checks, _, _, _) = both(|| m.validate().unwrap(), || ());
     let mut out = Vec::new();
     let lists = probe::graph(&m, nodes, BLOCK).unwrap();
@@ -89,9 +93,18 @@ pub fn stages(a: &Csr, coarse: usize, graph: f64) -> Vec<Row> {
     let ids = narrow(&wide);
     let c = groups * BLOCK;
     let size = format!("{} rows, coarse {}", counted(n), counted(c));
-    let mut row = |what: &str, rust: f64, checked: Option<f64>, ours: f64| {
-        out.push(Row { coarse: Some(coarse), ..Row::new(what.into(), size.clone(), n, rust, checked, ours) });
+    let mut row = |what: &str, rust: f64, checked: Option<f64>, ours: f64, work: Work| {
+        out.push(Row { coarse: Some(coarse), ..Row::new(what.into(), size.clone(), n, rust, checked, ours).limited(work) });
     };
+    let matrix = limits::matrix(n, e);
+
+    // Setup lists the coarse column of each row once and hands it on as ids of blocks of one; that is in our time of both stages.
+    let mut listed = vec![0u32; n];
+    fn list(listed: &mut [u32], ids: &[u32]) {
+        for (unknowns, &id) in listed.chunks_exact_mut(BLOCK).zip(ids) {
+            unknowns.iter_mut().enumerate().for_each(|(k, x)| *x = id * BLOCK as u32 + k as u32);
+        }
+    }
 
     // The transfer; the Rust makes diagonal and estimate in the same function.
     let mut ints = vec![0u32; 8 * n + 4 * e + 16 + 4 * c];
@@ -103,8 +116,9 @@ pub fn stages(a: &Csr, coarse: usize, graph: f64) -> Vec<Row> {
             a.diagonal_in(&mut diagonal).unwrap();
             let damping = a.estimate_in(&diagonal, &mut work).unwrap().damping_factor;
             let (k, l) = (2 * n + e + 1 + 2 * c, n + e + c);
+            list(&mut listed, &ids);
             lists!(
-                yelomawin_bench_transfer, a, BLOCK as u64, ids.as_ptr(), ids.len(), groups as u64, diagonal.as_ptr(), n, damping,
+                yelomawin_bench_transfer, a, 1, listed.as_ptr(), n, c as u64, diagonal.as_ptr(), n, damping,
                 ints.as_mut_ptr(), k, floats.as_mut_ptr(), l
             )
         },
@@ -113,7 +127,8 @@ pub fn stages(a: &Csr, coarse: usize, graph: f64) -> Vec<Row> {
     let count = t.values.len();
     let (pointers, columns, weights) = (ints[..n + 1].to_vec(), ints[n + 1..][..count].to_vec(), floats[..count].to_vec());
     assert!(pointers == narrow(&t.row_ptr) && columns == t.col_idx && same(&weights, &t.values), "transfers differ");
-    row("diagonal, estimate and transfer", rust, Some(rust + checks), ours);
+    let transfer = limits::ints(n + 1 + count).and(limits::floats(count));
+    row("diagonal, estimate and transfer", rust, Some(rust + checks), ours, matrix.and(matrix).and(limits::estimate(n, e)).and(transfer));
 
     // The coarse matrix of the smoothed basis, averaged: the Rust does that in its setup, by the same loop as here.
     let (rust, g, ours, answer) = both(
@@ -131,7 +146,7 @@ pub fn stages(a: &Csr, coarse: usize, graph: f64) -> Vec<Row> {
     );
     assert_eq!(answer, 0);
     assert!(same(&g, &floats[..c * c]), "coarse matrices differ");
-    row("coarse matrix, smoothed", rust, Some(rust + checks), ours);
+    row("coarse matrix, smoothed", rust, Some(rust + checks), ours, matrix.and(transfer).and(limits::floats(c * c)));
 
     // The constant one with its factor, then the inverse.
     let (blocks, _, _, _) = both(|| BlockJacobiPreconditioner::from_csr32(&m, BLOCK).unwrap(), || ());
@@ -139,7 +154,8 @@ pub fn stages(a: &Csr, coarse: usize, graph: f64) -> Vec<Row> {
     let (rust, p, ours, answer) = both(
         || answers::setup(&m, &options(group, 0, 1).0).unwrap(),
         || {
-            let k = lists!(yelomawin_bench_constant_coarse, a, BLOCK as u64, ids.as_ptr(), ids.len(), groups as u64, floats.as_mut_ptr(), c * c);
+            list(&mut listed, &ids);
+            let k = lists!(yelomawin_bench_constant_coarse, a, 1, listed.as_ptr(), n, c as u64, floats.as_mut_ptr(), c * c);
             // Sound: as above.
             k + unsafe { yelomawin_bench_coarse_factor(c as u64, floats.as_ptr(), c * c, lower.as_mut_ptr(), lower.len()) }
         },
@@ -148,7 +164,7 @@ pub fn stages(a: &Csr, coarse: usize, graph: f64) -> Vec<Row> {
     assert!(same(&probe::coarse(&p, &m), &floats[..c * c]), "coarse matrices differ");
     assert!(same(&probe::kept(&p, &m).coarse_part, &lower), "factors differ");
     let before = blocks + graph + grouping;
-    row("coarse matrix, constant, and its factor", rust - before, Some(rust - before + checks), ours);
+    row("coarse matrix, constant, and its factor", rust - before, Some(rust - before + checks), ours, matrix.and(limits::ints(nodes)).and(limits::factor(c)));
     let mut inverse = vec![0.0; c * c];
     let (whole, p, ours, answer) = both(
         || answers::setup(&m, &options(group, 0, 2).0).unwrap(),
@@ -157,6 +173,6 @@ pub fn stages(a: &Csr, coarse: usize, graph: f64) -> Vec<Row> {
     );
     assert_eq!(answer, 0);
     assert!(same(&probe::kept(&p, &m).coarse_part, &inverse), "inverses differ");
-    row("inverse", whole - rust, None, ours);
+    row("inverse", whole - rust, None, ours, limits::inverse(c));
     out
 }

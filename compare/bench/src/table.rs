@@ -1,4 +1,5 @@
 //! Measured times and peaks as Markdown.
+use crate::limits::Work;
 use std::fmt::Write;
 
 pub struct Row {
@@ -11,12 +12,18 @@ pub struct Row {
     pub rust: f64,
     pub checked: Option<f64>,
     pub ours: f64,
+    /// The least time that the call's work takes on this machine.
+    pub least: Option<f64>,
 }
 
 impl Row {
     pub fn new(what: String, size: String, rows: usize, rust: f64, checked: Option<f64>, ours: f64) -> Row {
         eprintln!("{what:34} {size:>40} {rust:11.3} ms {ours:11.3} ms {:7.2}", ours / rust);
-        Row { what, size, rows, coarse: None, rust, checked, ours }
+        Row { what, size, rows, coarse: None, rust, checked, ours, least: None }
+    }
+
+    pub fn limited(self, work: Work) -> Row {
+        Row { least: Some(work.least()), ..self }
     }
 
     /// What a panel of the plot shows.
@@ -63,13 +70,21 @@ pub fn markdown(command: &str, machine: &str, rows: &[Row], memory: &[Memory]) -
          ![Times against rows](benchmarks.svg)\n"
     )
     .unwrap();
-    writeln!(o, "| Call | Size | Rust, ms | Rust with validate, ms | Ours, ms | Ours / Rust | Ours / Rust with validate |").unwrap();
-    writeln!(o, "|---|---|---:|---:|---:|---:|---:|").unwrap();
+    writeln!(
+        o,
+        "\"Limit\" is a time below which the call cannot be here, measured in the same run: the longest of three, the bytes of the lists that it must read and write once, at\n\
+         the speed of a plain read of as many bytes (from the cache where they fit); the additions that wait for one another (of the backward solve); the multiplications\n\
+         with their additions (of factor and inverse), the last two at the speed of loops that do nothing else. Branches, divisions, roots and sorting count nothing.\n"
+    )
+    .unwrap();
+    writeln!(o, "| Call | Size | Rust, ms | Rust with validate, ms | Ours, ms | Ours / Rust | Ours / Rust with validate | Limit, ms | Ours / limit |").unwrap();
+    writeln!(o, "|---|---|---:|---:|---:|---:|---:|---:|---:|").unwrap();
     for r in rows {
         let (checked, ratio) = r.checked.map_or(("".into(), "".into()), |c| (milliseconds(c), format!("{:.2}", r.ours / c)));
+        let (least, above) = r.least.map_or(("".into(), "".into()), |l| (milliseconds(l), format!("{:.1}", r.ours / l)));
         writeln!(
             o,
-            "| {} | {} | {} | {checked} | {} | {:.2} | {ratio} |",
+            "| {} | {} | {} | {checked} | {} | {:.2} | {ratio} | {least} | {above} |",
             r.what, r.size, milliseconds(r.rust), milliseconds(r.ours), r.ours / r.rust
         )
         .unwrap();
