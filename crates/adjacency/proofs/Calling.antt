@@ -30,7 +30,7 @@ use Rattle.adjacency.specs.WellFormed.{WellFormed}
 use Rattle.adjacency.specs.Within.{compares, readOf, neighboursWithin}
 use Rattle.adjacency.proofs.Reading.{read-rows, read-real, read-keeps}
 use Rattle.adjacency.proofs.Fitting.{enough-are}
-use Rattle.adjacency.proofs.Inverse.{low-enough}
+use Rattle.adjacency.proofs.Reciprocal.{low-enough}
 
 -- ---- the checks over sizes, as one step of the call
 

@@ -15,7 +15,7 @@ pub mod Merges
 pub mod Measuring
 pub mod Found
 pub mod Inserting
-pub mod Inverse
+pub mod Reciprocal
 pub mod Nodes
 pub mod Norming
 pub mod Graphs

@@ -24,10 +24,10 @@ abbrev pub Inside : ℕ → ℕ → List ℕ → Type 0
 Inside n size cols = (k : ℕ) → k < length cols → getD cols k 0 / size < n
 
 -- 2^32 / size, rounded up
-unfoldable pub inverseOf : ℕ → ℕ
-inverseOf size = 0xffff_ffff / size + 1
+unfoldable pub reciprocalOf : ℕ → ℕ
+reciprocalOf size = 0xffff_ffff / size + 1
 
--- every column is low enough that its product with the inverse tells its node
+-- every column is low enough that its product with the reciprocal tells its node
 abbrev pub Low : ℕ → List ℕ → Type 0
 Low size cols = (k : ℕ) → k < length cols → getD cols k 0 * size < 2 ^ 32
 

@@ -5,11 +5,12 @@ use definitions::Refusal;
 ghost use mathlib.Core.Path.{_≡_};
 ghost use Prim.Native.Nat.{_≤_};
 ghost use Rattle.definitions.specs.Answers.{answerOf};
+ghost use Rattle.definitions.specs.Matrix.{maxEntries, maxRows};
 ghost use Rattle.adjacency.specs.Fits.{fitsOf, enough};
 
 // Room for stamps and sorting before base, for the offsets and the neighbours behind it, and for the floats.
 fn long_enough(nodes: usize, entries: usize, base: usize, ints: usize, floats: usize) -> bool
-    requires { ⌜ (nodes ≤ 1048576) × (entries ≤ 16777216) ⌝ }
+    requires { ⌜ (nodes ≤ maxRows) × (entries ≤ maxEntries) ⌝ }
     ensures { λ r. ⌜ r ≡ enough nodes entries base ints floats ⌝ }
 {
     if 2 * nodes <= base {
@@ -32,7 +33,7 @@ pub(crate) fn fits(
     ints: usize,
     floats: usize,
 ) -> Answer
-    requires { ⌜ (rows ≤ 1048576) × (entries ≤ 16777216) ⌝ }
+    requires { ⌜ (rows ≤ maxRows) × (entries ≤ maxEntries) ⌝ }
     ensures { λ r. ⌜ r ≡ answerOf (fitsOf rows cols entries «block_size» base ints floats) ⌝ }
 {
     if cols != rows {

@@ -1,5 +1,5 @@
 // Sums of squares towards nodes. The list of floats holds the sum towards node w at w.
-use super::links::inverse_of;
+use super::links::reciprocal_of;
 use super::links::node_of;
 use numbers::wide;
 ghost use mathlib.Core.Path.{_≡_};
@@ -37,10 +37,10 @@ pub(crate) fn weigh(
     requires { ⌜ Inside (length (now sums)) size (now «col_idx») ⌝ }
     ensures { λ _. ⌜ now (sums .exit) ≡ weighed size (stored (now («col_idx» .entry)) (now (values .entry)) from to) (now (sums .entry)) ⌝ }
 {
-    let inverse = inverse_of(size);
+    let reciprocal = reciprocal_of(size);
     let mut k = from;
     while k < to {
-        let w = wide(node_of(col_idx, k, size, inverse));
+        let w = wide(node_of(col_idx, k, size, reciprocal));
         let x = values[k];
         let old = sums[w];
         sums[w] = old + x * x;
@@ -53,11 +53,11 @@ pub(crate) fn own(col_idx: &[u32], values: &[f64], from: usize, to: usize, size:
     requires { ⌜ (from ≤ to) × ((to ≤ length (now «col_idx»)) × ((to ≤ length (now values)) × ((0 < size) × Low size (now «col_idx»)))) ⌝ }
     ensures { λ r. ⌜ r ≡ total (squaresIn size v (stored (now («col_idx» .entry)) (now (values .entry)) from to)) ⌝ }
 {
-    let inverse = inverse_of(size);
+    let reciprocal = reciprocal_of(size);
     let mut sum = 0.0;
     let mut k = from;
     while k < to {
-        if node_of(col_idx, k, size, inverse) == v {
+        if node_of(col_idx, k, size, reciprocal) == v {
             let x = values[k];
             sum += x * x;
         }

@@ -5,7 +5,8 @@ use mathlib.Core.List.{List, _++_, flatMap}
 use lib.ListN.{length, drop}
 use lib.Ieee.{Float}
 use Rattle.definitions.specs.Lists.{upTo, between}
-use Rattle.definitions.specs.Block.{widthOf, blockSolve, blockPart}
+use Rattle.definitions.specs.Block.{widthOf, blockSolve, blockPart, maxBlock}
+use Rattle.definitions.specs.Matrix.{maxRows}
 
 -- block k
 unfoldable pub solvedBlock : ℕ → ℕ → List Float → List Float → ℕ → List Float
@@ -18,9 +19,9 @@ solvedBlocks rows size factors r k = flatMap (λ j. solvedBlock rows size factor
 -- so many whole blocks lie within the lists
 pub record Whole (count size : ℕ) (factors r z : List Float) : Type 0 where
   pub wide : 1 ≤ size
-  pub narrow : size ≤ 8
+  pub narrow : size ≤ maxBlock
   pub same : length z ≡ length r
-  pub few : length r ≤ 1_048_576
+  pub few : length r ≤ maxRows
   pub inside : count * size ≤ length r
   pub held : length r * size ≤ length factors
 

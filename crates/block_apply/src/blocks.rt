@@ -3,7 +3,8 @@ use crate::solve::solve;
 ghost use mathlib.Core.Path.{_≡_};
 ghost use Prim.Native.Nat.{_*_, _≤_};
 ghost use lib.ListN.{length};
-ghost use Rattle.definitions.specs.Block.{blockApplied};
+ghost use Rattle.definitions.specs.Block.{blockApplied, maxBlock};
+ghost use Rattle.definitions.specs.Matrix.{maxRows};
 ghost use Rattle.block_apply.specs.Solved.{Whole, SolvedTo};
 
 // The first blocks, all of the whole size.
@@ -38,7 +39,7 @@ fn blocks_by_size(count: usize, size: usize, factors: &[f64], r: &[f64], z: &mut
 }
 
 pub(crate) fn solve_blocks(rows: usize, size: usize, factors: &[f64], r: &[f64], z: &mut [f64])
-    requires { ⌜ (length (now r) ≡ rows) × (length (now z) ≡ rows) × (rows ≤ 1048576) × (1 ≤ size) × (size ≤ 8) × (rows * size ≤ length (now factors)) ⌝ }
+    requires { ⌜ (length (now r) ≡ rows) × (length (now z) ≡ rows) × (rows ≤ maxRows) × (1 ≤ size) × (size ≤ maxBlock) × (rows * size ≤ length (now factors)) ⌝ }
     ensures { λ _. ⌜ (length (now (z .exit)) ≡ rows) × (now (z .exit) ≡ blockApplied rows size (now (factors .entry)) (now (r .entry))) ⌝ }
 {
     let count = rows / size;

@@ -5,7 +5,7 @@ ghost use lib.ListN.{length, getD};
 ghost use lib.Ieee.{nan};
 ghost use Rattle.definitions.specs.Lists.{tab};
 ghost use Rattle.definitions.specs.Numbers.{reduced, _*ᶠ_};
-ghost use Rattle.definitions.specs.Block.{lower, forward as forwardOf, backward as backwardOf, blockSolve};
+ghost use Rattle.definitions.specs.Block.{lower, forward as forwardOf, backward as backwardOf, blockSolve, maxBlock};
 
 // x less the first n products of z by the row of l that begins at start.
 fn row_rest(l: &[f64], z: &[f64], x: f64, start: usize, n: usize) -> f64
@@ -21,7 +21,7 @@ fn row_rest(l: &[f64], z: &[f64], x: f64, start: usize, n: usize) -> f64
 
 // L y = r: y into z.
 fn forward(l: &[f64], w: usize, r: &[f64], z: &mut [f64])
-    requires { ⌜ (length (now l) ≡ w * w) × (length (now r) ≡ w) × (length (now z) ≡ w) × (w ≤ 8) ⌝ }
+    requires { ⌜ (length (now l) ≡ w * w) × (length (now r) ≡ w) × (length (now z) ≡ w) × (w ≤ maxBlock) ⌝ }
     ensures { λ _. ⌜ now (z .exit) ≡ forwardOf (now (l .entry)) w (now (r .entry)) w ⌝ }
 {
     for i in 0..w {
@@ -33,7 +33,7 @@ fn forward(l: &[f64], w: usize, r: &[f64], z: &mut [f64])
 
 // x less the products of z by column i of l, below the diagonal.
 fn column_rest(l: &[f64], w: usize, z: &[f64], x: f64, i: usize) -> f64
-    requires { ⌜ (i < w) × (length (now l) ≡ w * w) × (length (now z) ≡ w) × (w ≤ 8) ⌝ }
+    requires { ⌜ (i < w) × (length (now l) ≡ w * w) × (length (now z) ≡ w) × (w ≤ maxBlock) ⌝ }
     ensures { λ r. ⌜ r ≡ reduced x (tab (λ m. lower (now (l .entry)) w (suc i + m) i *ᶠ getD (now (z .entry)) (suc i + m) nan) (w - suc i)) ⌝ }
 {
     let mut sum = x;
@@ -45,7 +45,7 @@ fn column_rest(l: &[f64], w: usize, z: &[f64], x: f64, i: usize) -> f64
 
 // Lᵀ z = y, in place.
 fn backward(l: &[f64], w: usize, z: &mut [f64])
-    requires { ⌜ (length (now l) ≡ w * w) × (length (now z) ≡ w) × (w ≤ 8) ⌝ }
+    requires { ⌜ (length (now l) ≡ w * w) × (length (now z) ≡ w) × (w ≤ maxBlock) ⌝ }
     ensures { λ _. ⌜ now (z .exit) ≡ backwardOf (now (l .entry)) w (now (z .entry)) w ⌝ }
 {
     for k in 0..w {
@@ -57,7 +57,7 @@ fn backward(l: &[f64], w: usize, z: &mut [f64])
 
 // Both.
 pub(crate) fn solve(l: &[f64], w: usize, r: &[f64], z: &mut [f64])
-    requires { ⌜ (length (now l) ≡ w * w) × (length (now r) ≡ w) × (length (now z) ≡ w) × (w ≤ 8) ⌝ }
+    requires { ⌜ (length (now l) ≡ w * w) × (length (now r) ≡ w) × (length (now z) ≡ w) × (w ≤ maxBlock) ⌝ }
     ensures { λ _. ⌜ now (z .exit) ≡ blockSolve (now (l .entry)) w (now (r .entry)) ⌝ }
 {
     forward(l, w, r, z);

@@ -1,7 +1,7 @@
 // Cholesky's factor of a dense block, of which only the lower half is read.
 ghost use mathlib.Core.Path.{_≡_};
 ghost use Prim.Native.Nat.{_+_, _<_, _≤_, _^_};
-ghost use Rattle.definitions.specs.Block.{inBlock};
+ghost use Rattle.definitions.specs.Block.{inBlock, maxBlock};
 ghost use Rattle.definitions.specs.Factor.{rest as restOf, belowDiagonal, factorRows};
 ghost use Rattle.block_factor.specs.Dense.{blank, dense, denseEntry};
 ghost use Rattle.block_factor.specs.Factored.{factored, pivotRow, factorOf};
@@ -23,7 +23,7 @@ pub struct Factored {
 
 // What is left of the entry (i, j) once the columns of l before j are taken off.
 pub(crate) fn rest(a: &[f64; 64], l: &[f64; 64], w: usize, i: usize, j: usize) -> f64
-    requires { ⌜ (i < w) × (j < w) × (w ≤ 8) ⌝ }
+    requires { ⌜ (i < w) × (j < w) × (w ≤ maxBlock) ⌝ }
     ensures { λ r. ⌜ r ≡ restOf (inBlock w) (denseEntry w (now (a .entry))) (now (l .entry)) i j ⌝ }
 {
     let mut sum = given(a, w, i, j);
@@ -37,7 +37,7 @@ pub(crate) fn rest(a: &[f64; 64], l: &[f64; 64], w: usize, i: usize, j: usize) -
 
 // The entries of row i left of the diagonal.
 pub(crate) fn fill_row(a: &[f64; 64], l: &mut [f64; 64], w: usize, i: usize)
-    requires { ⌜ (i < w) × (w ≤ 8) ⌝ }
+    requires { ⌜ (i < w) × (w ≤ maxBlock) ⌝ }
     ensures { λ _. ⌜ now (l .exit) ≡ belowDiagonal (inBlock w) (denseEntry w (now (a .entry))) i i (now (l .entry)) ⌝ }
 {
     let mut j: usize = 0;
@@ -66,7 +66,7 @@ fn factor_rows(
     tol: f64,
     table: &root::StartTable,
 ) -> Factored
-    requires { ⌜ (w ≤ 8) × (first < 2 ^ 32) ⌝ }
+    requires { ⌜ (w ≤ maxBlock) × (first < 2 ^ 32) ⌝ }
     ensures { λ r. ⌜ r ≡ factored w (factorRows (inBlock w) (pivotRow first) (denseEntry w (now (a .entry))) tol w 0 blank) ⌝ }
 {
     let mut l = blanks();
@@ -89,7 +89,7 @@ fn factor_rows(
 
 // The factor of a block, or 14 with its first row, or 15 with the row of the pivot.
 pub(crate) fn factor(b: Block, first: usize, table: &root::StartTable) -> Factored
-    requires { ⌜ (b .size ≤ 8) × (first < 2 ^ 32) ⌝ }
+    requires { ⌜ (b .size ≤ maxBlock) × (first < 2 ^ 32) ⌝ }
     ensures { λ r. ⌜ r ≡ factored (b .size) (factorOf first (b .size) (dense (b .size) (b .a))) ⌝ }
 {
     let a = b.a;

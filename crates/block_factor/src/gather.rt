@@ -5,7 +5,7 @@ ghost use lib.ListN.{length, replicate};
 ghost use Rattle.definitions.specs.Lists.{tab};
 ghost use Rattle.definitions.specs.Numbers.{zeroᶠ};
 ghost use Rattle.definitions.specs.Matrix.{csr};
-ghost use Rattle.definitions.specs.Block.{blockOf};
+ghost use Rattle.definitions.specs.Block.{blockOf, maxBlock};
 ghost use Rattle.csr32.specs.Rows.{Rows};
 ghost use Rattle.block_factor.specs.Dense.{dense};
 ghost use Rattle.block_factor.specs.Gathered.{sumAt};
@@ -49,7 +49,7 @@ pub(crate) fn gather(
     w: usize,
 ) -> Block
     requires { ⌜ Rows (csr rows rows (now «row_ptr») (now «col_idx») (now values)) ⌝ }
-    requires { ⌜ (first + w ≤ rows) × (w ≤ 8) ⌝ }
+    requires { ⌜ (first + w ≤ rows) × (w ≤ maxBlock) ⌝ }
     ensures { λ r. ⌜ dense w (r .a) ≡ blockOf (csr rows rows (now («row_ptr» .entry)) (now («col_idx» .entry)) (now (values .entry))) first w ⌝ }
     ensures { λ r. ⌜ r .size ≡ w ⌝ }
 {

@@ -6,7 +6,7 @@ ghost use lib.ListN.{length, take};
 ghost use Rattle.definitions.specs.Numbers.{zeroᶠ};
 ghost use Rattle.definitions.specs.Refusal.{resultLeft};
 ghost use Rattle.definitions.specs.Matrix.{csr};
-ghost use Rattle.definitions.specs.Block.{blockCount, blockFactor, factorsFrom, factorsOf, blocksCall, blocksLeft};
+ghost use Rattle.definitions.specs.Block.{blockCount, blockFactor, factorsFrom, factorsOf, blocksCall, blocksLeft, maxBlock};
 ghost use Rattle.definitions.specs.Answers.{answerOf};
 ghost use Rattle.csr32.specs.Rows.{Rows};
 ghost use Rattle.block_factor.specs.Held.{held, PairIn};
@@ -45,7 +45,7 @@ fn block_into(
     table: &root::StartTable,
 ) -> Answer
     requires { ⌜ Rows (csr rows rows (now «row_ptr») (now «col_idx») (now values)) ⌝ }
-    requires { ⌜ (first + w ≤ rows) × (w ≤ 8) × (length (now place) ≡ w * w) ⌝ }
+    requires { ⌜ (first + w ≤ rows) × (w ≤ maxBlock) × (length (now place) ≡ w * w) ⌝ }
     ensures { λ r. ⌜ r ≡ answerOf (blockFactor (csr rows rows (now («row_ptr» .entry)) (now («col_idx» .entry)) (now (values .entry))) first w) ⌝ }
     ensures { λ _. ⌜ now (place .exit) ≡ held (blockFactor (csr rows rows (now («row_ptr» .entry)) (now («col_idx» .entry)) (now (values .entry))) first w) (now (place .entry)) ⌝ }
 {
@@ -78,7 +78,7 @@ fn pair_into(
     table: &root::StartTable,
 ) -> bool
     requires { ⌜ Rows (csr rows rows (now «row_ptr») (now «col_idx») (now values)) ⌝ }
-    requires { ⌜ (first + w + w ≤ rows) × (w ≤ 8) × (length (now place) ≡ w * w + w * w) ⌝ }
+    requires { ⌜ (first + w + w ≤ rows) × (w ≤ maxBlock) × (length (now place) ≡ w * w + w * w) ⌝ }
     ensures { λ r. ⌜ (r ≡ true → PairIn (csr rows rows (now («row_ptr» .entry)) (now («col_idx» .entry)) (now (values .entry))) first w (now (place .exit))) ⌝ }
 {
     let second = first + w;
@@ -111,7 +111,7 @@ fn fill_pairs(
     table: &root::StartTable,
 ) -> usize
     requires { ⌜ Rows (csr rows rows (now «row_ptr») (now «col_idx») (now values)) ⌝ }
-    requires { ⌜ (0 < size) × (size ≤ 8) × (rows * size ≤ length (now factors)) ⌝ }
+    requires { ⌜ (0 < size) × (size ≤ maxBlock) × (rows * size ≤ length (now factors)) ⌝ }
     ensures { λ r. ⌜ (r * size ≤ rows) × (length (now (factors .exit)) ≡ length (now (factors .entry))) ⌝ }
     ensures { λ r. ⌜ (let a = csr rows rows (now («row_ptr» .entry)) (now («col_idx» .entry)) (now (values .entry)) in
         factorsFrom a size (blockCount rows size - r) r (take (r * size * size) (now (factors .exit))) ≡ factorsOf a size) ⌝ }
@@ -151,7 +151,7 @@ fn fill_from(
     table: &root::StartTable,
 ) -> Answer
     requires { ⌜ Rows (csr rows rows (now «row_ptr») (now «col_idx») (now values)) ⌝ }
-    requires { ⌜ (0 < size) × (size ≤ 8) × (rows * size ≤ length (now factors)) ⌝ }
+    requires { ⌜ (0 < size) × (size ≤ maxBlock) × (rows * size ≤ length (now factors)) ⌝ }
     ensures { λ r. ⌜ r ≡ answerOf (factorsOf (csr rows rows (now («row_ptr» .entry)) (now («col_idx» .entry)) (now (values .entry))) size) ⌝ }
     ensures { λ _. ⌜ now (factors .exit) ≡ resultLeft zeroᶠ (factorsOf (csr rows rows (now («row_ptr» .entry)) (now («col_idx» .entry)) (now (values .entry))) size) (now (factors .entry)) ⌝ }
 {
@@ -197,7 +197,7 @@ fn fill_blocks(
     factors: &mut [f64],
 ) -> Answer
     requires { ⌜ Rows (csr rows rows (now «row_ptr») (now «col_idx») (now values)) ⌝ }
-    requires { ⌜ (0 < size) × (size ≤ 8) × (rows * size ≤ length (now factors)) ⌝ }
+    requires { ⌜ (0 < size) × (size ≤ maxBlock) × (rows * size ≤ length (now factors)) ⌝ }
     ensures { λ r. ⌜ r ≡ answerOf (factorsOf (csr rows rows (now («row_ptr» .entry)) (now («col_idx» .entry)) (now (values .entry))) size) ⌝ }
     ensures { λ _. ⌜ now (factors .exit) ≡ resultLeft zeroᶠ (factorsOf (csr rows rows (now («row_ptr» .entry)) (now («col_idx» .entry)) (now (values .entry))) size) (now (factors .entry)) ⌝ }
 {

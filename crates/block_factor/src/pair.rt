@@ -4,6 +4,7 @@ ghost use mathlib.Core.Bool.{true, false};
 ghost use Prim.Native.Nat.{_≤_};
 ghost use Rattle.block_factor.specs.Dense.{blank, dense};
 ghost use Rattle.block_factor.specs.Factored.{FactorOf, FactorRows};
+ghost use Rattle.definitions.specs.Block.{maxBlock};
 use super::cholesky::fill_row;
 use super::cholesky::rest;
 use super::dense::Block;
@@ -30,7 +31,7 @@ fn pair_rows(
     t: f64,
     table: &root::StartTable,
 ) -> bool
-    requires { ⌜ (w ≤ 8) × (now l ≡ blank) × (now m ≡ blank) ⌝ }
+    requires { ⌜ (w ≤ maxBlock) × (now l ≡ blank) × (now m ≡ blank) ⌝ }
     ensures { λ r. ⌜ (r ≡ true → FactorRows w (now (a .entry)) s (now (l .exit)) × FactorRows w (now (b .entry)) t (now (m .exit))) ⌝ }
 {
     let mut i: usize = 0;
@@ -71,7 +72,7 @@ fn apart(w: usize) -> Pair
 
 // The factors of two blocks of one width, if both have one.
 pub(crate) fn factor_pair(b: Block, c: Block, table: &root::StartTable) -> Pair
-    requires { ⌜ (b .size ≤ 8) × (c .size ≡ b .size) ⌝ }
+    requires { ⌜ (b .size ≤ maxBlock) × (c .size ≡ b .size) ⌝ }
     ensures { λ r. ⌜ (r .both ≡ true → FactorOf (b .size) (dense (b .size) (b .a)) (r .one .a) × FactorOf (b .size) (dense (b .size) (c .a)) (r .two .a)) ⌝ }
 {
     let x = b.a;

@@ -3,7 +3,7 @@ ghost use mathlib.Core.Path.{_≡_};
 ghost use Prim.Native.Nat.{_<_, _≤_};
 ghost use lib.ListN.{take};
 ghost use Rattle.definitions.specs.Numbers.{largest as largestOf};
-ghost use Rattle.definitions.specs.Block.{skewed as skewedOf};
+ghost use Rattle.definitions.specs.Block.{skewed as skewedOf, maxBlock};
 ghost use Rattle.block_factor.specs.Dense.{dense, apartAt, rowApart};
 use super::dense::given;
 
@@ -24,7 +24,7 @@ pub(crate) fn largest(a: &[f64; 64], n: usize) -> f64
 
 // Whether (i, j) and (j, i) are further apart than tol.
 fn apart(a: &[f64; 64], w: usize, i: usize, j: usize, tol: f64) -> bool
-    requires { ⌜ (i < w) × (j < w) × (w ≤ 8) ⌝ }
+    requires { ⌜ (i < w) × (j < w) × (w ≤ maxBlock) ⌝ }
     ensures { λ r. ⌜ r ≡ apartAt (dense w (now (a .entry))) w tol i j ⌝ }
 {
     let d = numbers::magnitude(given(a, w, i, j) - given(a, w, j, i));
@@ -32,7 +32,7 @@ fn apart(a: &[f64; 64], w: usize, i: usize, j: usize, tol: f64) -> bool
 }
 
 fn row_skewed(a: &[f64; 64], w: usize, i: usize, tol: f64) -> bool
-    requires { ⌜ (i < w) × (w ≤ 8) ⌝ }
+    requires { ⌜ (i < w) × (w ≤ maxBlock) ⌝ }
     ensures { λ r. ⌜ r ≡ rowApart (dense w (now (a .entry))) w tol i ⌝ }
 {
     let mut j: usize = 0;
@@ -46,7 +46,7 @@ fn row_skewed(a: &[f64; 64], w: usize, i: usize, tol: f64) -> bool
 }
 
 pub(crate) fn skewed(a: &[f64; 64], w: usize, tol: f64) -> bool
-    requires { ⌜ w ≤ 8 ⌝ }
+    requires { ⌜ w ≤ maxBlock ⌝ }
     ensures { λ r. ⌜ r ≡ skewedOf (dense w (now (a .entry))) w tol ⌝ }
 {
     let mut i: usize = 0;

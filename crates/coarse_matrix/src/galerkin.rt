@@ -10,7 +10,8 @@ ghost use lib.ListN.{length, getD, take, drop, replicate};
 ghost use Rattle.definitions.specs.Lists.{square, padded};
 ghost use Rattle.definitions.specs.Numbers.{zeroᶠ};
 ghost use Rattle.definitions.specs.Coarse.{averagedSquare, galerkinEntry};
-ghost use Rattle.definitions.specs.Matrix.{rowOf, csr, stored};
+ghost use Rattle.definitions.specs.Matrix.{rowOf, csr, stored, maxRows};
+ghost use Rattle.definitions.specs.Setup.{maxCoarse};
 ghost use Rattle.laws.specs.Bounds.{Compressed, Below};
 ghost use Rattle.laws.specs.Scatter.{scatter};
 ghost use Rattle.coarse_matrix.specs.Galerkin.{marks, marked, Room, Put, scaled, productPuts, weightPuts, weighedPuts, RowAdded, RowsAdded};
@@ -25,7 +26,7 @@ fn mark(
     count: usize,
     k: usize,
 ) -> usize
-    requires { ⌜ (k < c) × (c ≤ 2048) × (2 * c ≤ length (now ints)) × (base + c ≤ length (now floats)) × ((getD (now ints) k 0 ≡ token → ⊥) → count < c) ⌝ }
+    requires { ⌜ (k < c) × (c ≤ maxCoarse) × (2 * c ≤ length (now ints)) × (base + c ≤ length (now floats)) × ((getD (now ints) k 0 ≡ token → ⊥) → count < c) ⌝ }
     ensures { λ r. ⌜ marks (now (ints .exit)) (now (floats .exit)) r ≡ marked c base token k (marks (now (ints .entry)) (now (floats .entry)) count) ⌝ }
 {
     let stamp = ints[k];
@@ -52,7 +53,7 @@ fn add_products(
     ints: &mut [u32],
     floats: &mut [f64],
 ) -> usize
-    requires { ⌜ (from ≤ to) × (to ≤ length (now weights)) × (length (now idx) ≡ length (now weights)) × (c ≤ 2048) × (base + c ≤ length (now floats)) ⌝ }
+    requires { ⌜ (from ≤ to) × (to ≤ length (now weights)) × (length (now idx) ≡ length (now weights)) × (c ≤ maxCoarse) × (base + c ≤ length (now floats)) ⌝ }
     requires { ⌜ Below c (now idx) ⌝ }
     requires { ⌜ Room c token (now ints) count ⌝ }
     ensures { λ r. ⌜ (let entries = stored (now (idx .entry)) (now (weights .entry)) from to in
@@ -85,7 +86,7 @@ fn add_row(
     ints: &mut [u32],
     floats: &mut [f64],
 ) -> usize
-    requires { ⌜ (from ≤ to) × (to ≤ length (now vals)) × (length (now idx) ≡ length (now vals)) × (c ≤ 2048) × (base + c ≤ length (now floats)) ⌝ }
+    requires { ⌜ (from ≤ to) × (to ≤ length (now vals)) × (length (now idx) ≡ length (now vals)) × (c ≤ maxCoarse) × (base + c ≤ length (now floats)) ⌝ }
     requires { ⌜ Below n (now idx) ⌝ }
     requires { ⌜ Compressed n c (now tptr) (now tidx) (length (now weights)) ⌝ }
     requires { ⌜ Room c token (now ints) 0 ⌝ }
@@ -181,7 +182,7 @@ fn galerkin_row(
     ints: &mut [u32],
     floats: &mut [f64],
 )
-    requires { ⌜ (r < n) × (n ≤ 1048576) × (c ≤ 2048) × (2 * c ≤ length (now ints)) × (c * c + c ≤ length (now floats)) ⌝ }
+    requires { ⌜ (r < n) × (n ≤ maxRows) × (c ≤ maxCoarse) × (2 * c ≤ length (now ints)) × (c * c + c ≤ length (now floats)) ⌝ }
     requires { ⌜ Compressed n n (now ptr) (now idx) (length (now vals)) ⌝ }
     requires { ⌜ Compressed n c (now tptr) (now tidx) (length (now weights)) ⌝ }
     requires { ⌜ ((j : ℕ) → j < c → getD (now ints) j 0 < suc r) ⌝ }
@@ -226,7 +227,7 @@ fn galerkin_rows(
     ints: &mut [u32],
     floats: &mut [f64],
 )
-    requires { ⌜ (n ≤ 1048576) × (c ≤ 2048) × (2 * c ≤ length (now ints)) × (c * c + c ≤ length (now floats)) ⌝ }
+    requires { ⌜ (n ≤ maxRows) × (c ≤ maxCoarse) × (2 * c ≤ length (now ints)) × (c * c + c ≤ length (now floats)) ⌝ }
     requires { ⌜ Compressed n n (now ptr) (now idx) (length (now vals)) ⌝ }
     requires { ⌜ Compressed n c (now tptr) (now tidx) (length (now weights)) ⌝ }
     requires { ⌜ RowsAdded (csr n n (now ptr) (now idx) (now vals)) (rowOf (now tptr) (now tidx) (now weights)) c 0 (now ints) (now ints) (now floats) (now floats) ⌝ }
@@ -254,7 +255,7 @@ fn galerkin_sum(
     ints: &mut [u32],
     floats: &mut [f64],
 )
-    requires { ⌜ (n ≤ 1048576) × (c ≤ 2048) × (2 * c ≤ length (now ints)) × (c * c + c ≤ length (now floats)) ⌝ }
+    requires { ⌜ (n ≤ maxRows) × (c ≤ maxCoarse) × (2 * c ≤ length (now ints)) × (c * c + c ≤ length (now floats)) ⌝ }
     requires { ⌜ Compressed n n (now ptr) (now idx) (length (now vals)) ⌝ }
     requires { ⌜ Compressed n c (now tptr) (now tidx) (length (now weights)) ⌝ }
     ensures { λ _. ⌜ (let a = csr n n (now (ptr .entry)) (now (idx .entry)) (now (vals .entry)) in
@@ -279,7 +280,7 @@ pub(crate) fn galerkin_into(
     ints: &mut [u32],
     floats: &mut [f64],
 )
-    requires { ⌜ (n ≤ 1048576) × (c ≤ 2048) × (2 * c ≤ length (now ints)) × (c * c + c ≤ length (now floats)) ⌝ }
+    requires { ⌜ (n ≤ maxRows) × (c ≤ maxCoarse) × (2 * c ≤ length (now ints)) × (c * c + c ≤ length (now floats)) ⌝ }
     requires { ⌜ Compressed n n (now ptr) (now idx) (length (now vals)) ⌝ }
     requires { ⌜ Compressed n c (now tptr) (now tidx) (length (now weights)) ⌝ }
     ensures { λ _. ⌜ (let a = csr n n (now (ptr .entry)) (now (idx .entry)) (now (vals .entry)) in

@@ -140,7 +140,7 @@ pub fn constant_coarse(
 
 // Whether the transfer is compressed rows with columns below c.
 fn transfer_fits(rows: usize, c: usize, ptr: &[u32], idx: &[u32], count: usize) -> bool
-    requires { ⌜ rows ≤ 1048576 ⌝ }
+    requires { ⌜ rows ≤ maxRows ⌝ }
     ensures { λ r. ⌜ (r ≡ transferFits rows c (now (ptr .entry)) (now (idx .entry)) count) × (r ≡ true → Compressed rows c (now (ptr .entry)) (now (idx .entry)) count) ⌝ }
 {
     if ptr.len() != rows + 1 {
@@ -177,7 +177,7 @@ fn galerkin_checks(
     ints: usize,
     floats: usize,
 ) -> Answer
-    requires { ⌜ rows ≤ 1048576 ⌝ }
+    requires { ⌜ rows ≤ maxRows ⌝ }
     ensures { λ r. ⌜ ((r ≡ answerOf (galerkinChecks rows cols c (now (ptr .entry)) (now (idx .entry)) count ints floats))
         × (r ≡ Accepted → GalerkinFacts rows cols c (now (ptr .entry)) (now (idx .entry)) count ints floats)) ⌝ }
 {

@@ -7,7 +7,7 @@ use lib.Dec.{leb}
 use lib.ListN.{length, take, drop}
 use Rattle.definitions.specs.Refusal.{Outcome, refused, done, require, _>>=_}
 use Rattle.definitions.specs.Groups.{Grouping, groupingCall}
-use Rattle.definitions.specs.Text.{isBlank, isDigit, isNone, Listing}
+use Rattle.definitions.specs.Text.{isBlank, isDigit, isNone, Listing, maxTextNodes, maxTextNeighbours}
 use Rattle.definitions.specs.declared.Refusal.the-variants.{TooLarge, NeighbourOffsets}
 
 unfoldable pub cap : ℕ → ℕ
@@ -42,7 +42,7 @@ listing offsets neighbours rest = record { offsets = offsets; neighbours = neigh
 unfoldable pub nodeFrom : List ℕ → List ℕ → List ℕ → Outcome Listing
 nodeFrom offsets neighbours [] = refused NeighbourOffsets
 nodeFrom offsets neighbours (x ∷ rest) = do
-  _ ← require (leb (length neighbours + x) 2048) TooLarge
+  _ ← require (leb (length neighbours + x) maxTextNeighbours) TooLarge
   _ ← require (leb x (length rest)) NeighbourOffsets
   done (listing (offsets ++ ((length neighbours + x) ∷ [])) (neighbours ++ take x rest) (drop x rest))
 
@@ -61,9 +61,9 @@ pub record Asked : Type 0 where
 -- nodes, size, then the lists, and nothing behind them
 unfoldable pub askedIn : List ℕ → Bool → Outcome Asked
 askedIn [] whole = refused NeighbourOffsets
-askedIn (n ∷ []) whole = require (leb n 256) TooLarge >>= (λ _. refused NeighbourOffsets)
+askedIn (n ∷ []) whole = require (leb n maxTextNodes) TooLarge >>= (λ _. refused NeighbourOffsets)
 askedIn (n ∷ s ∷ rest) whole = do
-  _ ← require (leb n 256) TooLarge
+  _ ← require (leb n maxTextNodes) TooLarge
   g ← listsFrom n (listing (0 ∷ []) [] rest)
   _ ← require (isNone (g .rest) && whole) NeighbourOffsets
   done (record { nodes = n; size = s; offsets = g .offsets; neighbours = g .neighbours })

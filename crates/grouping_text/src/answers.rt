@@ -3,7 +3,7 @@ ghost use mathlib.Core.Path.{_≡_};
 ghost use Prim.Native.Nat.{_+_, _*_, _≤_};
 ghost use lib.ListN.{length};
 ghost use Rattle.definitions.specs.Groups.{groupingCall};
-ghost use Rattle.definitions.specs.Text.{printed, line, decimal, groupsWord};
+ghost use Rattle.definitions.specs.Text.{printed, line, decimal, groupsWord, maxTextNodes, maxTextNeighbours};
 ghost use mathlib.Core.List.{_++_};
 ghost use Rattle.grouping_text.specs.Puts.{Puts, linesFrom};
 use crate::printing::put_head;
@@ -47,7 +47,7 @@ pub(crate) fn answer(
     neighbours: &[u32],
     out: &mut [u8],
 ) -> usize
-    requires { ⌜ (nodes ≤ 256) × (length (now neighbours) ≤ 2048) ⌝ }
+    requires { ⌜ (nodes ≤ maxTextNodes) × (length (now neighbours) ≤ maxTextNeighbours) ⌝ }
     ensures { λ r. ⌜ (let g = groupingCall nodes size (now (offsets .entry)) (now (neighbours .entry)) nodes (8 * nodes + 4 * length (now (neighbours .entry)) + 16) in
         Puts (now (out .entry)) 0 (printed g) (now (out .exit)) r) ⌝ }
 {

@@ -3,16 +3,18 @@ ghost use mathlib.Core.Path.{_≡_};
 ghost use mathlib.Core.List.{List, [], _∷_, _++_};
 ghost use Prim.Native.Nat.{ℕ, _+_, _≤_};
 ghost use lib.ListN.{length, drop, take};
+ghost use Rattle.definitions.specs.Text.{maxTextNeighbours};
 ghost use Rattle.grouping_text.specs.Numbers.{listing, nodeFrom, listsFrom};
 ghost use Rattle.grouping_text.specs.Steps.{gotOf};
 use crate::Got;
+use definitions::MAX_TEXT_NEIGHBOURS;
 
 // Copies what the node at numbers[at] lists into neighbours[have..].
 fn node_of(numbers: &[u32], at: usize, neighbours: &mut [u32], have: usize) -> Got
-    requires { ⌜ (have ≤ 2048) × (2048 ≤ length (now neighbours)) ⌝ }
+    requires { ⌜ (have ≤ maxTextNeighbours) × (maxTextNeighbours ≤ length (now neighbours)) ⌝ }
     ensures { λ r. ⌜ ((offsets : List ℕ) → gotOf (offsets ++ (r .count ∷ [])) (take (r .count) (now (neighbours .exit))) (now (numbers .entry)) r
         ≡ nodeFrom offsets (take have (now (neighbours .entry))) (drop at (now (numbers .entry)))) ⌝ }
-    ensures { λ r. ⌜ r .count ≤ 2048 ⌝ }
+    ensures { λ r. ⌜ r .count ≤ maxTextNeighbours ⌝ }
 {
     let malformed = Got {
         cause: 27,
@@ -23,7 +25,7 @@ fn node_of(numbers: &[u32], at: usize, neighbours: &mut [u32], have: usize) -> G
         return malformed;
     }
     let count = numbers[at] as usize;
-    if 2048 - have < count {
+    if MAX_TEXT_NEIGHBOURS - have < count {
         return Got {
             cause: 1,
             count: 0,
@@ -52,10 +54,10 @@ pub(crate) fn nodes_of(
     offsets: &mut [u32],
     neighbours: &mut [u32],
 ) -> Got
-    requires { ⌜ (nodes + 1 ≤ length (now offsets)) × (2048 ≤ length (now neighbours)) ⌝ }
+    requires { ⌜ (nodes + 1 ≤ length (now offsets)) × (maxTextNeighbours ≤ length (now neighbours)) ⌝ }
     ensures { λ r. ⌜ gotOf (take (nodes + 1) (now (offsets .exit))) (take (r .count) (now (neighbours .exit))) (now (numbers .entry)) r
         ≡ listsFrom nodes (listing (0 ∷ []) [] (drop at (now (numbers .entry)))) ⌝ }
-    ensures { λ r. ⌜ r .count ≤ 2048 ⌝ }
+    ensures { λ r. ⌜ r .count ≤ maxTextNeighbours ⌝ }
 {
     offsets[0] = 0;
     let mut i: usize = 0;

@@ -2,10 +2,12 @@
 ghost use mathlib.Core.Path.{_≡_};
 ghost use Prim.Native.Nat.{_+_, _≤_};
 ghost use lib.ListN.{length, take};
+ghost use Rattle.definitions.specs.Text.{maxTextNodes, maxTextNeighbours};
 ghost use Rattle.grouping_text.specs.Numbers.{askedIn};
 ghost use Rattle.grouping_text.specs.Steps.{askedOf};
 use crate::Asking;
 use crate::lists::nodes_of;
+use definitions::MAX_TEXT_NODES;
 
 // Nodes, size and the lists: offsets[0..nodes + 1], and as many neighbours as the answer says.
 pub(crate) fn ask(
@@ -14,9 +16,9 @@ pub(crate) fn ask(
     offsets: &mut [u32],
     neighbours: &mut [u32],
 ) -> Asking
-    requires { ⌜ (257 ≤ length (now offsets)) × (2048 ≤ length (now neighbours)) ⌝ }
+    requires { ⌜ (maxTextNodes + 1 ≤ length (now offsets)) × (maxTextNeighbours ≤ length (now neighbours)) ⌝ }
     ensures { λ r. ⌜ askedOf (take (r .nodes + 1) (now (offsets .exit))) (take (r .count) (now (neighbours .exit))) r ≡ askedIn (now (numbers .entry)) whole ⌝ }
-    ensures { λ r. ⌜ (r .nodes ≤ 256) × (r .count ≤ 2048) ⌝ }
+    ensures { λ r. ⌜ (r .nodes ≤ maxTextNodes) × (r .count ≤ maxTextNeighbours) ⌝ }
 {
     let malformed = Asking {
         cause: 27,
@@ -28,7 +30,7 @@ pub(crate) fn ask(
         return malformed;
     }
     let nodes = numbers[0] as usize;
-    if 256 < nodes {
+    if MAX_TEXT_NODES < nodes {
         return Asking {
             cause: 1,
             nodes: 0,

@@ -4,6 +4,7 @@ use mathlib.Core.Path.{_≡_}
 use mathlib.Core.List.{List}
 use lib.ListN.{length, getD}
 use Rattle.definitions.specs.Transfer.{coarseColumn}
+use Rattle.definitions.specs.Setup.{maxCoarse}
 
 -- every number of a list is below n
 abbrev pub Below : ℕ → List ℕ → Type 0
@@ -22,4 +23,4 @@ pub record Grouped (size : ℕ) (ids : List ℕ) (n c : ℕ) : Type 0 where
   pub some : 0 < size
   pub known : (i : ℕ) → i < n → i / size < length ids
   pub within : (i : ℕ) → i < n → coarseColumn size ids i < c
-  pub small : c ≤ 2_048
+  pub small : c ≤ maxCoarse

@@ -12,6 +12,7 @@ ghost use mathlib.Core.Bool.{true, _&&_};
 ghost use Prim.Native.Nat.{_+_, _≤_};
 ghost use Rattle.definitions.specs.Coarse.{coarseLength};
 ghost use Rattle.definitions.specs.Places.{usedInts, placesOf};
+ghost use Rattle.definitions.specs.Setup.{maxCoarse};
 ghost use Rattle.layout.specs.Layout.{placeable, partLength, layoutOf};
 
 fn both(a: bool, b: bool) -> bool
@@ -32,8 +33,8 @@ fn is_placeable(s: Setup) -> bool
 
 // How many numbers the coarse part has: the packed factor, or the inverse.
 fn coarse_length(policy: TwoLevelCoarseApplyPolicy, c: usize) -> usize
-    requires { ⌜ c ≤ 2048 ⌝ }
-    ensures { λ r. ⌜ (r ≡ coarseLength policy c) × (r ≤ 4194304) ⌝ }
+    requires { ⌜ c ≤ maxCoarse ⌝ }
+    ensures { λ r. ⌜ (r ≡ coarseLength policy c) × (r ≤ maxCoarse * maxCoarse) ⌝ }
 {
     match policy {
         TwoLevelCoarseApplyPolicy::Auto => c * (c + 1) / 2,

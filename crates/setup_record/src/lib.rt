@@ -16,6 +16,8 @@ ghost use lib.ListN.{length};
 ghost use Rattle.definitions.specs.Lists.{all};
 ghost use Rattle.definitions.specs.Places.{usedInts, placesOf};
 ghost use Rattle.definitions.specs.Fits.{withinLimits, isResolved, transfersFit, transferFits, setupFits};
+ghost use Rattle.definitions.specs.Block.{maxBlock};
+ghost use Rattle.definitions.specs.Matrix.{maxRows};
 ghost use Rattle.setup_record.specs.Sizes.{sizesFit, rowsFit, fittingOf};
 
 // Whether a setup's lists fit their record, and if so where their parts stand.
@@ -61,7 +63,7 @@ fn transfers_fit(basis: TwoLevelBasis, s: Setup) -> bool
 
 // Whether p is n times b. A factor above every p is told before it is multiplied.
 fn is_product(p: u64, n: u64, b: u64) -> bool
-    requires { ⌜ (p ≤ 1048576) × (b ≤ 8) ⌝ }
+    requires { ⌜ (p ≤ maxRows) × (b ≤ maxBlock) ⌝ }
     ensures { λ r. ⌜ r ≡ eqb p (n * b) ⌝ }
 {
     if b == 0 {
@@ -102,7 +104,7 @@ fn all_below(xs: &[u32], bound: u64) -> bool
 }
 
 fn rows_fit(ptr: &[u32], idx: &[u32], rows: usize, count: u64, c: u64) -> bool
-    requires { ⌜ (length (now ptr) ≡ rows + 1) × (rows ≤ 1048576) ⌝ }
+    requires { ⌜ (length (now ptr) ≡ rows + 1) × (rows ≤ maxRows) ⌝ }
     ensures { λ r. ⌜ r ≡ rowsFit (now (ptr .entry)) (now (idx .entry)) rows count c ⌝ }
 {
     if ptr[0] == 0 {

@@ -12,11 +12,12 @@ ghost use mathlib.Core.Path.{_≡_};
 ghost use Prim.Native.Nat.{_+_, _-_, _*_, _/_, _<_, _≤_};
 ghost use lib.ListN.{length};
 ghost use Rattle.definitions.specs.Lists.{tab, padded};
-ghost use Rattle.definitions.specs.Matrix.{csr};
+ghost use Rattle.definitions.specs.Matrix.{csr, maxEntries, maxRows};
 ghost use Rattle.definitions.specs.Setup.{frontOf, groupingOf};
 ghost use Rattle.definitions.specs.Answers.{answerOf};
 ghost use Rattle.two_level_grouping.specs.Front.{shapeOf};
 ghost use Rattle.definitions.specs.declared.TwoLevelAggregation.the-variants.{Contiguous};
+ghost use Rattle.definitions.specs.Groups.{maxGroup};
 ghost use Rattle.two_level_grouping.specs.Calls.{hasRoom, sizesFit, asked, aggregateCall, Grouped, Answered, Ready, noNode, numbersOf, listsOf, readThen};
 
 // Causes 9 to 12, in this order.
@@ -83,7 +84,7 @@ fn ask(
 
 // Whether the lists are long enough, for nodes and entries within their limits.
 fn has_room(nodes: usize, entries: usize, room: usize, work_room: usize, float_room: usize) -> bool
-    requires { ⌜ (nodes ≤ 1_048_576) × (entries ≤ 16_777_216) ⌝ }
+    requires { ⌜ (nodes ≤ maxRows) × (entries ≤ maxEntries) ⌝ }
     ensures { λ r. ⌜ r ≡ hasRoom nodes entries room «work_room» «float_room» ⌝ }
 {
     if room < nodes {
@@ -129,7 +130,7 @@ fn sizes_fit(
 
 // Contiguous: the group of a node is its number over the group size.
 fn contiguous(nodes: usize, size: usize, ids: &mut [u32]) -> u64
-    requires { ⌜ (0 < size) × ((nodes ≤ length (now ids)) × ((nodes ≤ 1_048_576) × (size ≤ 1_048_576))) ⌝ }
+    requires { ⌜ (0 < size) × ((nodes ≤ length (now ids)) × ((nodes ≤ maxRows) × (size ≤ maxGroup))) ⌝ }
     ensures { λ r. ⌜ (r ≡ (nodes + (size - 1)) / size) × (now (ids .exit) ≡ padded 0 (length (now (ids .entry))) (tab (λ v. v / size) nodes)) ⌝ }
 {
     let mut v: usize = 0;

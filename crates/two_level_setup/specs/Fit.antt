@@ -3,12 +3,13 @@ use Prim.Native.Nat.{ℕ, _+_, _*_, _/_, _≤_}
 use mathlib.Core.Path.{_≡_}
 use lib.ListN.{length}
 use Rattle.definitions.specs.Refusal.{done}
-use Rattle.definitions.specs.Matrix.{Matrix, validOf}
+use Rattle.definitions.specs.Matrix.{Matrix, validOf, maxEntries, maxRows}
 use Rattle.definitions.specs.Places.{nodeCount, Lengths}
 use Rattle.definitions.specs.Setup.{maxCoarse}
 use Rattle.definitions.specs.declared.Options.{Options}
 use Rattle.definitions.specs.declared.Setup.{Setup}
 use Rattle.definitions.specs.declared.Places.{Places}
+use Rattle.definitions.specs.Block.{maxBlock}
 use Rattle.two_level_grouping.specs.Front.{Front}
 use Rattle.two_level_setup.specs.Stages.{optionsOf}
 
@@ -25,9 +26,9 @@ pub record Fit (a : Matrix) (o : Options) (room : Lengths) : Type 0 where
 
 -- of the front, what numbers are at most
 pub record Bounds (rows entries block : ℕ) : Type 0 where
-  pub rowsMost : rows ≤ 1_048_576
-  pub entriesMost : entries ≤ 16_777_216
-  pub used : rows * block ≤ 8_388_608
+  pub rowsMost : rows ≤ maxRows
+  pub entriesMost : entries ≤ maxEntries
+  pub used : rows * block ≤ maxRows * maxBlock
   pub nodes : rows / block ≤ rows
   pub some : 1 ≤ block
 

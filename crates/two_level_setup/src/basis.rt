@@ -12,8 +12,9 @@ ghost use mathlib.Core.Path.{_≡_};
 ghost use Prim.Native.Nat.{_+_, _*_, _<_, _≤_};
 ghost use lib.ListN.{length};
 ghost use Rattle.definitions.specs.Matrix.{csr};
-ghost use Rattle.definitions.specs.Setup.{lentOf};
+ghost use Rattle.definitions.specs.Setup.{lentOf, maxCoarse};
 ghost use Rattle.definitions.specs.declared.TwoLevelBasis.the-variants.{JacobiSmoothed};
+ghost use Rattle.definitions.specs.Block.{maxBlock};
 ghost use Rattle.two_level_setup.specs.Stages.{transferStage};
 ghost use Rattle.two_level_setup.specs.Fit.{Ample, DampingFit, Placed};
 ghost use Rattle.two_level_setup.specs.Contracts.{roomIn, Listed, ColumnsPlaced, Damped, MovedInts, MovedFloats, WeightsStage, Begun, Simulates, StaysAmple};
@@ -26,8 +27,8 @@ fn at_most(x: u64, most: usize) -> usize
 
 // The coarse column of an unknown of a node. An id above the limit of coarse columns, which no node has, counts as that limit.
 fn column_of(id: u32, size: usize, part: usize) -> u32
-    requires { ⌜ (size ≤ 8) × (part < size) ⌝ }
-    ensures { λ r. ⌜ (id ≤ 2048 → r ≡ id * size + part) ⌝ }
+    requires { ⌜ (size ≤ maxBlock) × (part < size) ⌝ }
+    ensures { λ r. ⌜ (id ≤ maxCoarse → r ≡ id * size + part) ⌝ }
 {
     let group = at_most(id as u64, MAX_COARSE);
     (group * size + part) as u32
@@ -35,7 +36,7 @@ fn column_of(id: u32, size: usize, part: usize) -> u32
 
 // The coarse column of each row, so that whoever reads it for every entry need not divide.
 pub(crate) fn list_columns(size: usize, ids: &[u32], columns: &mut [u32])
-    requires { ⌜ (1 ≤ size) × (size ≤ 8) × (length (now columns) ≡ length (now ids) * size) ⌝ }
+    requires { ⌜ (1 ≤ size) × (size ≤ maxBlock) × (length (now columns) ≡ length (now ids) * size) ⌝ }
     ensures { λ _. ⌜ Listed size (now (ids .entry)) (now (columns .entry)) (now (columns .exit)) ⌝ }
 {
     let mut node: usize = 0;
@@ -62,7 +63,7 @@ fn keep_columns(nodes: usize, count: usize, ints: &mut [u32], work: &mut [u32])
 
 // The coarse columns of the rows, behind the ids: pointers and columns of the transfer will stand there. The front of the work list is cleared again.
 fn place_columns(size: usize, nodes: usize, rows: usize, ints: &mut [u32], work: &mut [u32])
-    requires { ⌜ (1 ≤ size) × (size ≤ 8) × (rows ≡ nodes * size) × (nodes + rows ≤ length (now ints)) × (rows ≤ length (now work)) ⌝ }
+    requires { ⌜ (1 ≤ size) × (size ≤ maxBlock) × (rows ≡ nodes * size) × (nodes + rows ≤ length (now ints)) × (rows ≤ length (now work)) ⌝ }
     ensures { λ _. ⌜ ColumnsPlaced size nodes rows (now (ints .entry)) (now (work .entry)) (now (ints .exit)) (now (work .exit)) ⌝ }
 {
     let zero = 0;

@@ -14,7 +14,7 @@ ghost use mathlib.Core.Path.{_≡_};
 ghost use Prim.Native.Nat.{_*_, _≤_};
 ghost use Rattle.definitions.specs.Matrix.{csr};
 ghost use Rattle.definitions.specs.Places.{covers};
-ghost use Rattle.definitions.specs.Setup.{lentOf};
+ghost use Rattle.definitions.specs.Setup.{lentOf, maxCoarse};
 ghost use Rattle.two_level_setup.specs.Stages.{optionsOf, coarseLevelOf, buildOf};
 ghost use Rattle.two_level_setup.specs.Fit.{Fit, Bounds, Counted, roomOf};
 ghost use Rattle.two_level_setup.specs.Contracts.{roomIn, RoomFor, RoomAnswer, Begun, Simulates};
@@ -47,8 +47,8 @@ fn long_enough(
 
 // The numbers of a coarse matrix.
 fn square(c: usize) -> usize
-    requires { ⌜ c ≤ 2048 ⌝ }
-    ensures { λ r. ⌜ (r ≡ c * c) × (r ≤ 4_194_304) ⌝ }
+    requires { ⌜ c ≤ maxCoarse ⌝ }
+    ensures { λ r. ⌜ (r ≡ c * c) × (r ≤ maxCoarse * maxCoarse) ⌝ }
 {
     c * c
 }
@@ -64,7 +64,7 @@ fn has_room(
     work_ints: usize,
     work_floats: usize,
 ) -> bool
-    requires { ⌜ Bounds rows entries block × (c ≤ 2048) ⌝ }
+    requires { ⌜ Bounds rows entries block × (c ≤ maxCoarse) ⌝ }
     ensures { λ r. ⌜ RoomFor rows entries block c (roomOf ints floats «work_ints» «work_floats») r ⌝ }
 {
     let size = block as usize;

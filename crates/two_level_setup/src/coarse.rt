@@ -12,8 +12,8 @@ use definitions::TwoLevelCoarseApplyPolicy;
 ghost use mathlib.Core.Path.{_≡_};
 ghost use Prim.Native.Nat.{_+_, _*_, _≤_};
 ghost use lib.ListN.{length, take};
-ghost use Rattle.definitions.specs.Matrix.{csr};
-ghost use Rattle.definitions.specs.Setup.{lentOf};
+ghost use Rattle.definitions.specs.Matrix.{csr, maxEntries};
+ghost use Rattle.definitions.specs.Setup.{lentOf, maxCoarse};
 ghost use Rattle.two_level_setup.specs.Stages.{measured, coarseStage};
 ghost use Rattle.two_level_setup.specs.Fit.{Ample, MatrixFit, Placed};
 ghost use Rattle.two_level_setup.specs.Contracts.{roomIn, MatrixStage, Inverted, Stored, Factored, Weighed, Simulates};
@@ -83,7 +83,7 @@ fn matrix(
 
 // The inverse in place of the packed factor that stands from `start` on.
 fn invert(c: usize, start: usize, floats: &mut [f64], work: &mut [f64])
-    requires { ⌜ (c ≤ 2048) × (start + c * c ≤ length (now floats)) × (c * c ≤ length (now work)) ⌝ }
+    requires { ⌜ (c ≤ maxCoarse) × (start + c * c ≤ length (now floats)) × (c * c ≤ length (now work)) ⌝ }
     ensures { λ _. ⌜ Inverted c start (now (floats .entry)) (now (floats .exit)) ⌝ }
 {
     coarse_factor::coarse_inverse(c, &floats[start..], work);
@@ -100,7 +100,7 @@ fn store(
     floats: &mut [f64],
     work: &mut [f64],
 )
-    requires { ⌜ (c ≤ 2048) × (start + c * c ≤ length (now floats)) × (c * c ≤ length (now work)) ⌝ }
+    requires { ⌜ (c ≤ maxCoarse) × (start + c * c ≤ length (now floats)) × (c * c ≤ length (now work)) ⌝ }
     ensures { λ _. ⌜ Stored policy c start (now (floats .entry)) (now (work .entry)) (now (floats .exit)) (now (work .exit)) ⌝ }
 {
     match policy {
@@ -115,7 +115,7 @@ fn store(
 
 // The factor of the coarse matrix at the front of the work list, from `start` on: causes 23 and 24.
 fn factor(setup: Setup, start: usize, floats: &mut [f64], work: &mut [f64]) -> SetupAnswer
-    requires { ⌜ (setup .coarse ≤ 2048) × (start + setup .coarse * (setup .coarse) ≤ length (now floats)) × (setup .coarse * (setup .coarse) ≤ length (now work)) ⌝ }
+    requires { ⌜ (setup .coarse ≤ maxCoarse) × (start + setup .coarse * (setup .coarse) ≤ length (now floats)) × (setup .coarse * (setup .coarse) ≤ length (now work)) ⌝ }
     ensures { λ r. ⌜ Factored setup start (now (floats .entry)) (now (work .entry)) r (now (floats .exit)) (now (work .exit)) ⌝ }
 {
     let c = setup.coarse as usize;
@@ -134,7 +134,7 @@ fn factor(setup: Setup, start: usize, floats: &mut [f64], work: &mut [f64]) -> S
 
 // The record with its first count: the entries, and the numbers of the coarse matrix at the front of the work list that are not zero.
 fn measure(entries: usize, setup: Setup, work: &[f64]) -> Setup
-    requires { ⌜ (entries ≤ 16_777_216) × (setup .coarse ≤ 2048) × (setup .coarse * (setup .coarse) ≤ length (now work)) ⌝ }
+    requires { ⌜ (entries ≤ maxEntries) × (setup .coarse ≤ maxCoarse) × (setup .coarse * (setup .coarse) ≤ length (now work)) ⌝ }
     ensures { λ r. ⌜ r ≡ measured entries setup (take (setup .coarse * (setup .coarse)) (now (work .entry))) ⌝ }
 {
     let c = setup.coarse as usize;

@@ -8,9 +8,10 @@ use definitions::SetupAnswer;
 use definitions::TwoLevelCoarseApplyPolicy;
 ghost use mathlib.Core.Path.{_≡_};
 ghost use Prim.Native.Nat.{_*_, _≤_};
-ghost use Rattle.definitions.specs.Matrix.{csr};
+ghost use Rattle.definitions.specs.Matrix.{csr, maxEntries, maxRows};
 ghost use Rattle.definitions.specs.Setup.{lentOf};
 ghost use Rattle.definitions.specs.Coarse.{resolved};
+ghost use Rattle.definitions.specs.Block.{maxBlock};
 ghost use Rattle.two_level_setup.specs.Stages.{started, fineOf};
 ghost use Rattle.two_level_setup.specs.Asking.{Sized, Judged};
 ghost use Rattle.two_level_setup.specs.Contracts.{roomIn};
@@ -34,7 +35,7 @@ fn resolve(policy: TwoLevelCoarseApplyPolicy, c: u64) -> TwoLevelCoarseApplyPoli
 
 // The record once the groups are known.
 fn start(rows: usize, entries: usize, options: Options, groups: u64) -> Setup
-    requires { ⌜ (groups * (options .block) ≤ 8_388_608) × (entries ≤ 16_777_216) × (1 ≤ options .block) ⌝ }
+    requires { ⌜ (groups * (options .block) ≤ maxRows * maxBlock) × (entries ≤ maxEntries) × (1 ≤ options .block) ⌝ }
     ensures { λ r. ⌜ r ≡ started rows entries options groups ⌝ }
 {
     let c = groups * options.block;

@@ -12,10 +12,10 @@ use Rattle.adjacency.proofs.links.collect.Statement.{statement}
 use Rattle.adjacency.proofs.links.collect.Tie as tie
 
 abbrev Inv-loop : tie.InvT-loop
-Inv-loop col-idx from to size stamp nodes base work₀ at inverse end₀ k₀ work end k = (length work ≡ length work₀) × ((base + end + (to - k) ≤ length work) × Collected col-idx (take nodes work₀) (drop base work₀) from to size stamp at (take nodes work) (drop base work) end k)
+Inv-loop col-idx from to size stamp nodes base work₀ at reciprocal end₀ k₀ work end k = (length work ≡ length work₀) × ((base + end + (to - k) ≤ length work) × Collected col-idx (take nodes work₀) (drop base work₀) from to size stamp at (take nodes work) (drop base work) end k)
 
 abbrev μ-loop : tie.MeasureT-loop
-μ-loop col-idx from to size stamp nodes base work₀ at inverse end₀ k₀ work end k = to - k
+μ-loop col-idx from to size stamp nodes base work₀ at reciprocal end₀ k₀ work end k = to - k
 
 loop-holds : tie.Need-loop-holds Inv-loop μ-loop
 loop-holds c =
@@ -23,7 +23,7 @@ loop-holds c =
     (refl, (omega arith, record { upto = omega arith; room = omega (arith, length-drop (b .args .base) (b .args .work .now)); marks = refl; outs = refl; list = refl; count = refl; stamps = refl }))
 
 node-of-requires : tie.Need-node-of-requires Inv-loop μ-loop
-node-of-requires c κs = let p = c .before .before .before .before .before .pre .0 .1 .1 in (omega arith, (p .0, (p .1 .0, c .before .before .inverse-of .ensures)))
+node-of-requires c κs = let p = c .before .before .before .before .before .pre .0 .1 .1 in (omega arith, (p .0, (p .1 .0, c .before .before .reciprocal-of .ensures)))
 
 inside : (c : tie.After-wide Inv-loop μ-loop) → c .before .node-of .result < c .before .before .before .before .before .before .before .args .nodes
 inside c =

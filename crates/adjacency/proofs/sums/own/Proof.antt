@@ -10,10 +10,10 @@ use Rattle.adjacency.proofs.sums.own.Statement.{statement}
 use Rattle.adjacency.proofs.sums.own.Tie as tie
 
 abbrev Inv-loop : tie.InvT-loop
-Inv-loop col-idx values from to size v inverse sum₀ k₀ sum k = Own col-idx values from to size v sum k
+Inv-loop col-idx values from to size v reciprocal sum₀ k₀ sum k = Own col-idx values from to size v sum k
 
 abbrev μ-loop : tie.MeasureT-loop
-μ-loop col-idx values from to size v inverse sum₀ k₀ sum k = to - k
+μ-loop col-idx values from to size v reciprocal sum₀ k₀ sum k = to - k
 
 loop-holds : tie.Need-loop-holds Inv-loop μ-loop
 loop-holds c =

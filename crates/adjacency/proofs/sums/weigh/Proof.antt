@@ -9,10 +9,10 @@ use Rattle.adjacency.proofs.sums.weigh.Statement.{statement}
 use Rattle.adjacency.proofs.sums.weigh.Tie as tie
 
 abbrev Inv-loop : tie.InvT-loop
-Inv-loop col-idx values from to size sums₀ inverse k₀ sums k = Weighing col-idx values sums₀ from to size sums k
+Inv-loop col-idx values from to size sums₀ reciprocal k₀ sums k = Weighing col-idx values sums₀ from to size sums k
 
 abbrev μ-loop : tie.MeasureT-loop
-μ-loop col-idx values from to size sums₀ inverse k₀ sums k = to - k
+μ-loop col-idx values from to size sums₀ reciprocal k₀ sums k = to - k
 
 loop-holds : tie.Need-loop-holds Inv-loop μ-loop
 loop-holds c = record { upto = omega arith; same = refl; goes = refl }

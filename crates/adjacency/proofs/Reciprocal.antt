@@ -1,9 +1,9 @@
--- A quotient by a product with the divisor's inverse, 2^32 / d rounded up.
+-- A quotient by a product with the divisor's reciprocal, 2^32 / d rounded up.
 use mathlib.Core.Path.{_≡_, ap, _∙_}
 use Prim.Native.Nat.{ℕ, _+_, _-_, _*_, _^_, _/_, _%_, _≤_, _<_}
 use native.Mathlib.Nat.{mul-assoc, mul-add, add-mul, one-mul, mul-right-comm, mul-le-mul-left, le-of-mul-le-mul-right, lt-of-mul-lt-mul-right, mod-lt, div-add-mod', div-mul-le-self, div-le-self, le-div-iff-mul-le, div-lt-iff-lt-mul}
 use native.Mathlib.Omega.{arith}
-use Rattle.adjacency.specs.Collect.{inverseOf}
+use Rattle.adjacency.specs.Collect.{reciprocalOf}
 
 -- ---- sums of products, each product a number of its own
 
@@ -36,31 +36,31 @@ module _ (d x : ℕ) (h : 0 < d) (l : x * d < 4294967296) where
   more : (a : ℕ) → (a + 1) * d ≡ a * d + d
   more a = add-mul a 1 d ∙ ap (λ n. a * d + n) (one-mul d)
 
-  m-over : inverseOf d * d ≡ 4294967296 + r
-  unfolding inverseOf
+  m-over : reciprocalOf d * d ≡ 4294967296 + r
+  unfolding reciprocalOf
   m-over = over (4294967295 / d * d) d (4294967295 % d) ((4294967295 / d + 1) * d) (div-add-mod' 4294967295 d) (mod-lt 4294967295 h) (more (4294967295 / d))
 
-  product : x * inverseOf d * d ≡ x * 4294967296 + x * r
-  product = mul-assoc x (inverseOf d) d ∙ ap (λ n. x * n) m-over ∙ mul-add x 4294967296 r
+  product : x * reciprocalOf d * d ≡ x * 4294967296 + x * r
+  product = mul-assoc x (reciprocalOf d) d ∙ ap (λ n. x * n) m-over ∙ mul-add x 4294967296 r
 
   rest : x * r < 4294967296
   rest = omega (arith, mul-le-mul-left {m = r} {n = d} x (omega arith), l)
 
-  lower : x / d * 4294967296 ≤ x * inverseOf d
-  lower = le-of-mul-le-mul-right {k = d} (under (x / d * d) x (x * r) (x / d * 4294967296 * d) (x * inverseOf d * d) (mul-right-comm (x / d) 4294967296 d) product (div-mul-le-self x d)) h
+  lower : x / d * 4294967296 ≤ x * reciprocalOf d
+  lower = le-of-mul-le-mul-right {k = d} (under (x / d * d) x (x * r) (x / d * 4294967296 * d) (x * reciprocalOf d * d) (mul-right-comm (x / d) 4294967296 d) product (div-mul-le-self x d)) h
 
-  upper : x * inverseOf d < (x / d + 1) * 4294967296
+  upper : x * reciprocalOf d < (x / d + 1) * 4294967296
   upper =
       let n : x < (x / d + 1) * d = next x (x / d * d) (x % d) d ((x / d + 1) * d) (div-add-mod' x d) (mod-lt x h) (more (x / d)) in
-      lt-of-mul-lt-mul-right d (above ((x / d + 1) * d) x (x * r) (x * inverseOf d * d) ((x / d + 1) * 4294967296 * d) product (mul-right-comm (x / d + 1) 4294967296 d) rest n)
+      lt-of-mul-lt-mul-right d (above ((x / d + 1) * d) x (x * r) (x * reciprocalOf d * d) ((x / d + 1) * 4294967296 * d) product (mul-right-comm (x / d + 1) 4294967296 d) rest n)
 
-  pub by-inverse : x * inverseOf d / 4294967296 ≡ x / d
-  by-inverse = between (x * inverseOf d / 4294967296) (x / d)
-      (le-div-iff-mul-le {k = 4294967296} {x = x / d} {y = x * inverseOf d} (omega arith) .1 lower)
-      (div-lt-iff-lt-mul {k = 4294967296} {x = x * inverseOf d} {y = x / d + 1} (omega arith) .1 upper)
+  pub by-reciprocal : x * reciprocalOf d / 4294967296 ≡ x / d
+  by-reciprocal = between (x * reciprocalOf d / 4294967296) (x / d)
+      (le-div-iff-mul-le {k = 4294967296} {x = x / d} {y = x * reciprocalOf d} (omega arith) .1 lower)
+      (div-lt-iff-lt-mul {k = 4294967296} {x = x * reciprocalOf d} {y = x / d + 1} (omega arith) .1 upper)
 
   pub dividend-fits : x < 4294967296
   dividend-fits = omega (arith, mul-le-mul-left {m = 1} {n = d} x h, l)
 
-  pub inverse-fits : x * inverseOf d < 18446744073709551616
-  inverse-fits = wide (x * inverseOf d) (x / d) x upper (div-le-self x d) dividend-fits
+  pub reciprocal-fits : x * reciprocalOf d < 18446744073709551616
+  reciprocal-fits = wide (x * reciprocalOf d) (x / d) x upper (div-le-self x d) dividend-fits
