@@ -1,6 +1,6 @@
 // Sums of squares towards nodes. The list of floats holds the sum towards node w at w.
-use super::links::reciprocal_of;
 use super::links::node_of;
+use super::links::reciprocal_of;
 use numbers::wide;
 ghost use mathlib.Core.Path.{_≡_};
 ghost use Prim.Native.Nat.{_<_, _≤_};

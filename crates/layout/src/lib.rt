@@ -9,7 +9,7 @@ use definitions::TwoLevelBasis;
 use definitions::TwoLevelCoarseApplyPolicy;
 ghost use mathlib.Core.Path.{_≡_};
 ghost use mathlib.Core.Bool.{true, _&&_};
-ghost use Prim.Native.Nat.{_+_, _≤_};
+ghost use Prim.Native.Nat.{_*_, _+_, _≤_};
 ghost use Rattle.definitions.specs.Coarse.{coarseLength};
 ghost use Rattle.definitions.specs.Places.{usedInts, placesOf};
 ghost use Rattle.definitions.specs.Setup.{maxCoarse};
