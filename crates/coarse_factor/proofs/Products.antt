@@ -1,29 +1,22 @@
 -- The solve with the inverse: products beside the right-hand side, then moved over it.
-use Prim.Native.Nat.{ℕ, zero, suc, _+_, _-_, _*_, _<_, _≤_}
+use Prim.Native.Nat.{ℕ, _+_, _-_, _*_, _<_, _≤_}
 use mathlib.Core.Path.{_≡_, refl, ap, sym, _∙_}
 use mathlib.Core.List.{List, _++_}
 use native.Mathlib.Omega.{arith}
-use native.Mathlib.Decide.{ℕ-discrete}
 use lib.ListN.{length, getD, set, take, drop, replicate, length-set}
 use lib.Seq.{getD-set-same, getD-set-other, getD-take, length-take-le, length-front, take-at}
 use lib.Ieee.{Float, nan}
 use Rattle.definitions.specs.Lists.{tab, padded}
 use Rattle.definitions.specs.Numbers.{_*ᶠ_, zeroᶠ, summed}
-use Rattle.definitions.specs.Coarse.{coarseSolve, entryIn, packedForward, packedBackward, packedSolve, packedLength, coarseLength}
+use Rattle.definitions.specs.Coarse.{coarseSolve, entryIn, packedSolve, packedLength, coarseLength}
 use Rattle.definitions.specs.declared.TwoLevelCoarseApplyPolicy.{TwoLevelCoarseApplyPolicy}
 use Rattle.definitions.specs.declared.TwoLevelCoarseApplyPolicy.the-variants.{Auto, FactorSolve, ExplicitInverse}
 use Rattle.averaging.proofs.Lists.{tail-zeros}
 use Rattle.laws.proofs.Lists.{tab-is, tab-cong, length-tab}
-use Rattle.coarse_factor.specs.Lanes.{rowSum}
+use Rattle.laws.proofs.Growing.{upto}
+use Rattle.laws.proofs.Packed.{length-solve}
+use Rattle.coarse_factor.specs.RowSums.{rowSum}
 use Rattle.coarse_factor.specs.Stored.{Products, Moved, inverseSolve}
-
--- a fact of every index below i, and of i
-pub upto : (P : ℕ → Type 0) (i : ℕ) → ((j : ℕ) → j < i → P j) → P i → (j : ℕ) → j < i + 1 → P j
-upto P i h p j q = step (ℕ-discrete j i)
-  where
-    step : Dec (j ≡ i) → P j
-    step (yes e) = rw e p
-    step (no n) = h j (omega arith)
 
 -- a sum over a row reads the first n numbers only
 pub rowSum-ext : (l y z : List Float) (n start : ℕ) → ((k : ℕ) → k < n → getD y k nan ≡ getD z k nan) → rowSum l y n start ≡ rowSum l z n start
@@ -71,15 +64,6 @@ inverse-law c part w u v big p q =
     front : take c v ≡ tab f c
     front = tab-is nan (take c v) f c (length-take-le c v (omega (arith, p .long, q .long)))
         (λ i h. getD-take c v i nan h ∙ q .made i h ∙ p .made i h ∙ rowSum-ext part w (take c w) c (i * c) (λ k b. sym (getD-take c w k nan b)))
-
-length-backward : (l y : List Float) (c k : ℕ) → length (packedBackward l c y k) ≡ k
-unfolding packedBackward
-length-backward l y c zero = refl
-length-backward l y c (suc k) = ap suc (length-backward l y c k)
-
-pub length-solve : (c : ℕ) (l b : List Float) → length (packedSolve c l b) ≡ c
-unfolding packedSolve
-length-solve c l b = length-backward l (packedForward l b c) c c
 
 pub factor-law : (c : ℕ) (part w y z u : List Float) → c ≤ length w → u ≡ y ++ drop (c - 0) w → y ≡ packedSolve (length (take (c - 0) w)) part (take (c - 0) w)
     → z ≡ replicate (length (take (length u - c) (drop c u))) zeroᶠ

@@ -13,9 +13,11 @@ use Rattle.definitions.specs.Numbers.{_-ᶠ_, _/ᶠ_}
 use Rattle.definitions.specs.Coarse.{packedLength}
 use Rattle.averaging.proofs.Places.{place}
 use Rattle.laws.proofs.Lists.{getD-tab}
-use Rattle.coarse_factor.specs.Lanes.{rowSum}
-use Rattle.coarse_factor.specs.RowSums.{rowSums, rowStart, SolvedTo, ForwardOn, ProductsOn}
-use Rattle.coarse_factor.proofs.Packed.{tri-step, tri-row, length-forward, forward-step}
+use Rattle.laws.specs.Packed.{ahead}
+use Rattle.laws.proofs.Packed.{tri-step, tri-row, length-forward, forward-step}
+use Rattle.coarse_factor.specs.RowSums.{rowSum}
+use Rattle.coarse_factor.specs.RowSums.{rowSums, rowStart, ForwardOn}
+use Rattle.coarse_factor.specs.Stored.{ProductsOn}
 use Rattle.coarse_factor.proofs.Products.{rowSum-ext, products-more}
 use Rattle.coarse_factor.proofs.RowSums.{start-none, start-suc}
 
@@ -95,7 +97,7 @@ forward-row l y₀ y z i j start s p h e o es ez =
     v : Float
     v = (getD y j nan -ᶠ s) /ᶠ getD l (start + j) nan
 
-    inside : (b : List Float) → SolvedTo l b y j → j < length b
+    inside : (b : List Float) → y ≡ ahead l b j → j < length b
     inside b t = omega (arith, simp (length-append, length-forward, length-drop) at (ap length t), o .long)
 
 -- a sum over numbers that were there before

@@ -1,14 +1,21 @@
--- Rows side by side: their sums, where they begin, and how far a solve or a product has come.
+-- Sums over rows and columns, where rows side by side begin, and how far a solve has come.
 use Prim.Native.Nat.{ℕ, zero, suc, _+_, _*_, _<_, _≤_}
 use mathlib.Core.Path.{_≡_}
-use mathlib.Core.List.{List, _++_}
-use lib.ListN.{length, getD, drop}
+use mathlib.Core.List.{List}
+use lib.ListN.{length, getD}
 use lib.Ieee.{Float, nan}
 use Rattle.definitions.specs.Lists.{tab}
-use Rattle.definitions.specs.Numbers.{_+ᶠ_, _*ᶠ_}
-use Rattle.definitions.specs.Coarse.{packedForward}
-use Rattle.coarse_factor.specs.Lanes.{rowSum}
-use Rattle.coarse_factor.specs.Stored.{Products}
+use Rattle.definitions.specs.Numbers.{_+ᶠ_, _*ᶠ_, summed}
+use Rattle.definitions.specs.Coarse.{packedEntry}
+use Rattle.laws.specs.Packed.{ahead}
+
+-- the n numbers of l from start on, by those of y
+abbrev pub rowSum : List Float → List Float → ℕ → ℕ → Float
+rowSum l y n start = summed (tab (λ k. getD l (start + k) nan *ᶠ getD y k nan) n)
+
+-- the column i of the factor below the diagonal, by y
+abbrev pub colSum : List Float → List Float → ℕ → ℕ → Float
+colSum l y i n = summed (tab (λ m. packedEntry l (suc i + m) i *ᶠ getD y (suc i + m) nan) n)
 
 -- the sums of m rows of l, each of n numbers, by y
 abbrev pub rowSums : List Float → List Float → ℕ → List ℕ → ℕ → List Float
@@ -27,18 +34,8 @@ unfoldable pub rowStart : ℕ → ℕ → ℕ → ℕ → ℕ
 rowStart first long more zero = first
 rowStart first long more (suc r) = rowStart first long more r + (long + r * more)
 
--- the first i numbers of y are those of the forward solve of b, and the others those of b
-abbrev pub SolvedTo : List Float → List Float → List Float → ℕ → Type 0
-SolvedTo l b y i = y ≡ packedForward l b i ++ drop i b
-
 -- a forward solve that had come to i has come to j
 pub record ForwardOn (l y₀ y : List Float) (i j : ℕ) : Type 0 where
   pub long : length y ≡ length y₀
   pub kept : (k : ℕ) → k < i → getD y k nan ≡ getD y₀ k nan
-  pub solved : (b : List Float) → SolvedTo l b y₀ i → SolvedTo l b y j
-
--- products that had come to row i have come to row j
-pub record ProductsOn (c : ℕ) (part work₀ work : List Float) (i j : ℕ) : Type 0 where
-  pub long : length work ≡ length work₀
-  pub kept : (k : ℕ) → k < c → getD work k nan ≡ getD work₀ k nan
-  pub made : (w : List Float) → Products c part w work₀ i → Products c part w work j
+  pub solved : (b : List Float) → y₀ ≡ ahead l b i → y ≡ ahead l b j

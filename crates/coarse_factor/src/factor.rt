@@ -11,11 +11,11 @@ ghost use lib.ListN.{length, getD};
 ghost use lib.Ieee.{Float, nan};
 ghost use Rattle.definitions.specs.Lists.{tab};
 ghost use Rattle.definitions.specs.Numbers.{largest, _-ᶠ_, _*ᶠ_, _/ᶠ_};
-ghost use Rattle.coarse_factor.specs.Fronts.{lessRow, Fronts, Put};
 ghost use Rattle.definitions.specs.Factor.{belowDiagonal, factorRows};
 ghost use Rattle.definitions.specs.declared.Refusal.the-variants.{CoarsePivot};
-ghost use Rattle.coarse_factor.specs.Calls.{outcomeOf};
 ghost use Rattle.definitions.specs.Coarse.{packed, packedLength, entryIn};
+ghost use Rattle.coarse_factor.specs.Fronts.{lessRow, Fronts, Put};
+ghost use Rattle.coarse_factor.specs.Calls.{outcomeOf};
 
 // The largest magnitude.
 pub(crate) fn scale(m: &[f64]) -> f64

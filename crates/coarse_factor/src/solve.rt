@@ -6,9 +6,10 @@ ghost use lib.ListN.{length, getD, set};
 ghost use lib.Ieee.{nan};
 ghost use Rattle.definitions.specs.Lists.{tab};
 ghost use Rattle.definitions.specs.Numbers.{_-ᶠ_, _/ᶠ_};
-ghost use Rattle.coarse_factor.specs.Lanes.{rowSum, colSum, Column, KeptBefore};
-ghost use Rattle.coarse_factor.specs.RowSums.{rowSums, withTerms, RowsWithin, rowStart, ForwardOn};
+ghost use Rattle.laws.specs.Packed.{Column, KeptBefore};
 ghost use Rattle.definitions.specs.Coarse.{packed, packedLength, packedForward, packedBackward, packedSolve};
+ghost use Rattle.coarse_factor.specs.RowSums.{rowSum, colSum};
+ghost use Rattle.coarse_factor.specs.RowSums.{rowSums, withTerms, RowsWithin, rowStart, ForwardOn};
 
 // The sum of the first n numbers of a row, which begins at start, with the products up to `to` added.
 fn row_more(l: &[f64], y: &[f64], before: f64, start: usize, n: usize, to: usize) -> f64

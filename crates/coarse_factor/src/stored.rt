@@ -11,7 +11,7 @@ ghost use lib.ListN.{length, take};
 ghost use Rattle.definitions.specs.Lists.{padded};
 ghost use Rattle.definitions.specs.Numbers.{zeroᶠ};
 ghost use Rattle.definitions.specs.Coarse.{packedLength, packedSolve, coarseLength, coarseSolve};
-ghost use Rattle.coarse_factor.specs.RowSums.{ProductsOn};
+ghost use Rattle.coarse_factor.specs.Stored.{ProductsOn};
 ghost use Rattle.coarse_factor.specs.Stored.{Products, Moved, inverseSolve};
 
 // How many numbers are stored.

@@ -11,8 +11,9 @@ use Rattle.definitions.specs.Coarse.{coarseLength, coarseSolve}
 use Rattle.definitions.specs.declared.Refusal.the-variants.{CoarseTooLarge, CoarseListTooShort}
 use Rattle.averaging.proofs.Lists.{front-length}
 use Rattle.causes.proofs.Left.{accept-left, refuse-cleared, large-clears, short-clears}
+use Rattle.laws.proofs.CoarseChecks.{covered, large, short, fit}
 use Rattle.coarse_factor.specs.Calls.{coarseSolveCall}
-use Rattle.coarse_factor.proofs.Fitting.{covered, large, short, fit, solve-checked, solve-front}
+use Rattle.coarse_factor.proofs.Fitting.{solve-checked, solve-front}
 use borrow.Author.Needs.{needs}
 use Rattle.coarse_factor.proofs.coarse_solve.Statement.{statement}
 use Rattle.coarse_factor.proofs.coarse_solve.Tie as tie

@@ -7,9 +7,10 @@ use lib.ListN.{length, getD, take, length-set}
 use lib.Ieee.{nan}
 use Rattle.definitions.specs.Numbers.{_-ᶠ_, _/ᶠ_}
 use Rattle.definitions.specs.Coarse.{packedLength, packedBackward}
-use Rattle.coarse_factor.specs.Lanes.{Column}
-use Rattle.coarse_factor.proofs.Kept.{kept-here, kept-next}
-use Rattle.coarse_factor.proofs.Packed.{back-facts, back-end, backward-none, backward-step, backward-all, tri-back}
+use Rattle.laws.specs.Packed.{Column}
+use Rattle.laws.proofs.KeptColumn.{kept-here, kept-next}
+use Rattle.laws.proofs.Packed.{back-facts, back-end, backward-none, backward-step, tri-back}
+use Rattle.coarse_factor.proofs.Solving.{backward-all}
 use borrow.Author.Needs.{needs}
 use Rattle.coarse_factor.proofs.solve.backward.Statement.{statement}
 use Rattle.coarse_factor.proofs.solve.backward.Tie as tie

@@ -3,9 +3,11 @@ use mathlib.Core.Path.{_≡_, refl}
 use native.Mathlib.Omega.{arith}
 use lib.ListN.{length}
 use Rattle.definitions.specs.Coarse.{packed}
-use Rattle.coarse_factor.specs.Lanes.{colSum, KeptBefore}
-use Rattle.coarse_factor.proofs.Packed.{next-at, col-none, col-step}
-use Rattle.coarse_factor.proofs.Kept.{walk-room, kept-none, kept-more}
+use Rattle.laws.specs.Packed.{KeptBefore}
+use Rattle.laws.proofs.Packed.{next-at}
+use Rattle.laws.proofs.KeptColumn.{walk-room, kept-none, kept-more}
+use Rattle.coarse_factor.specs.RowSums.{colSum}
+use Rattle.coarse_factor.proofs.Solving.{col-none, col-step}
 use borrow.Author.Needs.{needs}
 use Rattle.coarse_factor.proofs.solve.col_dot.Statement.{statement}
 use Rattle.coarse_factor.proofs.solve.col_dot.Tie as tie

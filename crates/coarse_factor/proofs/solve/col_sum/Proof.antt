@@ -3,7 +3,8 @@ use mathlib.Core.Path.{refl, ap, sym, _∙_}
 use mathlib.Core.Bool.{true≢false}
 use native.Mathlib.Omega.{arith}
 use lib.ListN.{length, length-set}
-use Rattle.coarse_factor.proofs.Kept.{end-room, kept-column, kept-sum}
+use Rattle.laws.proofs.KeptColumn.{end-room, kept-column}
+use Rattle.coarse_factor.proofs.Solving.{kept-sum}
 use borrow.Author.Needs.{needs}
 use Rattle.coarse_factor.proofs.solve.col_sum.Statement.{statement}
 use Rattle.coarse_factor.proofs.solve.col_sum.Tie as tie

@@ -3,15 +3,16 @@ use mathlib.Core.Path.{_≡_, refl, ap, sym, _∙_}
 use native.Mathlib.Omega.{arith}
 use lib.ListN.{length}
 use Rattle.definitions.specs.Coarse.{packedLength}
-use Rattle.coarse_factor.specs.RowSums.{SolvedTo}
-use Rattle.coarse_factor.proofs.Packed.{forward-none, forward-all}
+use Rattle.laws.specs.Packed.{ahead}
+use Rattle.laws.proofs.Packed.{forward-all}
+use Rattle.coarse_factor.proofs.Solving.{forward-none}
 use Rattle.coarse_factor.proofs.RowByRow.{eight-on, packed-le}
 use borrow.Author.Needs.{needs}
 use Rattle.coarse_factor.proofs.solve.forward.Statement.{statement}
 use Rattle.coarse_factor.proofs.solve.forward.Tie as tie
 
 abbrev Inv-loop : tie.InvT-loop
-Inv-loop l y₀ start₀ i₀ y start i = (i ≤ length y₀) × (length y ≡ length y₀) × (start ≡ packedLength i) × SolvedTo l y₀ y i
+Inv-loop l y₀ start₀ i₀ y start i = (i ≤ length y₀) × (length y ≡ length y₀) × (start ≡ packedLength i) × (y ≡ ahead l y₀ i)
 
 abbrev μ-loop : tie.MeasureT-loop
 μ-loop l y₀ start₀ i₀ y start i = length y₀ - i

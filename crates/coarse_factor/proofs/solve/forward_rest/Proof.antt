@@ -4,7 +4,7 @@ use native.Mathlib.Omega.{arith}
 use lib.ListN.{length}
 use Rattle.definitions.specs.Coarse.{packedLength}
 use Rattle.coarse_factor.specs.RowSums.{ForwardOn}
-use Rattle.coarse_factor.proofs.Packed.{tri-next}
+use Rattle.laws.proofs.Packed.{tri-next}
 use Rattle.coarse_factor.proofs.RowByRow.{PackedRow, packed-row, forward-none, forward-row}
 use Rattle.coarse_factor.proofs.solve.forward_rest.Statement.{statement}
 use Rattle.coarse_factor.proofs.solve.forward_rest.Tie as tie

@@ -2,7 +2,7 @@ use lib.ListN.{getD}
 use lib.Ieee.{nan}
 use Rattle.definitions.specs.Numbers.{_*ᶠ_, _+ᶠ_}
 use Rattle.laws.proofs.Growing.{summed-more}
-use Rattle.coarse_factor.specs.Lanes.{rowSum}
+use Rattle.coarse_factor.specs.RowSums.{rowSum}
 use Prim.Native.Nat.{_+_, _≤_, _-_}
 use mathlib.Core.Path.{_≡_, refl}
 use native.Mathlib.Omega.{arith}

@@ -1,6 +1,6 @@
 use lib.ListN.{length, getD}
 use Rattle.laws.proofs.Lists.{length-tab}
-use Rattle.coarse_factor.specs.Lanes.{rowSum}
+use Rattle.coarse_factor.specs.RowSums.{rowSum}
 use Rattle.coarse_factor.specs.RowSums.{rowSums}
 use Rattle.coarse_factor.proofs.RowSums.{sums-none, sums-more}
 use Prim.Native.Nat.{_≤_, _-_}

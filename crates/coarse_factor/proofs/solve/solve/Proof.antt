@@ -1,6 +1,7 @@
 use mathlib.Core.Path.{_≡_, ap, _∙_}
 use lib.ListN.{length}
-use Rattle.coarse_factor.proofs.Packed.{length-forward, solve-law}
+use Rattle.laws.proofs.Packed.{length-forward}
+use Rattle.coarse_factor.proofs.Solving.{solve-law}
 use borrow.Author.Needs.{needs}
 use Rattle.coarse_factor.proofs.solve.solve.Statement.{statement}
 use Rattle.coarse_factor.proofs.solve.solve.Tie as tie

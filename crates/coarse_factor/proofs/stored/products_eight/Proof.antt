@@ -2,7 +2,7 @@ use Prim.Native.Nat.{_+_, _<_, _≤_, _-_}
 use mathlib.Core.Path.{_≡_}
 use native.Mathlib.Omega.{arith}
 use lib.ListN.{length}
-use Rattle.coarse_factor.specs.RowSums.{ProductsOn}
+use Rattle.coarse_factor.specs.Stored.{ProductsOn}
 use Rattle.coarse_factor.proofs.RowByRow.{square-rows, square-end, sum-at, sum-kept, on-none, on-row}
 use borrow.Author.Needs.{needs}
 use Rattle.coarse_factor.proofs.stored.products_eight.Statement.{statement}

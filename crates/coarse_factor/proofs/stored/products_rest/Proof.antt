@@ -2,7 +2,7 @@ use Prim.Native.Nat.{_*_, _≤_, _-_}
 use mathlib.Core.Path.{_≡_}
 use native.Mathlib.Omega.{arith}
 use Rattle.averaging.proofs.Places.{next-row}
-use Rattle.coarse_factor.specs.RowSums.{ProductsOn}
+use Rattle.coarse_factor.specs.Stored.{ProductsOn}
 use Rattle.coarse_factor.proofs.RowByRow.{SquareRow, square-row, on-none, on-row}
 use Rattle.coarse_factor.proofs.stored.products_rest.Statement.{statement}
 use Rattle.coarse_factor.proofs.stored.products_rest.Tie as tie
