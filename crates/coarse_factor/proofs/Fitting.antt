@@ -1,4 +1,4 @@
--- The calls' answers, from what the code has at each return.
+-- The call's answers, from what the code has at each return.
 use Prim.Native.Nat.{ℕ, zero, suc, _-_, _*_, _≤_}
 use mathlib.Core.Path.{_≡_, refl, ap, sym, _∙_}
 use mathlib.Core.Bool.{Bool, true, false, _&&_}
@@ -13,9 +13,8 @@ use Rattle.averaging.proofs.Lists.{take-zeros, drop-zeros}
 use Rattle.definitions.specs.Numbers.{_*ᶠ_, zeroᶠ, oneᶠ, pivotTol, larger, largest, usable, above, rootᶠ}
 use Rattle.definitions.specs.Refusal.{Outcome, refused, done, require, _>>=_, resultLeft, keepsAll, causeOf}
 use Rattle.definitions.specs.Factor.{factorRows, belowDiagonal, rest}
-use Rattle.definitions.specs.Coarse.{packed, packedLength, entryIn, coarseFactor, coarseSolve, coarseLength}
+use Rattle.definitions.specs.Coarse.{packed, packedLength, entryIn, coarseFactor}
 use Rattle.definitions.specs.Answers.{factorAnswer}
-use Rattle.definitions.specs.declared.TwoLevelCoarseApplyPolicy.{TwoLevelCoarseApplyPolicy}
 use Rattle.definitions.specs.declared.Refusal.{Refusal}
 use Rattle.definitions.specs.declared.Refusal.the-variants.{CoarsePivot, CoarseScale}
 use Rattle.definitions.specs.declared.Answer.{Answer}
@@ -24,7 +23,7 @@ use Rattle.definitions.specs.declared.FactorAnswer.{FactorAnswer}
 use Rattle.definitions.specs.declared.FactorAnswer.the-variants.{Factored, Refused as NoFactor}
 use Rattle.laws.proofs.CoarseChecks.{checks}
 use Rattle.causes.proofs.Left.{left-done, left-cleared}
-use Rattle.coarse_factor.specs.Calls.{outcomeOf, coarseFactorCall, coarseSolveCall}
+use Rattle.coarse_factor.specs.Calls.{outcomeOf, coarseFactorCall}
 
 -- ---- 23 and 24
 
@@ -105,16 +104,11 @@ fitting-scale c m w z s es us ez =
     let o = coarse-off c m s es us in
     (answer-refused (largest m) (coarseFactor c m) CoarseScale o, ez ∙ sym (left-cleared zeroᶠ (coarseFactor c m) w CoarseScale o refl))
 
--- ---- the calls' checks: 17, 18
+-- ---- the call's checks: 17, 18
 
 pub factor-checked : (c : ℕ) (m : List Float) (n : ℕ) → coarseFactorCall c m n ≡ checks c (leb (c * c) (length m) && leb (packedLength c) n) (coarseFactor c (take (c * c) m))
 unfolding coarseFactorCall
 factor-checked c m n = refl
-
-pub solve-checked : (p : TwoLevelCoarseApplyPolicy) (c : ℕ) (part work : List Float)
-    → coarseSolveCall p c part work ≡ checks c (leb (coarseLength p c) (length part) && leb (2 * c) (length work)) (done (coarseSolve p c (take (coarseLength p c) part) (take c work)))
-unfolding coarseSolveCall
-solve-checked p c part work = refl
 
 pub answer-cleared : (s : Float) (o : Outcome (List Float)) (w z : List Float) (r : Refusal) → o ≡ refused r → keepsAll r ≡ false → z ≡ replicate (length w) zeroᶠ → (NoFactor r ≡ factorAnswer s o) × (z ≡ resultLeft zeroᶠ o w)
 answer-cleared s o w z r e k ez = (answer-refused s o r e, ez ∙ sym (left-cleared zeroᶠ o w r e k))
@@ -123,8 +117,3 @@ pub answer-fits : (c : ℕ) (m w z : List Float) (a : FactorAnswer) (o : Outcome
     → a ≡ factorAnswer (largest (take (c * c - 0) m)) (coarseFactor c (take (c * c - 0) m)) → z ≡ resultLeft zeroᶠ (coarseFactor c (take (c * c - 0) m)) w
     → (a ≡ factorAnswer (largest (take (c * c) m)) o) × (z ≡ resultLeft zeroᶠ o w)
 answer-fits c m w z a o eo ea ez = let q : c * c - 0 ≡ c * c = omega arith in (ea ∙ rw (eo, q), ez ∙ rw (eo, q))
-
--- what the lists lent in part stand for
-pub solve-front : (p : TwoLevelCoarseApplyPolicy) (c : ℕ) (part work : List Float) (k : ℕ) → k ≡ coarseLength p c
-    → padded zeroᶠ (length work) (coarseSolve p c (take (k - 0) part) (take c work)) ≡ padded zeroᶠ (length work) (coarseSolve p c (take (coarseLength p c) part) (take c work))
-solve-front p c part work k e = let q : k - 0 ≡ coarseLength p c = omega arith in rw q

@@ -1,4 +1,4 @@
--- The calls on the coarse factor: 17 and 18, as all their lists belong to the coarse part; then what is made.
+-- The call for the coarse factor: 17 and 18, as both lists belong to the coarse part; then what is made.
 use Prim.Native.Nat.{ℕ, _*_}
 use mathlib.Core.Bool.{_&&_}
 use mathlib.Core.List.{List}
@@ -7,9 +7,8 @@ use lib.ListN.{length, take}
 use lib.Ieee.{Float}
 use Rattle.definitions.specs.Refusal.{Outcome, refused, done, require, _>>=_}
 use Rattle.definitions.specs.Setup.{maxCoarse}
-use Rattle.definitions.specs.Coarse.{coarseFactor, packedLength, coarseSolve, coarseLength}
+use Rattle.definitions.specs.Coarse.{coarseFactor, packedLength}
 use Rattle.definitions.specs.declared.Refusal.the-variants.{CoarseTooLarge, CoarseListTooShort}
-use Rattle.definitions.specs.declared.TwoLevelCoarseApplyPolicy.{TwoLevelCoarseApplyPolicy}
 use Rattle.definitions.specs.declared.Answer.{Answer}
 use Rattle.definitions.specs.declared.Answer.the-variants.{Accepted, Refused}
 
@@ -24,10 +23,3 @@ coarseFactorCall c m lent = do
   _ ← require (leb c maxCoarse) (CoarseTooLarge c)
   _ ← require (leb (c * c) (length m) && leb (packedLength c) lent) (CoarseListTooShort c)
   coarseFactor c (take (c * c) m)
-
--- the solve with the stored part, of the right-hand side in the first c elements of work
-unfoldable pub coarseSolveCall : TwoLevelCoarseApplyPolicy → ℕ → List Float → List Float → Outcome (List Float)
-coarseSolveCall policy c part work = do
-  _ ← require (leb c maxCoarse) (CoarseTooLarge c)
-  _ ← require (leb (coarseLength policy c) (length part) && leb (2 * c) (length work)) (CoarseListTooShort c)
-  done (coarseSolve policy c (take (coarseLength policy c) part) (take c work))

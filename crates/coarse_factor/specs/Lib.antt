@@ -1,4 +1,2 @@
 pub mod Calls
 pub mod Fronts
-pub mod RowSums
-pub mod Stored

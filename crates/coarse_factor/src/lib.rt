@@ -1,9 +1,8 @@
-// The packed Cholesky factor of the coarse matrix, the solves with it, and the inverse.
+// The packed Cholesky factor of the coarse matrix.
 use definitions::Answer;
 use definitions::FactorAnswer;
 use definitions::MAX_COARSE;
 use definitions::Refusal;
-use definitions::TwoLevelCoarseApplyPolicy;
 use numbers::larger;
 use numbers::long_enough;
 use numbers::usable;
@@ -14,12 +13,10 @@ ghost use lib.ListN.{length, take};
 ghost use Rattle.definitions.specs.Numbers.{zeroᶠ, largest};
 ghost use Rattle.definitions.specs.Refusal.{resultLeft};
 ghost use Rattle.definitions.specs.Coarse.{packedLength, coarseFactor};
-ghost use Rattle.definitions.specs.Answers.{factorAnswer, answerOf};
-ghost use Rattle.coarse_factor.specs.Calls.{coarseFactorCall, coarseSolveCall};
+ghost use Rattle.definitions.specs.Answers.{factorAnswer};
+ghost use Rattle.coarse_factor.specs.Calls.{coarseFactorCall};
 
 mod factor;
-mod solve;
-mod stored;
 
 // The factor of a matrix of c rows, into the front of a list that is long enough.
 fn factor_fitting(c: usize, m: &[f64], lower: &mut [f64]) -> FactorAnswer
@@ -60,30 +57,5 @@ pub fn coarse_factor(c: usize, m: &[f64], lower: &mut [f64]) -> FactorAnswer
     } else {
         zero_floats(lower);
         FactorAnswer::Refused(Refusal::CoarseTooLarge(c as u64))
-    }
-}
-
-// The solve of the right-hand side in the first c elements of work, in place, with zeros after it.
-pub fn coarse_solve(
-    policy: TwoLevelCoarseApplyPolicy,
-    c: usize,
-    part: &[f64],
-    work: &mut [f64],
-) -> Answer
-    ensures { λ r. ⌜ (let o = coarseSolveCall policy c (now (part .entry)) (now (work .entry)) in
-        (r ≡ answerOf o) × (now (work .exit) ≡ resultLeft zeroᶠ o (now (work .entry)))) ⌝ }
-{
-    if c <= MAX_COARSE {
-        let count = stored::stored_length(policy, c);
-        if long_enough(count, part.len(), 2 * c, work.len()) {
-            let from = 0;
-            stored::solve_stored(policy, c, &part[from..count], work);
-            return Answer::Accepted;
-        }
-        zero_floats(work);
-        Answer::Refused(Refusal::CoarseListTooShort(c as u64))
-    } else {
-        zero_floats(work);
-        Answer::Refused(Refusal::CoarseTooLarge(c as u64))
     }
 }
