@@ -13,6 +13,7 @@ ghost use lib.ListN.{length, take};
 ghost use Rattle.definitions.specs.Numbers.{zeroᶠ, largest};
 ghost use Rattle.definitions.specs.Refusal.{resultLeft};
 ghost use Rattle.definitions.specs.Coarse.{packedLength, coarseFactor};
+ghost use Rattle.definitions.specs.Setup.{maxCoarse};
 ghost use Rattle.definitions.specs.Answers.{factorAnswer};
 ghost use Rattle.coarse_factor.specs.Calls.{coarseFactorCall};
 
@@ -20,7 +21,7 @@ mod factor;
 
 // The factor of a matrix of c rows, into the front of a list that is long enough.
 fn factor_fitting(c: usize, m: &[f64], lower: &mut [f64]) -> FactorAnswer
-    requires { ⌜ (length (now m) ≡ c * c) × (packedLength c ≤ length (now lower)) × (c ≤ 2048) ⌝ }
+    requires { ⌜ (length (now m) ≡ c * c) × (packedLength c ≤ length (now lower)) × (c ≤ maxCoarse) ⌝ }
     ensures { λ r. ⌜ (r ≡ factorAnswer (largest (now (m .entry))) (coarseFactor c (now (m .entry)))) × (now (lower .exit) ≡ resultLeft zeroᶠ (coarseFactor c (now (m .entry))) (now (lower .entry))) ⌝ }
 {
     zero_floats(lower);

@@ -15,8 +15,7 @@ use Rattle.averaging.proofs.Places.{place}
 use Rattle.laws.proofs.Lists.{getD-tab}
 use Rattle.laws.specs.Packed.{ahead}
 use Rattle.laws.proofs.Packed.{tri-step, tri-row, length-forward, forward-step}
-use Rattle.coarse_solve.specs.RowSums.{rowSum}
-use Rattle.coarse_solve.specs.RowSums.{rowSums, rowStart, ForwardOn}
+use Rattle.coarse_solve.specs.RowSums.{rowSum, rowSums, rowStart, ForwardOn}
 use Rattle.coarse_solve.specs.Stored.{ProductsOn}
 use Rattle.coarse_solve.proofs.Products.{rowSum-ext, products-more}
 use Rattle.coarse_solve.proofs.RowSums.{start-none, start-suc}

@@ -11,8 +11,7 @@ use lib.Ieee.{Float, nan}
 use Rattle.definitions.specs.Numbers.{_+ᶠ_, _*ᶠ_, minusZero}
 use Rattle.laws.proofs.Lists.{tab-cong, tab-same, getD-tab}
 use Rattle.laws.proofs.Growing.{summed-none, summed-more, tab-more, tab-unread}
-use Rattle.coarse_solve.specs.RowSums.{rowSum}
-use Rattle.coarse_solve.specs.RowSums.{rowSums, withTerms, rowStart}
+use Rattle.coarse_solve.specs.RowSums.{rowSum, rowSums, withTerms, rowStart}
 
 -- ---- where they begin
 

@@ -8,8 +8,8 @@ ghost use Rattle.definitions.specs.Lists.{tab};
 ghost use Rattle.definitions.specs.Numbers.{_-ᶠ_, _/ᶠ_};
 ghost use Rattle.laws.specs.Packed.{Column, KeptBefore};
 ghost use Rattle.definitions.specs.Coarse.{packed, packedLength, packedForward, packedBackward, packedSolve};
-ghost use Rattle.coarse_solve.specs.RowSums.{rowSum, colSum};
-ghost use Rattle.coarse_solve.specs.RowSums.{rowSums, withTerms, RowsWithin, rowStart, ForwardOn};
+ghost use Rattle.definitions.specs.Setup.{maxCoarse};
+ghost use Rattle.coarse_solve.specs.RowSums.{rowSum, colSum, rowSums, withTerms, RowsWithin, rowStart, ForwardOn};
 
 // The sum of the first n numbers of a row, which begins at start, with the products up to `to` added.
 fn row_more(l: &[f64], y: &[f64], before: f64, start: usize, n: usize, to: usize) -> f64
@@ -122,7 +122,7 @@ pub(crate) fn forward(l: &[f64], y: &mut [f64])
 // The column i of a packed factor below the diagonal, by y; it begins at first. The column i - 1, which stands before it, is kept on the way:
 // the rows are far apart in memory, and so each is fetched once for two columns.
 fn col_dot(l: &[f64], y: &[f64], i: usize, first: usize, kept: &mut [f64]) -> f64
-    requires { ⌜ (i < length (now y)) × (first ≡ packed (i + 1) i) × (length (now l) ≡ packedLength (length (now y))) × (length (now y) ≤ length (now kept)) × (length (now y) ≤ 2048) ⌝ }
+    requires { ⌜ (i < length (now y)) × (first ≡ packed (i + 1) i) × (length (now l) ≡ packedLength (length (now y))) × (length (now y) ≤ length (now kept)) × (length (now y) ≤ maxCoarse) ⌝ }
     ensures { λ r. ⌜ r ≡ colSum (now (l .entry)) (now (y .entry)) i (length (now (y .entry)) - suc i) ⌝ }
     ensures { λ _. ⌜ KeptBefore (now (l .entry)) i (length (now (y .entry))) (now (kept .entry)) (now (kept .exit)) ⌝ }
 {
@@ -138,7 +138,7 @@ fn col_dot(l: &[f64], y: &[f64], i: usize, first: usize, kept: &mut [f64]) -> f6
 
 // The same sum, from the column that is kept where it is known, else down the column; end is past row i.
 fn col_sum(l: &[f64], y: &[f64], i: usize, end: usize, known: bool, kept: &mut [f64]) -> f64
-    requires { ⌜ (i < length (now y)) × (end ≡ packedLength (i + 1)) × (length (now l) ≡ packedLength (length (now y))) × (length (now y) ≤ length (now kept)) × (length (now y) ≤ 2048) ⌝ }
+    requires { ⌜ (i < length (now y)) × (end ≡ packedLength (i + 1)) × (length (now l) ≡ packedLength (length (now y))) × (length (now y) ≤ length (now kept)) × (length (now y) ≤ maxCoarse) ⌝ }
     requires { ⌜ (known ≡ true → Column (now l) i (length (now y)) (now kept)) ⌝ }
     ensures { λ r. ⌜ r ≡ colSum (now (l .entry)) (now (y .entry)) i (length (now (y .entry)) - suc i) ⌝ }
     ensures { λ _. ⌜ (length (now (kept .exit)) ≡ length (now (kept .entry))) × (known ≡ false → 0 < i → Column (now (l .entry)) (i - 1) (length (now (y .entry))) (now (kept .exit))) ⌝ }
@@ -156,7 +156,7 @@ fn col_sum(l: &[f64], y: &[f64], i: usize, end: usize, known: bool, kept: &mut [
 
 // Lᵀ x = y, in place.
 pub(crate) fn backward(l: &[f64], y: &mut [f64])
-    requires { ⌜ (length (now l) ≡ packedLength (length (now y))) × (length (now y) ≤ 2048) ⌝ }
+    requires { ⌜ (length (now l) ≡ packedLength (length (now y))) × (length (now y) ≤ maxCoarse) ⌝ }
     ensures { λ _. ⌜ now (y .exit) ≡ packedBackward (now (l .entry)) (length (now (y .entry))) (now (y .entry)) (length (now (y .entry))) ⌝ }
 {
     // `known`: whether `kept` holds the column to come.
@@ -173,7 +173,7 @@ pub(crate) fn backward(l: &[f64], y: &mut [f64])
 }
 
 pub(crate) fn solve(l: &[f64], y: &mut [f64])
-    requires { ⌜ (length (now l) ≡ packedLength (length (now y))) × (length (now y) ≤ 2048) ⌝ }
+    requires { ⌜ (length (now l) ≡ packedLength (length (now y))) × (length (now y) ≤ maxCoarse) ⌝ }
     ensures { λ _. ⌜ now (y .exit) ≡ packedSolve (length (now (y .entry))) (now (l .entry)) (now (y .entry)) ⌝ }
 {
     forward(l, y);

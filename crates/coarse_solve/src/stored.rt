@@ -11,12 +11,12 @@ ghost use lib.ListN.{length, take};
 ghost use Rattle.definitions.specs.Lists.{padded};
 ghost use Rattle.definitions.specs.Numbers.{zeroᶠ};
 ghost use Rattle.definitions.specs.Coarse.{packedLength, packedSolve, coarseLength, coarseSolve};
-ghost use Rattle.coarse_solve.specs.Stored.{ProductsOn};
-ghost use Rattle.coarse_solve.specs.Stored.{Products, Moved, inverseSolve};
+ghost use Rattle.definitions.specs.Setup.{maxCoarse};
+ghost use Rattle.coarse_solve.specs.Stored.{ProductsOn, Products, Moved, inverseSolve};
 
 // How many numbers are stored.
 pub(crate) fn stored_length(policy: TwoLevelCoarseApplyPolicy, c: usize) -> usize
-    requires { ⌜ c ≤ 2048 ⌝ }
+    requires { ⌜ c ≤ maxCoarse ⌝ }
     ensures { λ r. ⌜ r ≡ coarseLength policy c ⌝ }
 {
     layout::part_length(policy, c)
@@ -24,7 +24,7 @@ pub(crate) fn stored_length(policy: TwoLevelCoarseApplyPolicy, c: usize) -> usiz
 
 // With the factor, in place.
 fn by_factor(c: usize, part: &[f64], work: &mut [f64])
-    requires { ⌜ (length (now part) ≡ packedLength c) × (2 * c ≤ length (now work)) × (c ≤ 2048) ⌝ }
+    requires { ⌜ (length (now part) ≡ packedLength c) × (2 * c ≤ length (now work)) × (c ≤ maxCoarse) ⌝ }
     ensures { λ _. ⌜ now (work .exit) ≡ padded zeroᶠ (length (now (work .entry))) (packedSolve c (now (part .entry)) (take c (now (work .entry)))) ⌝ }
 {
     let from = 0;
@@ -34,7 +34,7 @@ fn by_factor(c: usize, part: &[f64], work: &mut [f64])
 
 // The products of the eight rows of the inverse from i on, the first of which begins at base.
 fn products_eight(c: usize, part: &[f64], work: &mut [f64], i: usize, base: usize)
-    requires { ⌜ (i + 8 ≤ c) × (base ≡ i * c) × (length (now part) ≡ c * c) × (2 * c ≤ length (now work)) × (c ≤ 2048) ⌝ }
+    requires { ⌜ (i + 8 ≤ c) × (base ≡ i * c) × (length (now part) ≡ c * c) × (2 * c ≤ length (now work)) × (c ≤ maxCoarse) ⌝ }
     ensures { λ _. ⌜ ProductsOn c (now (part .entry)) (now (work .entry)) (now (work .exit)) i (i + 8) ⌝ }
 {
     let starts = row_starts(base, c, 0);
@@ -46,7 +46,7 @@ fn products_eight(c: usize, part: &[f64], work: &mut [f64], i: usize, base: usiz
 
 // Those of the rows from i on, one by one; row i begins at base.
 fn products_rest(c: usize, part: &[f64], work: &mut [f64], i: usize, base: usize)
-    requires { ⌜ (i ≤ c) × (base ≡ i * c) × (length (now part) ≡ c * c) × (2 * c ≤ length (now work)) × (c ≤ 2048) ⌝ }
+    requires { ⌜ (i ≤ c) × (base ≡ i * c) × (length (now part) ≡ c * c) × (2 * c ≤ length (now work)) × (c ≤ maxCoarse) ⌝ }
     ensures { λ _. ⌜ ProductsOn c (now (part .entry)) (now (work .entry)) (now (work .exit)) i c ⌝ }
 {
     let mut at = base;
@@ -58,7 +58,7 @@ fn products_rest(c: usize, part: &[f64], work: &mut [f64], i: usize, base: usize
 
 // The rows of the inverse by the first c numbers of work, into the c numbers after them: eight at a time, and the last ones alone.
 fn inverse_rows(c: usize, part: &[f64], work: &mut [f64])
-    requires { ⌜ (length (now part) ≡ c * c) × (2 * c ≤ length (now work)) × (c ≤ 2048) ⌝ }
+    requires { ⌜ (length (now part) ≡ c * c) × (2 * c ≤ length (now work)) × (c ≤ maxCoarse) ⌝ }
     ensures { λ _. ⌜ Products c (now (part .entry)) (now (work .entry)) (now (work .exit)) c ⌝ }
 {
     let mut base = 0;
@@ -85,7 +85,7 @@ fn move_front(c: usize, work: &mut [f64])
 
 // With the inverse.
 fn by_inverse(c: usize, part: &[f64], work: &mut [f64])
-    requires { ⌜ (length (now part) ≡ c * c) × (2 * c ≤ length (now work)) × (c ≤ 2048) ⌝ }
+    requires { ⌜ (length (now part) ≡ c * c) × (2 * c ≤ length (now work)) × (c ≤ maxCoarse) ⌝ }
     ensures { λ _. ⌜ now (work .exit) ≡ padded zeroᶠ (length (now (work .entry))) (inverseSolve c (now (part .entry)) (take c (now (work .entry)))) ⌝ }
 {
     inverse_rows(c, part, work);
@@ -99,7 +99,7 @@ pub(crate) fn solve_stored(
     part: &[f64],
     work: &mut [f64],
 )
-    requires { ⌜ (length (now part) ≡ coarseLength policy c) × (2 * c ≤ length (now work)) × (c ≤ 2048) ⌝ }
+    requires { ⌜ (length (now part) ≡ coarseLength policy c) × (2 * c ≤ length (now work)) × (c ≤ maxCoarse) ⌝ }
     ensures { λ _. ⌜ now (work .exit) ≡ padded zeroᶠ (length (now (work .entry))) (coarseSolve policy c (now (part .entry)) (take c (now (work .entry)))) ⌝ }
 {
     match policy {

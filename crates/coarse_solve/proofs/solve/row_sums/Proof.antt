@@ -1,7 +1,6 @@
 use lib.ListN.{length, getD}
 use Rattle.laws.proofs.Lists.{length-tab}
-use Rattle.coarse_solve.specs.RowSums.{rowSum}
-use Rattle.coarse_solve.specs.RowSums.{rowSums}
+use Rattle.coarse_solve.specs.RowSums.{rowSum, rowSums}
 use Rattle.coarse_solve.proofs.RowSums.{sums-none, sums-more}
 use Prim.Native.Nat.{_≤_, _-_}
 use mathlib.Core.Path.{_≡_, ap, _∙_}
