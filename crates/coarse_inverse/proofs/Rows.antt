@@ -14,6 +14,7 @@ use borrow.Author.Tests.{eq-eqb, ne-eqb}
 use Rattle.definitions.specs.Lists.{tab, upTo, padded}
 use Rattle.definitions.specs.Numbers.{zeroᶠ, oneᶠ}
 use Rattle.definitions.specs.Coarse.{packedSolve, unit, inverseOf}
+use Rattle.definitions.specs.Setup.{maxCoarse}
 use Rattle.definitions.specs.Refusal.{resultLeft}
 use Rattle.averaging.specs.Averaging.{averageCall}
 use Rattle.averaging.proofs.Laws.{average-fits}
@@ -59,7 +60,7 @@ pub row-length : (u : List Float) (from c : ℕ) → from + c ≤ length u → l
 row-length u from c h = let k : from + c - from ≡ c = omega arith in rw k (length-take-le c (drop from u) (rw (length-drop from u) (omega arith)))
 
 -- all rows, averaged, and zeros after them
-pub invert-law : (c : ℕ) (l w u v : List Float) → c ≤ 2_048 → c * c ≤ length w → u ≡ solvedRows c l c ++ drop (c * c) w → v ≡ resultLeft zeroᶠ (averageCall c u) u → v ≡ padded zeroᶠ (length w) (inverseOf c l)
+pub invert-law : (c : ℕ) (l w u v : List Float) → c ≤ maxCoarse → c * c ≤ length w → u ≡ solvedRows c l c ++ drop (c * c) w → v ≡ resultLeft zeroᶠ (averageCall c u) u → v ≡ padded zeroᶠ (length w) (inverseOf c l)
 unfolding inverseOf solvedRows
 invert-law c l w u v h k eu ev =
     let s = flatMap (λ i. packedSolve c l (unit c i)) (upTo c) in

@@ -11,6 +11,7 @@ ghost use lib.Ieee.{Float};
 ghost use Rattle.definitions.specs.Lists.{padded};
 ghost use Rattle.definitions.specs.Numbers.{zeroᶠ};
 ghost use Rattle.definitions.specs.Coarse.{packedLength, inverseOf};
+ghost use Rattle.definitions.specs.Setup.{maxCoarse};
 ghost use Rattle.coarse_inverse.specs.Lanes.{lane, Regular};
 ghost use Rattle.coarse_inverse.specs.Rows.{solvedRows};
 
@@ -26,7 +27,7 @@ fn lanes_of(left: usize) -> usize
 
 // Whether all numbers of the factor are finite and its diagonal is above zero.
 fn regular(l: &[f64], c: usize) -> bool
-    requires { ⌜ (length (now l) ≡ packedLength c) × (c ≤ 2048) ⌝ }
+    requires { ⌜ (length (now l) ≡ packedLength c) × (c ≤ maxCoarse) ⌝ }
     ensures { λ r. ⌜ (r ≡ true → Regular c (now (l .entry))) ⌝ }
 {
     let mut k = 0;
@@ -96,7 +97,7 @@ fn solve_rows(
 
 // The whole inverse, with zeros after it.
 pub(crate) fn invert(c: usize, lower: &[f64], inverse: &mut [f64])
-    requires { ⌜ (length (now lower) ≡ packedLength c) × (c * c ≤ length (now inverse)) × (c ≤ 2048) ⌝ }
+    requires { ⌜ (length (now lower) ≡ packedLength c) × (c * c ≤ length (now inverse)) × (c ≤ maxCoarse) ⌝ }
     ensures { λ _. ⌜ now (inverse .exit) ≡ padded zeroᶠ (length (now (inverse .entry))) (inverseOf c (now (lower .entry))) ⌝ }
 {
     let safe = regular(lower, c);
