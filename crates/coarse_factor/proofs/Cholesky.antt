@@ -1,12 +1,11 @@
 -- The packed factor, a row at a time, and the largest magnitude.
-use Prim.Native.Nat.{ℕ, zero, suc, _+_, _-_, _*_, _<_, _≤_}
+use Prim.Native.Nat.{ℕ, suc, _+_, _-_, _<_, _≤_}
 use mathlib.Core.Path.{_≡_, refl, _∙_}
 use mathlib.Core.Bool.{true, false}
 use mathlib.Core.List.{List, [], _∷_, foldl-append}
 use native.Mathlib.Omega.{arith}
-use native.Mathlib.Nat.{mul-le-mul}
 use native.Mathlib.Numerals.{add-one}
-use lib.ListN.{length, getD, set, take, length-set}
+use lib.ListN.{length, getD, set, take}
 use lib.Seq.{take-suc, take-length}
 use lib.Ieee.{Float, nan}
 use Rattle.definitions.specs.Numbers.{zeroᶠ, magnitude, larger, largest, above, rootᶠ}
@@ -31,17 +30,9 @@ largest-all m k e es = rw (e, take-length m) at es
 
 -- ---- the entries of a row, left to right
 
-pub length-left : (a : ℕ → ℕ → Float) (i j : ℕ) (l : List Float) → length (belowDiagonal packed a i j l) ≡ length l
-unfolding belowDiagonal
-length-left a i zero l = refl
-length-left a i (suc j) l = simp length-set (length-left a i j l)
-
 pub left-none : (a : ℕ → ℕ → Float) (i : ℕ) (l : List Float) → l ≡ belowDiagonal packed a i 0 l
 unfolding belowDiagonal
 left-none a i l = refl
-
-pub triangle-small : (n : ℕ) → n ≤ 2_048 → n * (n + 1) ≤ 4_196_352
-triangle-small n h = let q : n + 1 ≤ 2_049 = omega arith in mul-le-mul h q
 
 -- ---- the rows, one by one: n - i are left
 

@@ -1,32 +1,29 @@
--- The calls' answers, from what the code has at each return.
-use Prim.Native.Nat.{ℕ, zero, suc, _-_, _*_, _<_, _≤_}
+-- The call's answers, from what the code has at each return.
+use Prim.Native.Nat.{ℕ, zero, suc, _-_, _*_, _≤_}
 use mathlib.Core.Path.{_≡_, refl, ap, sym, _∙_}
 use mathlib.Core.Bool.{Bool, true, false, _&&_}
 use mathlib.Core.List.{List, _++_}
 use native.Mathlib.Omega.{arith}
 use lib.ListN.{length, set, take, drop, replicate, length-replicate}
-use lib.Seq.{length-front, length-take-le}
+use lib.Seq.{length-front}
 use lib.Ieee.{Float}
 use lib.Dec.{leb}
-use borrow.Author.Tests.{le-leb, lt-leb, leb-true}
 use Rattle.definitions.specs.Lists.{padded}
 use Rattle.averaging.proofs.Lists.{take-zeros, drop-zeros}
 use Rattle.definitions.specs.Numbers.{_*ᶠ_, zeroᶠ, oneᶠ, pivotTol, larger, largest, usable, above, rootᶠ}
 use Rattle.definitions.specs.Refusal.{Outcome, refused, done, require, _>>=_, resultLeft, keepsAll, causeOf}
 use Rattle.definitions.specs.Factor.{factorRows, belowDiagonal, rest}
-use Rattle.definitions.specs.Coarse.{packed, packedLength, entryIn, coarseFactor, inverseOf, coarseSolve, coarseLength}
+use Rattle.definitions.specs.Coarse.{packed, packedLength, entryIn, coarseFactor}
 use Rattle.definitions.specs.Answers.{factorAnswer}
-use Rattle.definitions.specs.declared.TwoLevelCoarseApplyPolicy.{TwoLevelCoarseApplyPolicy}
 use Rattle.definitions.specs.declared.Refusal.{Refusal}
-use Rattle.definitions.specs.declared.Refusal.the-variants.{CoarsePivot, CoarseScale, CoarseTooLarge, CoarseListTooShort}
+use Rattle.definitions.specs.declared.Refusal.the-variants.{CoarsePivot, CoarseScale}
 use Rattle.definitions.specs.declared.Answer.{Answer}
 use Rattle.definitions.specs.declared.Answer.the-variants.{Accepted, Refused}
 use Rattle.definitions.specs.declared.FactorAnswer.{FactorAnswer}
 use Rattle.definitions.specs.declared.FactorAnswer.the-variants.{Factored, Refused as NoFactor}
-use Rattle.coarse_factor.specs.Calls.{outcomeOf, coarseFactorCall, coarseInverseCall, coarseSolveCall}
-use Rattle.definitions.specs.Setup.{maxCoarse}
-use Rattle.laws.proofs.Tests.{both-true}
+use Rattle.laws.proofs.CoarseChecks.{checks}
 use Rattle.causes.proofs.Left.{left-done, left-cleared}
+use Rattle.coarse_factor.specs.Calls.{outcomeOf, coarseFactorCall}
 
 -- ---- 23 and 24
 
@@ -107,40 +104,11 @@ fitting-scale c m w z s es us ez =
     let o = coarse-off c m s es us in
     (answer-refused (largest m) (coarseFactor c m) CoarseScale o, ez ∙ sym (left-cleared zeroᶠ (coarseFactor c m) w CoarseScale o refl))
 
--- ---- the calls' checks: 17, 18, and what is known where both passed
+-- ---- the call's checks: 17, 18
 
-pub covered : (a n b m : ℕ) → (leb a n && leb b m) ≡ true → (a ≤ n) × (b ≤ m)
-covered a n b m e = let h = both-true (leb a n) (leb b m) e in (leb-true a n (h .0), leb-true b m (h .1))
-
-module _ {A : Type 0} (c : ℕ) (fits : Bool) (next : Outcome A) where
-  -- both checks, and then what is made
-  abbrev pub checked : Outcome A
-  checked = require (leb c maxCoarse) (CoarseTooLarge c) >>= (λ _. require fits (CoarseListTooShort c) >>= (λ _. next))
-
-  pub large : maxCoarse < c → checked ≡ refused (CoarseTooLarge c)
-  unfolding require _>>=_
-  large h = rw (lt-leb c maxCoarse h)
-
-  pub short : c ≤ maxCoarse → fits ≡ false → checked ≡ refused (CoarseListTooShort c)
-  unfolding require _>>=_
-  short h e = rw (le-leb c maxCoarse h, e)
-
-  pub fit : c ≤ maxCoarse → fits ≡ true → checked ≡ next
-  unfolding require _>>=_
-  fit h e = rw (le-leb c maxCoarse h, e)
-
-pub factor-checked : (c : ℕ) (m : List Float) (n : ℕ) → coarseFactorCall c m n ≡ checked c (leb (c * c) (length m) && leb (packedLength c) n) (coarseFactor c (take (c * c) m))
+pub factor-checked : (c : ℕ) (m : List Float) (n : ℕ) → coarseFactorCall c m n ≡ checks c (leb (c * c) (length m) && leb (packedLength c) n) (coarseFactor c (take (c * c) m))
 unfolding coarseFactorCall
 factor-checked c m n = refl
-
-pub inverse-checked : (c : ℕ) (l : List Float) (n : ℕ) → coarseInverseCall c l n ≡ checked c (leb (packedLength c) (length l) && leb (c * c) n) (done (inverseOf c (take (packedLength c) l)))
-unfolding coarseInverseCall
-inverse-checked c l n = refl
-
-pub solve-checked : (p : TwoLevelCoarseApplyPolicy) (c : ℕ) (part work : List Float)
-    → coarseSolveCall p c part work ≡ checked c (leb (coarseLength p c) (length part) && leb (2 * c) (length work)) (done (coarseSolve p c (take (coarseLength p c) part) (take c work)))
-unfolding coarseSolveCall
-solve-checked p c part work = refl
 
 pub answer-cleared : (s : Float) (o : Outcome (List Float)) (w z : List Float) (r : Refusal) → o ≡ refused r → keepsAll r ≡ false → z ≡ replicate (length w) zeroᶠ → (NoFactor r ≡ factorAnswer s o) × (z ≡ resultLeft zeroᶠ o w)
 answer-cleared s o w z r e k ez = (answer-refused s o r e, ez ∙ sym (left-cleared zeroᶠ o w r e k))
@@ -149,14 +117,3 @@ pub answer-fits : (c : ℕ) (m w z : List Float) (a : FactorAnswer) (o : Outcome
     → a ≡ factorAnswer (largest (take (c * c - 0) m)) (coarseFactor c (take (c * c - 0) m)) → z ≡ resultLeft zeroᶠ (coarseFactor c (take (c * c - 0) m)) w
     → (a ≡ factorAnswer (largest (take (c * c) m)) o) × (z ≡ resultLeft zeroᶠ o w)
 answer-fits c m w z a o eo ea ez = let q : c * c - 0 ≡ c * c = omega arith in (ea ∙ rw (eo, q), ez ∙ rw (eo, q))
-
-pub front-square : (c : ℕ) (m : List Float) → c * c ≤ length m → length (take (c * c - 0) m) ≡ c * c
-front-square c m h = let q : c * c - 0 ≡ c * c = omega arith in rw q (length-take-le (c * c) m h)
-
--- what the lists lent in part stand for
-pub inverse-front : (c : ℕ) (l : List Float) (n : ℕ) → padded zeroᶠ n (inverseOf c (take (packedLength c - 0) l)) ≡ padded zeroᶠ n (inverseOf c (take (packedLength c) l))
-inverse-front c l n = let q : packedLength c - 0 ≡ packedLength c = omega arith in rw q
-
-pub solve-front : (p : TwoLevelCoarseApplyPolicy) (c : ℕ) (part work : List Float) (k : ℕ) → k ≡ coarseLength p c
-    → padded zeroᶠ (length work) (coarseSolve p c (take (k - 0) part) (take c work)) ≡ padded zeroᶠ (length work) (coarseSolve p c (take (coarseLength p c) part) (take c work))
-solve-front p c part work k e = let q : k - 0 ≡ coarseLength p c = omega arith in rw q

@@ -12,11 +12,10 @@ use Rattle.definitions.specs.Numbers.{_-ᶠ_, _*ᶠ_, _/ᶠ_, reduced}
 use Rattle.definitions.specs.Factor.{belowDiagonal, rest, products}
 use Rattle.definitions.specs.Coarse.{packed, packedLength}
 use Rattle.laws.proofs.Lists.{tab-cong, getD-tab}
-use Rattle.laws.proofs.Growing.{reduced-none, reduced-more}
+use Rattle.laws.proofs.Growing.{reduced-none, reduced-more, upto}
+use Rattle.laws.proofs.Packed.{tri-row}
+use Rattle.laws.proofs.Factor.{left-length}
 use Rattle.coarse_factor.specs.Fronts.{lessRow, frontRest, Fronts, Put}
-use Rattle.coarse_factor.proofs.Packed.{tri-row}
-use Rattle.coarse_factor.proofs.Products.{upto}
-use Rattle.coarse_factor.proofs.Cholesky.{length-left}
 
 -- ---- sums side by side
 
@@ -105,7 +104,7 @@ module _ (a : ℕ → ℕ → Float) (l w : List Float) (n r i : ℕ) (ei : i �
       let v = rest packed a m i k /ᶠ getD m (packed k k) nan in
       upto (λ t. getD (set m (packed i k) v) (packed i t) nan ≡ getD w (t * 8 + r) nan) k
       (λ t q. getD-set-other m (packed i k) (packed i t) v nan (λ e. omega arith) ∙ front-at k (omega arith) t q)
-      (getD-set-same m (packed i k) v nan (omega (arith, length-left a i k l)) ∙ front-value k h (front-at k (omega arith))) t (omega arith)
+      (getD-set-same m (packed i k) v nan (omega (arith, left-length packed a i k l)) ∙ front-value k h (front-at k (omega arith))) t (omega arith)
 
   -- an entry more
   pub front-more : (k start : ℕ) (l′ : List Float) → k < i → start ≡ packedLength i → l′ ≡ belowDiagonal packed a i k l → set l′ (start + k) (getD w (k * 8 + r) nan) ≡ belowDiagonal packed a i (k + 1) l

@@ -1,12 +1,3 @@
-pub mod Packed
 pub mod Cholesky
 pub mod Fitting
 pub mod Fronts
-pub mod RowByRow
-pub mod Kept
-pub mod Products
-pub mod Rows
-pub mod Sides
-pub mod RowSums
-pub mod Zeros
-pub mod Starting

@@ -1,4 +1,4 @@
--- The calls on the coarse factor: 17 and 18, as all their lists belong to the coarse part; then what is made.
+-- The call for the coarse factor: 17 and 18, as both lists belong to the coarse part; then what is made.
 use Prim.Native.Nat.{ℕ, _*_}
 use mathlib.Core.Bool.{_&&_}
 use mathlib.Core.List.{List}
@@ -7,13 +7,10 @@ use lib.ListN.{length, take}
 use lib.Ieee.{Float}
 use Rattle.definitions.specs.Refusal.{Outcome, refused, done, require, _>>=_}
 use Rattle.definitions.specs.Setup.{maxCoarse}
-use Rattle.definitions.specs.Coarse.{coarseFactor, packedLength, inverseOf, coarseSolve, coarseLength}
+use Rattle.definitions.specs.Coarse.{coarseFactor, packedLength}
 use Rattle.definitions.specs.declared.Refusal.the-variants.{CoarseTooLarge, CoarseListTooShort}
-use Rattle.definitions.specs.declared.TwoLevelCoarseApplyPolicy.{TwoLevelCoarseApplyPolicy}
 use Rattle.definitions.specs.declared.Answer.{Answer}
 use Rattle.definitions.specs.declared.Answer.the-variants.{Accepted, Refused}
-use Rattle.definitions.specs.declared.FactorAnswer.{FactorAnswer}
-use Rattle.definitions.specs.declared.FactorAnswer.the-variants.{Factored, Refused as NoFactor}
 
 -- an answer and the list that it stands for
 unfoldable pub outcomeOf : Answer → List Float → Outcome (List Float)
@@ -26,17 +23,3 @@ coarseFactorCall c m lent = do
   _ ← require (leb c maxCoarse) (CoarseTooLarge c)
   _ ← require (leb (c * c) (length m) && leb (packedLength c) lent) (CoarseListTooShort c)
   coarseFactor c (take (c * c) m)
-
--- the inverse, from the packed factor in the first elements of lower
-unfoldable pub coarseInverseCall : ℕ → List Float → ℕ → Outcome (List Float)
-coarseInverseCall c lower lent = do
-  _ ← require (leb c maxCoarse) (CoarseTooLarge c)
-  _ ← require (leb (packedLength c) (length lower) && leb (c * c) lent) (CoarseListTooShort c)
-  done (inverseOf c (take (packedLength c) lower))
-
--- the solve with the stored part, of the right-hand side in the first c elements of work
-unfoldable pub coarseSolveCall : TwoLevelCoarseApplyPolicy → ℕ → List Float → List Float → Outcome (List Float)
-coarseSolveCall policy c part work = do
-  _ ← require (leb c maxCoarse) (CoarseTooLarge c)
-  _ ← require (leb (coarseLength policy c) (length part) && leb (2 * c) (length work)) (CoarseListTooShort c)
-  done (coarseSolve policy c (take (coarseLength policy c) part) (take c work))

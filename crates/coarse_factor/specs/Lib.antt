@@ -1,5 +1,2 @@
 pub mod Calls
 pub mod Fronts
-pub mod Lanes
-pub mod RowSums
-pub mod Stored

@@ -11,11 +11,12 @@ ghost use lib.ListN.{length, getD};
 ghost use lib.Ieee.{Float, nan};
 ghost use Rattle.definitions.specs.Lists.{tab};
 ghost use Rattle.definitions.specs.Numbers.{largest, _-ᶠ_, _*ᶠ_, _/ᶠ_};
-ghost use Rattle.coarse_factor.specs.Fronts.{lessRow, Fronts, Put};
 ghost use Rattle.definitions.specs.Factor.{belowDiagonal, factorRows};
 ghost use Rattle.definitions.specs.declared.Refusal.the-variants.{CoarsePivot};
-ghost use Rattle.coarse_factor.specs.Calls.{outcomeOf};
 ghost use Rattle.definitions.specs.Coarse.{packed, packedLength, entryIn};
+ghost use Rattle.definitions.specs.Setup.{maxCoarse};
+ghost use Rattle.coarse_factor.specs.Fronts.{lessRow, Fronts, Put};
+ghost use Rattle.coarse_factor.specs.Calls.{outcomeOf};
 
 // The largest magnitude.
 pub(crate) fn scale(m: &[f64]) -> f64
@@ -40,7 +41,7 @@ fn number_at(m: &[f64], at: usize) -> f64
 
 // Column j of the eight rows of m from n on.
 fn eight_of(m: &[f64], c: usize, n: usize, j: usize) -> [f64; 8]
-    requires { ⌜ (n ≤ 2048) × (j ≤ 2048) × (c ≤ 2048) ⌝ }
+    requires { ⌜ (n ≤ maxCoarse) × (j ≤ maxCoarse) × (c ≤ maxCoarse) ⌝ }
     ensures { λ x. ⌜ x ≡ tab (λ r. entryIn (now (m .entry)) c (n + r) j) 8 ⌝ }
 {
     let mut x = [0.0; 8];
@@ -77,7 +78,7 @@ fn pair_rest(
     row: usize,
     next: usize,
 ) -> Pair
-    requires { ⌜ (n ≤ 2048) × (j < 2048) × (c ≤ 2048) × (row + j ≤ length (now l)) × (next + j ≤ length (now l)) ⌝ }
+    requires { ⌜ (n ≤ maxCoarse) × (j < maxCoarse) × (c ≤ maxCoarse) × (row + j ≤ length (now l)) × (next + j ≤ length (now l)) ⌝ }
     ensures { λ x. ⌜ (let a = entryIn (now (m .entry)) c in
         (x .a ≡ tab (lessRow a (now (l .entry)) (now (w .entry)) n j row j) 8) × (x .b ≡ tab (lessRow a (now (l .entry)) (now (w .entry)) n (j + 1) next j) 8)) ⌝ }
 {
@@ -102,7 +103,7 @@ fn put_eight(w: &mut [f64; 16384], at: usize, x: &[f64; 8], pivot: f64)
 
 // The columns j and j + 1 of the eight rows from n on: the second waits for the first in its last product.
 fn put_columns(m: &[f64], l: &[f64], w: &mut [f64; 16384], c: usize, n: usize, j: usize)
-    requires { ⌜ (n ≤ 2048) × (j + 1 < c) × (c ≤ 2048) × (length (now l) ≡ packedLength c) × (length (now w) ≡ 16384) ⌝ }
+    requires { ⌜ (n ≤ maxCoarse) × (j + 1 < c) × (c ≤ maxCoarse) × (length (now l) ≡ packedLength c) × (length (now w) ≡ 16384) ⌝ }
     ensures { λ _. ⌜ (let a = entryIn (now (m .entry)) c in (length (now (w .exit)) ≡ 16384)
         × (Fronts a (now (l .entry)) (now (w .entry)) n j → Fronts a (now (l .entry)) (now (w .exit)) n (j + 2))) ⌝ }
 {
@@ -118,7 +119,7 @@ fn put_columns(m: &[f64], l: &[f64], w: &mut [f64; 16384], c: usize, n: usize, j
 
 // The first of the eight rows that w has, up to column i, row i among them: those there were, or those from i on.
 fn renew(m: &[f64], l: &[f64], w: &mut [f64; 16384], c: usize, i: usize, n: usize) -> usize
-    requires { ⌜ (i < c) × (n ≤ i) × (length (now l) ≡ packedLength c) × (c ≤ 2048) × (length (now w) ≡ 16384) × Fronts (entryIn (now m) c) (now l) (now w) n i ⌝ }
+    requires { ⌜ (i < c) × (n ≤ i) × (length (now l) ≡ packedLength c) × (c ≤ maxCoarse) × (length (now w) ≡ 16384) × Fronts (entryIn (now m) c) (now l) (now w) n i ⌝ }
     ensures { λ r. ⌜ (r ≤ i) × (i < r + 8) × (length (now (w .exit)) ≡ 16384) × Fronts (entryIn (now (m .entry)) c) (now (l .entry)) (now (w .exit)) r i ⌝ }
 {
     if i < n + 8 {
@@ -134,7 +135,7 @@ fn renew(m: &[f64], l: &[f64], w: &mut [f64; 16384], c: usize, i: usize, n: usiz
 
 // Row i left of the diagonal, from its lane of w; it begins at `start`.
 fn put_row(l: &mut [f64], w: &[f64; 16384], i: usize, start: usize, lane: usize)
-    requires { ⌜ (lane < 8) × (i < 2048) × (start ≡ packedLength i) × (start + i ≤ length (now l)) ⌝ }
+    requires { ⌜ (lane < 8) × (i < maxCoarse) × (start ≡ packedLength i) × (start + i ≤ length (now l)) ⌝ }
     ensures { λ _. ⌜ ((a : ℕ → ℕ → Float) (n : ℕ) → i ≡ n + lane → Fronts a (now (l .entry)) (now (w .entry)) n i → now (l .exit) ≡ belowDiagonal packed a i i (now (l .entry))) ⌝ }
 {
     for k in 0..i {
@@ -144,7 +145,7 @@ fn put_row(l: &mut [f64], w: &[f64; 16384], i: usize, start: usize, lane: usize)
 
 // The rows one after the other; a pivot that is not finite or at most tol is refused.
 pub(crate) fn factor_rows(m: &[f64], l: &mut [f64], c: usize, tol: f64) -> Answer
-    requires { ⌜ (length (now m) ≡ c * c) × (length (now l) ≡ packedLength c) × (c ≤ 2048) ⌝ }
+    requires { ⌜ (length (now m) ≡ c * c) × (length (now l) ≡ packedLength c) × (c ≤ maxCoarse) ⌝ }
     ensures { λ r. ⌜ (length (now (l .exit)) ≡ length (now (l .entry)))
         × (outcomeOf r (now (l .exit)) ≡ factorRows packed (λ i. CoarsePivot i) (entryIn (now (m .entry)) c) tol c 0 (now (l .entry))) ⌝ }
 {

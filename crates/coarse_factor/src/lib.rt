@@ -1,32 +1,27 @@
-// The packed Cholesky factor of the coarse matrix, the solves with it, and the inverse.
+// The packed Cholesky factor of the coarse matrix.
 use definitions::Answer;
 use definitions::FactorAnswer;
 use definitions::MAX_COARSE;
 use definitions::Refusal;
-use definitions::TwoLevelCoarseApplyPolicy;
 use numbers::larger;
+use numbers::long_enough;
 use numbers::usable;
 use numbers::zero_floats;
 ghost use mathlib.Core.Path.{_≡_};
-ghost use mathlib.Core.Bool.{_&&_};
 ghost use Prim.Native.Nat.{_*_, _≤_};
-ghost use lib.Dec.{leb};
 ghost use lib.ListN.{length, take};
 ghost use Rattle.definitions.specs.Numbers.{zeroᶠ, largest};
 ghost use Rattle.definitions.specs.Refusal.{resultLeft};
 ghost use Rattle.definitions.specs.Coarse.{packedLength, coarseFactor};
-ghost use Rattle.definitions.specs.Answers.{factorAnswer, answerOf};
-ghost use Rattle.coarse_factor.specs.Calls.{coarseFactorCall, coarseInverseCall, coarseSolveCall};
+ghost use Rattle.definitions.specs.Setup.{maxCoarse};
+ghost use Rattle.definitions.specs.Answers.{factorAnswer};
+ghost use Rattle.coarse_factor.specs.Calls.{coarseFactorCall};
 
 mod factor;
-mod inverse;
-mod lanes;
-mod solve;
-mod stored;
 
 // The factor of a matrix of c rows, into the front of a list that is long enough.
 fn factor_fitting(c: usize, m: &[f64], lower: &mut [f64]) -> FactorAnswer
-    requires { ⌜ (length (now m) ≡ c * c) × (packedLength c ≤ length (now lower)) × (c ≤ 2048) ⌝ }
+    requires { ⌜ (length (now m) ≡ c * c) × (packedLength c ≤ length (now lower)) × (c ≤ maxCoarse) ⌝ }
     ensures { λ r. ⌜ (r ≡ factorAnswer (largest (now (m .entry))) (coarseFactor c (now (m .entry)))) × (now (lower .exit) ≡ resultLeft zeroᶠ (coarseFactor c (now (m .entry))) (now (lower .entry))) ⌝ }
 {
     zero_floats(lower);
@@ -47,16 +42,6 @@ fn factor_fitting(c: usize, m: &[f64], lower: &mut [f64]) -> FactorAnswer
     }
 }
 
-// Whether two lists are as long as they must be.
-fn long_enough(need: usize, len: usize, other_need: usize, other_len: usize) -> bool
-    ensures { λ r. ⌜ r ≡ (leb need len && leb «other_need» «other_len») ⌝ }
-{
-    if need <= len {
-        return other_need <= other_len;
-    }
-    false
-}
-
 // Cholesky's factor of the coarse matrix in the first c · c elements of m, packed, with zeros after it.
 pub fn coarse_factor(c: usize, m: &[f64], lower: &mut [f64]) -> FactorAnswer
     ensures { λ r. ⌜ (let o = coarseFactorCall c (now (m .entry)) (length (now (lower .entry))) in
@@ -73,50 +58,5 @@ pub fn coarse_factor(c: usize, m: &[f64], lower: &mut [f64]) -> FactorAnswer
     } else {
         zero_floats(lower);
         FactorAnswer::Refused(Refusal::CoarseTooLarge(c as u64))
-    }
-}
-
-// The inverse from the packed factor in the first elements of lower, averaged with its transpose, with zeros after it.
-pub fn coarse_inverse(c: usize, lower: &[f64], inverse: &mut [f64]) -> Answer
-    ensures { λ r. ⌜ (let o = coarseInverseCall c (now (lower .entry)) (length (now (inverse .entry))) in
-        (r ≡ answerOf o) × (now (inverse .exit) ≡ resultLeft zeroᶠ o (now (inverse .entry)))) ⌝ }
-{
-    if c <= MAX_COARSE {
-        let packed = c * (c + 1) / 2;
-        if long_enough(packed, lower.len(), c * c, inverse.len()) {
-            let from = 0;
-            inverse::invert(c, &lower[from..packed], inverse);
-            return Answer::Accepted;
-        }
-        zero_floats(inverse);
-        Answer::Refused(Refusal::CoarseListTooShort(c as u64))
-    } else {
-        zero_floats(inverse);
-        Answer::Refused(Refusal::CoarseTooLarge(c as u64))
-    }
-}
-
-// The solve of the right-hand side in the first c elements of work, in place, with zeros after it.
-pub fn coarse_solve(
-    policy: TwoLevelCoarseApplyPolicy,
-    c: usize,
-    part: &[f64],
-    work: &mut [f64],
-) -> Answer
-    ensures { λ r. ⌜ (let o = coarseSolveCall policy c (now (part .entry)) (now (work .entry)) in
-        (r ≡ answerOf o) × (now (work .exit) ≡ resultLeft zeroᶠ o (now (work .entry)))) ⌝ }
-{
-    if c <= MAX_COARSE {
-        let count = stored::stored_length(policy, c);
-        if long_enough(count, part.len(), 2 * c, work.len()) {
-            let from = 0;
-            stored::solve_stored(policy, c, &part[from..count], work);
-            return Answer::Accepted;
-        }
-        zero_floats(work);
-        Answer::Refused(Refusal::CoarseListTooShort(c as u64))
-    } else {
-        zero_floats(work);
-        Answer::Refused(Refusal::CoarseTooLarge(c as u64))
     }
 }

@@ -5,8 +5,8 @@ use mathlib.Core.Path.{_≡_, refl, sym, ap, _∙_, subst}
 use mathlib.Core.Logic.{_⊎_, inl, inr}
 use mathlib.Core.Bool.{Bool, true, false, not}
 use mathlib.Core.List.{List}
-use Prim.Native.Nat.{ℕ, zero, suc, _+_, _-_, _*_, _/_, _≤_, _<_}
-use native.Mathlib.Nat.{zero-add, not-suc-le-zero, le-refl, le-trans, le-of-lt, lt-of-le-of-lt, lt-irrefl, le-of-suc-le-suc, eq-or-lt-of-le, add-mul-div-right, zero-lt-suc, add-suc}
+use Prim.Native.Nat.{ℕ, zero, suc, _+_, _-_, _*_, _≤_, _<_}
+use native.Mathlib.Nat.{zero-add, not-suc-le-zero, le-refl, le-trans, le-of-lt, lt-of-le-of-lt, lt-irrefl, le-of-suc-le-suc, eq-or-lt-of-le, add-suc}
 use native.Mathlib.Omega.{arith}
 use lib.Dec.{T, ltb, ltb→lt, nltb→le}
 use lib.ListN.{length, getD, set, replicate, length-set, length-replicate}
@@ -20,6 +20,7 @@ use Rattle.definitions.specs.declared.Refusal.{Refusal}
 use Rattle.definitions.specs.declared.Refusal.the-variants.{CoarseScale, CoarsePivot}
 use Rattle.laws.proofs.Lists.{tab-cong}
 use Rattle.laws.proofs.Outcomes.{done-inj, refused-not-done, test-passed}
+use Rattle.laws.proofs.Packed.{tri-row}
 
 -- the places of the lower triangle of n rows are different, and all below `size`
 pub record Placing (place : ℕ → ℕ → ℕ) (n size : ℕ) : Type 0 where
@@ -64,7 +65,7 @@ module _ (place : ℕ → ℕ → ℕ) (a : ℕ → ℕ → Float) where
       go true f ih u = ih (step i l (room i left n e) (f tt) p) u
       go false f ih u = absurd (refused-not-done u)
 
-  left-length : (i j : ℕ) (l : List Float) → length (belowDiagonal place a i j l) ≡ length l
+  pub left-length : (i j : ℕ) (l : List Float) → length (belowDiagonal place a i j l) ≡ length l
   unfolding belowDiagonal
   left-length i zero l = refl
   left-length i (suc j) l = let m = belowDiagonal place a i j l in length-set m (place i j) (rest place a m i j /ᶠ entry place m j j) ∙ left-length i j l
@@ -251,32 +252,6 @@ module _ (place : ℕ → ℕ → ℕ) (n size : ℕ) (D : Placing place n size)
 
 -- ---- the packed triangle
 
-tri : ℕ → ℕ
-tri i = i * (i + 1) / 2
-
-tri-suc : (i : ℕ) → tri (suc i) ≡ tri i + suc i
-unfolding tri
-tri-suc i = ap (λ (x : ℕ). x / 2) (grow i) ∙ add-mul-div-right (i * (i + 1)) (suc i) (zero-lt-suc 1)
-  where
-    grow : (x : ℕ) → suc x * (suc x + 1) ≡ x * (x + 1) + suc x * 2
-    grow x = omega arith
-
-tri-add : (i d : ℕ) → tri i ≤ tri (i + d)
-tri-add i zero = subst (λ (x : ℕ). tri i ≤ tri x) (flat i) (le-refl (tri i))
-  where
-    flat : (x : ℕ) → x ≡ x + 0
-    flat x = omega arith
-tri-add i (suc d) = subst (λ (x : ℕ). tri i ≤ tri x) (sym (add-suc i d)) (subst (λ (x : ℕ). tri i ≤ x) (sym (tri-suc (i + d))) (far (tri i) (tri (i + d)) (suc (i + d)) (tri-add i d)))
-  where
-    far : (x y z : ℕ) → x ≤ y → x ≤ y + z
-    far x y z h = omega arith
-
-tri-gap : (i k : ℕ) → i < k → tri i + suc i ≤ tri k
-tri-gap i k h = subst (λ (x : ℕ). x ≤ tri k) (tri-suc i) (subst (λ (x : ℕ). tri (suc i) ≤ tri x) (gap i k h) (tri-add (suc i) (k - suc i)))
-  where
-    gap : (x y : ℕ) → x < y → suc x + (y - suc x) ≡ y
-    gap x y g = omega arith
-
 -- starts that are at least a row apart
 clash : (x j i y m : ℕ) → j ≤ i → x + suc i ≤ y → x + j ≡ y + m → ⊥
 clash x j i y m h g e = omega arith
@@ -300,11 +275,7 @@ module _ (start last : ℕ → ℕ) (gap : (i k : ℕ) → i < k → start i + s
           (f, cancel (start i) j m (e ∙ ap (λ (x : ℕ). start x + m) (sym f)))
 
 pub packed-placing : (n : ℕ) → Placing packed n (packedLength n)
-unfolding tri
-packed-placing n = record { apart = λ i j k m h hn g gn e. starts-apart tri (λ i. i) tri-gap i j k m h g e; inside = λ i j h g. in-side (tri i) j i (tri n) h (tri-gap i n g) }
-  where
-    in-side : (x j i y : ℕ) → j ≤ i → x + suc i ≤ y → x + j < y
-    in-side x j i y h g = omega arith
+packed-placing n = record { apart = λ i j k m h hn g gn e. starts-apart (λ i. packedLength i) (λ i. i) tri-row i j k m h g e; inside = λ i j h g. omega (arith, tri-row i n g) }
 
 -- ---- the coarse factor
 

@@ -1,8 +1,10 @@
 -- Lists by index and sums, grown by one: what a loop that counts needs of each step.
-use Prim.Native.Nat.{ℕ, zero, suc, _+_, _<_}
+use Prim.Native.Nat.{ℕ, zero, suc, _+_, _-_, _<_, _≤_}
 use mathlib.Core.Path.{_≡_, refl, ap, sym, _∙_}
 use mathlib.Core.List.{List, [], _∷_, _++_, flatMap, foldl-append, append-nil, append-assoc}
+use native.Mathlib.Omega.{arith}
 use native.Mathlib.Numerals.{add-one}
+use native.Mathlib.Decide.{ℕ-discrete}
 use lib.ListN.{length, getD, set, drop}
 use lib.Seq.{drop-cons, drop-length, set-at, getD-at}
 use lib.Ieee.{Float}
@@ -11,6 +13,14 @@ use Rattle.definitions.specs.Numbers.{_+ᶠ_, _-ᶠ_, minusZero, summed, reduce
 use Rattle.laws.proofs.Lists.{length-tab}
 
 -- ---- one element more
+
+-- a fact of every index below i, and of i
+pub upto : (P : ℕ → Type 0) (i : ℕ) → ((j : ℕ) → j < i → P j) → P i → (j : ℕ) → j < i + 1 → P j
+upto P i h p j q = step (ℕ-discrete j i)
+  where
+    step : Dec (j ≡ i) → P j
+    step (yes e) = rw e p
+    step (no n) = h j (omega arith)
 
 pub tab-snoc : {A : Type 0} (f : ℕ → A) (n : ℕ) → tab f (suc n) ≡ tab f n ++ (f n ∷ [])
 unfolding tab
@@ -63,6 +73,10 @@ summed-none f = refl
 pub summed-more : (f : ℕ → Float) (n : ℕ) (s t x : Float) → s ≡ summed (tab f n) → x ≡ f n → t ≡ s +ᶠ x → t ≡ summed (tab f (n + 1))
 unfolding summed
 summed-more f n s t x e ex et = et ∙ rw (add-one, tab-snoc f n, foldl-append plus, ex, e)
+
+-- a sum over j from `first` on
+pub summed-from : (f : ℕ → Float) (first j : ℕ) (s t : Float) → first ≤ j → s ≡ summed (tab f (j - first)) → t ≡ s +ᶠ f (j - first) → t ≡ summed (tab f (j + 1 - first))
+summed-from f first j s t h e q = let z : j + 1 - first ≡ j - first + 1 = omega arith in rw z (summed-more f (j - first) s t (f (j - first)) e refl q)
 
 pub reduced-none : (x : Float) (f : ℕ → Float) → x ≡ reduced x (tab f 0)
 unfolding reduced tab

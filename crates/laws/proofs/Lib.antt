@@ -20,8 +20,12 @@ pub mod Scattering
 pub mod CoarseColumns
 pub mod Csr
 pub mod Counting
--- chains of stages; the factor: what its entries are, for the coarse matrix and for the blocks, that they are finite, and examples
+-- chains of stages, and the checks of calls on the coarse part
 pub mod Outcomes
+pub mod CoarseChecks
+-- packed factors, and a column of one kept; the factor: what its entries are, for the coarse matrix and for the blocks, that they are finite, and examples
+pub mod Packed
+pub mod KeptColumn
 pub mod Factor
 pub mod BlockFactors
 pub mod FiniteFactor

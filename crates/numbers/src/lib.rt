@@ -1,6 +1,8 @@
-// Small tests on floats, a quotient, and lists cleared and copied: what every stage uses.
+// Small tests on floats and on lengths, a quotient, and lists cleared and copied: what every stage uses.
 ghost use mathlib.Core.Path.{_≡_};
+ghost use mathlib.Core.Bool.{_&&_};
 ghost use Prim.Native.Nat.{_/_};
+ghost use lib.Dec.{leb};
 ghost use lib.ListN.{length, replicate};
 ghost use lib.Ieee.Scale.{finite as isFinite};
 ghost use Rattle.definitions.specs.Numbers.{zeroᶠ, magnitude as magnitudeOf, larger as largerOf, usable as usableOf, above as aboveOf};
@@ -81,6 +83,16 @@ pub fn wide(x: u32) -> usize
     ensures { λ r. ⌜ r ≡ x ⌝ }
 {
     x as usize
+}
+
+// Whether two lists are as long as they must be.
+pub fn long_enough(need: usize, len: usize, other_need: usize, other_len: usize) -> bool
+    ensures { λ r. ⌜ r ≡ (leb need len && leb «other_need» «other_len») ⌝ }
+{
+    if need <= len {
+        return other_need <= other_len;
+    }
+    false
 }
 
 pub fn zero_ints(s: &mut [u32])

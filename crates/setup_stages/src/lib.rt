@@ -14,7 +14,8 @@ ghost use Rattle.definitions.specs.Answers.{answerOf, transferAnswer, factorAns
 ghost use Rattle.adjacency.specs.Within.{neighboursWithin};
 ghost use Rattle.transfer.specs.Call.{smoothedTransferCall, transferInts, transferFloats};
 ghost use Rattle.coarse_matrix.specs.Calls.{constantCoarseCall, galerkinCoarseCall};
-ghost use Rattle.coarse_factor.specs.Calls.{coarseFactorCall, coarseInverseCall};
+ghost use Rattle.coarse_factor.specs.Calls.{coarseFactorCall};
+ghost use Rattle.coarse_inverse.specs.Calls.{coarseInverseCall};
 ghost use Rattle.setup_stages.specs.Policy.{listsBy};
 
 fn number(answer: Answer) -> u64
@@ -201,6 +202,6 @@ pub extern "C" fn yelomawin_bench_coarse_inverse(c: u64, lower: &[f64], inverse:
     ensures { λ r. ⌜ r ≡ answerNumber (answerOf (coarseInverseCall c (now (lower .entry)) (length (now (inverse .entry))))) ⌝ }
     ensures { λ _. ⌜ now (inverse .exit) ≡ resultLeft zeroᶠ (coarseInverseCall c (now (lower .entry)) (length (now (inverse .entry)))) (now (inverse .entry)) ⌝ }
 {
-    let a = coarse_factor::coarse_inverse(c as usize, lower, inverse);
+    let a = coarse_inverse::coarse_inverse(c as usize, lower, inverse);
     number(a)
 }

@@ -13,7 +13,7 @@ use Rattle.definitions.specs.Lists.{tab, padded}
 use Rattle.definitions.specs.Numbers.{_*ᶠ_, zeroᶠ, summed}
 use Rattle.definitions.specs.Refusal.{Outcome, refused, done, require, _>>=_, keepsAll, resultLeft, workLeft, causeOf}
 use Rattle.definitions.specs.Answers.{answerOf}
-use Rattle.definitions.specs.Coarse.{coarseLength, coarseSolve, packedBackward, packedForward, packedSolve, entryIn}
+use Rattle.definitions.specs.Coarse.{coarseLength, coarseSolve, entryIn}
 use Rattle.definitions.specs.Fits.{setupFits}
 use Rattle.definitions.specs.Apply.{applied, applyCall, applyLeft, applyWorkLeft}
 use Rattle.definitions.specs.declared.Setup.{Setup}
@@ -22,8 +22,9 @@ use Rattle.definitions.specs.declared.Refusal.{Refusal}
 use Rattle.definitions.specs.declared.Refusal.the-variants.{ListTooShort, WrongLength, SetupMisfit}
 use Rattle.definitions.specs.declared.TwoLevelCoarseApplyPolicy.{TwoLevelCoarseApplyPolicy}
 use Rattle.definitions.specs.declared.TwoLevelCoarseApplyPolicy.the-variants.{Auto, FactorSolve, ExplicitInverse}
-use Rattle.coarse_factor.specs.Calls.{coarseSolveCall}
+use Rattle.coarse_solve.specs.Calls.{coarseSolveCall}
 use Rattle.laws.proofs.Lists.{length-tab}
+use Rattle.laws.proofs.Packed.{length-solve}
 
 -- ---- the coarse solve
 
@@ -32,15 +33,10 @@ pub solve-done : (policy : TwoLevelCoarseApplyPolicy) (c : ℕ) (part work : Lis
 unfolding coarseSolveCall require _>>=_
 solve-done policy c part work h k l = rw (le-leb c 2048 h, le-leb (coarseLength policy c) (length part) k, le-leb (2 * c) (length work) l)
 
-backward-length : (l : List Float) (c : ℕ) (y : List Float) (k : ℕ) → length (packedBackward l c y k) ≡ k
-unfolding packedBackward
-backward-length l c y zero = refl
-backward-length l c y (suc k) = ap suc (backward-length l c y k)
-
 pub solution-length : (policy : TwoLevelCoarseApplyPolicy) (c : ℕ) (part b : List Float) → length (coarseSolve policy c part b) ≡ c
-unfolding coarseSolve packedSolve
-solution-length Auto c part b = backward-length part c (packedForward part b c) c
-solution-length FactorSolve c part b = backward-length part c (packedForward part b c) c
+unfolding coarseSolve
+solution-length Auto c part b = length-solve c part b
+solution-length FactorSolve c part b = length-solve c part b
 solution-length ExplicitInverse c part b = length-tab (λ i. summed (tab (λ j. entryIn part c i j *ᶠ _) c)) c
 
 -- ---- a list with zeros after it

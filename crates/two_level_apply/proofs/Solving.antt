@@ -16,7 +16,7 @@ use Rattle.definitions.specs.Places.{coarseIn, factorsIn}
 use Rattle.definitions.specs.Fits.{setupFits}
 use Rattle.definitions.specs.Apply.{restricted, coarseSolution, gained, applied}
 use Rattle.definitions.specs.declared.Setup.{Setup}
-use Rattle.coarse_factor.specs.Calls.{coarseSolveCall}
+use Rattle.coarse_solve.specs.Calls.{coarseSolveCall}
 use Rattle.laws.proofs.Lists.{length-tab}
 use Rattle.two_level_apply.proofs.Parts.{bounds, weights-room}
 use Rattle.two_level_apply.proofs.Calls.{solve-done, solution-length, padded-front, padded-cleared}

@@ -30,7 +30,7 @@ fn solve_coarse(s: Setup, p: Places, ints: &[u32], floats: &[f64], work: &mut [f
 {
     let policy = s.policy;
     let a = p.coarse;
-    coarse_factor::coarse_solve(policy, s.coarse as usize, &floats[a..], work);
+    coarse_solve::coarse_solve(policy, s.coarse as usize, &floats[a..], work);
 }
 
 // The solves with the blocks.

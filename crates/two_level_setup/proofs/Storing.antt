@@ -22,7 +22,8 @@ use Rattle.laws.proofs.Factor.{coarse-factor-length}
 use Rattle.csr32.specs.Calls.{goes-on, passed}
 use Rattle.numbers.specs.Copied.{copied}
 use Rattle.definitions.specs.Answers.{factorAnswer}
-use Rattle.coarse_factor.specs.Calls.{coarseFactorCall, coarseInverseCall}
+use Rattle.coarse_factor.specs.Calls.{coarseFactorCall}
+use Rattle.coarse_inverse.specs.Calls.{coarseInverseCall}
 use Rattle.definitions.specs.declared.FactorAnswer.{FactorAnswer}
 use Rattle.definitions.specs.declared.FactorAnswer.the-variants.{Factored as HasFactor, Refused as NoFactor}
 use Rattle.two_level_grouping.proofs.Kept.{put-tail}

@@ -86,7 +86,7 @@ fn invert(c: usize, start: usize, floats: &mut [f64], work: &mut [f64])
     requires { ⌜ (c ≤ maxCoarse) × (start + c * c ≤ length (now floats)) × (c * c ≤ length (now work)) ⌝ }
     ensures { λ _. ⌜ Inverted c start (now (floats .entry)) (now (floats .exit)) ⌝ }
 {
-    coarse_factor::coarse_inverse(c, &floats[start..], work);
+    coarse_inverse::coarse_inverse(c, &floats[start..], work);
     let zero = 0;
     let end = c * c;
     numbers::copy_floats(&work[zero..end], &mut floats[start..]);

@@ -10,9 +10,11 @@ use Rattle.definitions.specs.Coarse.{packedLength, coarseFactor}
 use Rattle.definitions.specs.declared.Refusal.the-variants.{CoarseTooLarge, CoarseListTooShort}
 use Rattle.averaging.proofs.Places.{square-small}
 use Rattle.causes.proofs.Left.{large-clears, short-clears}
+use Rattle.laws.proofs.Packed.{triangle-small}
+use Rattle.laws.proofs.CoarseChecks.{covered, large, short, fit}
+use Rattle.averaging.proofs.Lists.{front-length}
 use Rattle.coarse_factor.specs.Calls.{coarseFactorCall}
-use Rattle.coarse_factor.proofs.Cholesky.{triangle-small}
-use Rattle.coarse_factor.proofs.Fitting.{covered, large, short, fit, factor-checked, answer-cleared, answer-fits, front-square}
+use Rattle.coarse_factor.proofs.Fitting.{factor-checked, answer-cleared, answer-fits}
 use borrow.Author.Needs.{needs}
 use Rattle.coarse_factor.proofs.coarse_factor.Statement.{statement}
 use Rattle.coarse_factor.proofs.coarse_factor.Tie as tie
@@ -24,7 +26,7 @@ factor-fitting-requires : tie.Need-factor-fitting-requires
 factor-fitting-requires c κs =
     let a = c .before .before .before .before .before .before .before .args in
     let h = covered (a .c * a .c) (length (a .m .now)) (packedLength (a .c)) (length (a .lower .now)) (sym (c .before .before .before .long-enough .ensures) ∙ c .before .before .if2 .taken) in
-    (front-square (a .c) (a .m .now) (h .0), h .1, omega arith)
+    (front-length (a .m .now) (a .c * a .c) (h .0), h .1, omega arith)
 
 returns : tie.Need-returns
 returns c =

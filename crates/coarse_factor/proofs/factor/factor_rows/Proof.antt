@@ -3,10 +3,10 @@ use lib.Ieee.{nan}
 use Rattle.definitions.specs.Factor.{factorRows, belowDiagonal, rest}
 use Rattle.definitions.specs.Coarse.{packed, packedLength, entryIn}
 use Rattle.definitions.specs.declared.Refusal.the-variants.{CoarsePivot}
+use Rattle.laws.proofs.Packed.{tri-row, tri-next, triangle-small}
 use Rattle.coarse_factor.specs.Calls.{outcomeOf}
 use Rattle.coarse_factor.specs.Fronts.{Fronts}
-use Rattle.coarse_factor.proofs.Packed.{tri-row, tri-next}
-use Rattle.coarse_factor.proofs.Cholesky.{triangle-small, rows-on, rows-stop, rows-end}
+use Rattle.coarse_factor.proofs.Cholesky.{rows-on, rows-stop, rows-end}
 use Rattle.coarse_factor.proofs.Fronts.{front-pivot, fronts-next}
 use Prim.Native.Nat.{_+_, _<_, _≤_, _-_}
 use mathlib.Core.Path.{_≡_, refl, sym, _∙_}

@@ -1,8 +1,7 @@
 use lib.ListN.{length}
 use Rattle.definitions.specs.Coarse.{packedLength, entryIn}
 use Rattle.laws.proofs.Lists.{length-tab}
-use Rattle.coarse_factor.proofs.Packed.{tri-row, tri-next}
-use Rattle.coarse_factor.proofs.Cholesky.{triangle-small}
+use Rattle.laws.proofs.Packed.{tri-row, tri-next, triangle-small}
 use Rattle.coarse_factor.proofs.Fronts.{fronts-two}
 use Prim.Native.Nat.{_+_, _*_, _<_, _≤_}
 use mathlib.Core.Path.{refl, ap, _∙_}

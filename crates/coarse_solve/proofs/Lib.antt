@@ -1,0 +1,4 @@
+pub mod Solving
+pub mod RowSums
+pub mod Products
+pub mod RowByRow

@@ -1,0 +1,3 @@
+pub mod Calls
+pub mod RowSums
+pub mod Stored
