@@ -17,12 +17,12 @@ ghost use Rattle.coarse_inverse.specs.Rows.{solvedRows};
 
 // How many of the rows that are left are solved side by side.
 fn lanes_of(left: usize) -> usize
-    ensures { λ r. ⌜ (r ≤ 8) × (r ≤ left) × (0 < left → 0 < r) ⌝ }
+    ensures { λ r. ⌜ (r ≤ 16) × (r ≤ left) × (0 < left → 0 < r) ⌝ }
 {
-    if left < 8 {
+    if left < 16 {
         return left;
     }
-    8
+    16
 }
 
 // Whether all numbers of the factor are finite and its diagonal is above zero.
@@ -61,13 +61,13 @@ fn first_row(regular: bool, i: usize) -> usize
     0
 }
 
-// Lane r of eight, as a row.
+// Lane r of sixteen, as a row.
 fn copy_lane(w: &[f64], r: usize, row: &mut [f64])
-    requires { ⌜ (r < 8) × (length (now row) ≤ 2048) × (length (now row) * 8 ≤ length (now w)) ⌝ }
-    ensures { λ _. ⌜ now (row .exit) ≡ lane 8 (length (now (row .entry))) (now (w .entry)) r ⌝ }
+    requires { ⌜ (r < 16) × (length (now row) ≤ 2048) × (length (now row) * 16 ≤ length (now w)) ⌝ }
+    ensures { λ _. ⌜ now (row .exit) ≡ lane 16 (length (now (row .entry))) (now (w .entry)) r ⌝ }
 {
     for k in 0..row.len() {
-        row[k] = w[k * 8 + r];
+        row[k] = w[k * 16 + r];
     }
 }
 
@@ -81,7 +81,7 @@ fn solve_rows(
     n: usize,
     first: usize,
 )
-    requires { ⌜ (n ≤ 8) × (i + n ≤ c) × (c ≤ 2048) × (length (now w) ≡ c * 8) × (length (now lower) ≡ packedLength c) × (c * c ≤ length (now inverse)) ⌝ }
+    requires { ⌜ (n ≤ 16) × (i + n ≤ c) × (c ≤ 2048) × (length (now w) ≡ c * 16) × (length (now lower) ≡ packedLength c) × (c * c ≤ length (now inverse)) ⌝ }
     requires { ⌜ (first ≤ i) × (0 < first → Regular c (now lower)) ⌝ }
     ensures { λ _. ⌜ (let rows = solvedRows c (now (lower .entry)) in
         (u : List Float) → now (inverse .entry) ≡ rows i ++ drop (i * c) u → now (inverse .exit) ≡ rows (i + n) ++ drop ((i + n) * c) u) ⌝ }
@@ -101,9 +101,9 @@ pub(crate) fn invert(c: usize, lower: &[f64], inverse: &mut [f64])
     ensures { λ _. ⌜ now (inverse .exit) ≡ padded zeroᶠ (length (now (inverse .entry))) (inverseOf c (now (lower .entry))) ⌝ }
 {
     let safe = regular(lower, c);
-    let mut w = [0.0; 16384];
+    let mut w = [0.0; 32768];
     let from = 0;
-    let to = c * 8;
+    let to = c * 16;
     let mut i = 0;
     while i < c {
         let n = lanes_of(c - i);

@@ -1,4 +1,4 @@
--- The rows, eight at a time, then averaged.
+-- The rows, sixteen at a time, then averaged.
 use mathlib.Core.List.{_++_}
 use mathlib.Core.Path.{_≡_, refl, _∙_}
 use Prim.Native.Nat.{_+_, _*_, _≤_, _-_}
@@ -13,7 +13,7 @@ use Rattle.coarse_inverse.proofs.inverse.invert.Statement.{statement}
 use Rattle.coarse_inverse.proofs.inverse.invert.Tie as tie
 
 abbrev Inv-loop : tie.InvT-loop
-Inv-loop c lower inverse₀ safe w₀ from to i₀ inverse w i = (i ≤ c) × (length w ≡ 16_384) × (length inverse ≡ length inverse₀) × (inverse ≡ solvedRows c lower i ++ drop (i * c) inverse₀)
+Inv-loop c lower inverse₀ safe w₀ from to i₀ inverse w i = (i ≤ c) × (length w ≡ 32_768) × (length inverse ≡ length inverse₀) × (inverse ≡ solvedRows c lower i ++ drop (i * c) inverse₀)
 
 abbrev μ-loop : tie.MeasureT-loop
 μ-loop c lower inverse₀ safe w₀ from to i₀ inverse w i = c - i
@@ -27,7 +27,7 @@ solve-rows-requires c κs =
     let o = c .before .before .before .before .before .loop in
     let n = c .before .before .before .lanes-of .ensures in
     let f = c .before .before .first-row .ensures in (
-      (n .0, omega arith, s .pre .2, front-length (o .w) (s .args .c * 8) (omega (arith, o .inv .1)), s .pre .0, omega (arith, s .pre .1, o .inv .2)),
+      (n .0, omega arith, s .pre .2, front-length (o .w) (s .args .c * 16) (omega (arith, o .inv .1)), s .pre .0, omega (arith, s .pre .1, o .inv .2)),
       (f .0, λ h. c .before .before .before .before .before .before .regular .ensures (f .1 h)),
     )
 
@@ -37,7 +37,7 @@ loop-again c =
     let o = c .before .before .before .before .before .before .before .before .before .loop in
     let n = c .before .before .before .before .before .before .before .lanes-of .ensures in
     let r = c .before .before .before .solve-rows in
-    (omega arith, length-front (o .w) (r .last .1 .1 .0) (a .c * 8 - 0) (r .kept .1 .1 .0) ∙ o .inv .1, r .kept .1 .1 .1 .0 ∙ o .inv .2, r .ensures (a .inverse .now) (o .inv .3))
+    (omega arith, length-front (o .w) (r .last .1 .1 .0) (a .c * 16 - 0) (r .kept .1 .1 .0) ∙ o .inv .1, r .kept .1 .1 .1 .0 ∙ o .inv .2, r .ensures (a .inverse .now) (o .inv .3))
 
 returns : tie.Need-returns Inv-loop μ-loop
 returns c =

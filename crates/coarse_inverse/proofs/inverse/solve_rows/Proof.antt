@@ -55,7 +55,7 @@ loop-again c =
       omega (arith, o .inv .1),
       same-len-mid (o .from) (o .from + a .c - o .from) (o .inverse) (d .last .1 .1 .0) (d .kept .1 .1 .0) ∙ o .inv .2,
       λ u e. rw q (solved-more (a .c) (a .lower .now) u (o .inverse) (d .last .1 .1 .0) (a .i + o .r) (o .from) (o .from + a .c) (o .inv .1) refl (o .inv .3 u e)
-          (d .ensures ∙ ap (λ k. lane 8 k (w .last .1 .0) (o .r)) n ∙ w .ensures (o .r) (omega arith))),
+          (d .ensures ∙ ap (λ k. lane 16 k (w .last .1 .0) (o .r)) n ∙ w .ensures (o .r) (omega arith))),
     )
 
 returns : tie.Need-returns Inv-loop μ-loop

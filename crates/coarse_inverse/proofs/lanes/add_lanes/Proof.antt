@@ -15,10 +15,10 @@ abbrev more : List Float → Float → List Float → ℕ → ℕ → Float
 more s x w at r = getD s r nan +ᶠ x *ᶠ getD w (at + r) nan
 
 abbrev Inv-loop : tie.InvT-loop
-Inv-loop sums₀ x w at r₀ sums r = (r ≤ 8) × (sums ≡ tab (more sums₀ x w at) r ++ drop r sums₀)
+Inv-loop sums₀ x w at r₀ sums r = (r ≤ 16) × (sums ≡ tab (more sums₀ x w at) r ++ drop r sums₀)
 
 abbrev μ-loop : tie.MeasureT-loop
-μ-loop sums₀ x w at r₀ sums r = 8 - r
+μ-loop sums₀ x w at r₀ sums r = 16 - r
 
 loop-holds : tie.Need-loop-holds Inv-loop μ-loop
 loop-holds c = let a = c .args in (omega arith, tab-none (more (a .sums .now) (a .x) (a .w .now) (a .at)) (a .sums .now))

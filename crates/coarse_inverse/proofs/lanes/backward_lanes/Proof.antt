@@ -13,7 +13,7 @@ use Rattle.coarse_inverse.proofs.lanes.backward_lanes.Statement.{statem
 use Rattle.coarse_inverse.proofs.lanes.backward_lanes.Tie as tie
 
 abbrev Inv-loop : tie.InvT-loop
-Inv-loop l w₀ c kept₀ known₀ end₀ k₀ w kept known end k = (k ≤ c) × (end ≡ packedLength (c - k)) × (length w ≡ c * 8) × Back 8 l c k w₀ w × (length kept ≡ 2_048) × (known ≡ true → k < c → Column l (c - suc k) c kept)
+Inv-loop l w₀ c kept₀ known₀ end₀ k₀ w kept known end k = (k ≤ c) × (end ≡ packedLength (c - k)) × (length w ≡ c * 16) × Back 16 l c k w₀ w × (length kept ≡ 2_048) × (known ≡ true → k < c → Column l (c - suc k) c kept)
 
 abbrev μ-loop : tie.MeasureT-loop
 μ-loop l w₀ c kept₀ known₀ end₀ k₀ w kept known end k = c - k
@@ -33,7 +33,7 @@ loop-holds : tie.Need-loop-holds Inv-loop μ-loop
 loop-holds c =
     let s = c .before .before in
     let z : s .args .c - 0 ≡ s .args .c = omega arith in
-    (omega arith, rw z (s .pre .2), s .pre .1, back-none 8 (s .args .l .now) (s .args .c) (s .args .w .now), refl, λ e. absurd (true≢false (sym e)))
+    (omega arith, rw z (s .pre .2), s .pre .1, back-none 16 (s .args .l .now) (s .args .c) (s .args .w .now), refl, λ e. absurd (true≢false (sym e)))
 
 column-lanes-requires : tie.Need-column-lanes-requires Inv-loop μ-loop
 column-lanes-requires c κs =
@@ -56,7 +56,7 @@ loop-again c =
       omega arith,
       back-end (o .end) (o .k) (a .c) i (f .0) (f .2),
       p .kept .0 ∙ o .inv .2,
-      back-more 8 (a .l .now) (a .c) (a .w .now) (o .w) (p .last .0) (o .k) i (d .result) (getD (a .l .now) (o .end - 1) nan) (omega arith) (f .0) (o .inv .2) (o .inv .3) (d .ensures .0)
+      back-more 16 (a .l .now) (a .c) (a .w .now) (o .w) (p .last .0) (o .k) i (d .result) (getD (a .l .now) (o .end - 1) nan) (omega arith) (f .0) (o .inv .2) (o .inv .3) (d .ensures .0)
           (ap (λ n. getD (a .l .now) n nan) (sym (tri-back (o .end) i (f .1) .1))) (p .ensures),
       d .ensures .1 .0 ∙ o .inv .4,
       kept-next (a .l .now) (d .last .1 .1 .1 .1 .1 .1 .0) (a .c) (a .c) (o .k) i refl (f .0) (o .known) (d .ensures .1 .1),
@@ -65,7 +65,7 @@ loop-again c =
 returns : tie.Need-returns Inv-loop μ-loop
 returns c =
     let a = c .before .before .before .before .args in
-    back-all 8 (a .l .now) (a .c) (a .w .now) (c .before .loop .w) (c .before .loop .k) (omega arith) (c .before .loop .inv .3)
+    back-all 16 (a .l .now) (a .c) (a .w .now) (c .before .loop .w) (c .before .loop .k) (omega arith) (c .before .loop .inv .3)
 
 pub backward-lanes-spec : {M : Type 1} → statement M
 backward-lanes-spec =

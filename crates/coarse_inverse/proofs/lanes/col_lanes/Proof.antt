@@ -13,7 +13,7 @@ use Rattle.coarse_inverse.proofs.lanes.col_lanes.Statement.{statement}
 use Rattle.coarse_inverse.proofs.lanes.col_lanes.Tie as tie
 
 abbrev Inv-loop : tie.InvT-loop
-Inv-loop l w i first c kept₀ sums₀ at₀ j₀ kept sums at j = (i < j) × (j ≤ c) × (at ≡ packed j i) × (sums ≡ laneSums 8 (λ j. packedEntry l j i) w (suc i) j) × KeptBefore l i j kept₀ kept
+Inv-loop l w i first c kept₀ sums₀ at₀ j₀ kept sums at j = (i < j) × (j ≤ c) × (at ≡ packed j i) × (sums ≡ laneSums 16 (λ j. packedEntry l j i) w (suc i) j) × KeptBefore l i j kept₀ kept
 
 abbrev μ-loop : tie.MeasureT-loop
 μ-loop l w i first c kept₀ sums₀ at₀ j₀ kept sums at j = c - j
@@ -28,13 +28,13 @@ loop-holds : tie.Need-loop-holds Inv-loop μ-loop
 loop-holds c =
     let s = c .before .before .before in
     let a = s .args in
-    (omega arith, omega arith, s .pre .3, sums-none 8 (λ j. packedEntry (a .l .now) j (a .i)) (a .w .now) (suc (a .i)) (a .i + 1) (add-one (a .i)), kept-none (a .l .now) (a .kept .now) (a .i))
+    (omega arith, omega arith, s .pre .3, sums-none 16 (λ j. packedEntry (a .l .now) j (a .i)) (a .w .now) (suc (a .i)) (a .i + 1) (add-one (a .i)), kept-none (a .l .now) (a .kept .now) (a .i))
 
 add-lanes-requires : tie.Need-add-lanes-requires Inv-loop μ-loop
 add-lanes-requires c κs =
     let a = c .before .before .before .before .before .before .before .before .args in
     let o = c .before .before .before .before .loop in
-    (sums-long 8 (λ j. packedEntry (a .l .now) j (a .i)) (a .w .now) (suc (a .i)) (o .j) (o .sums) (o .inv .3), omega arith)
+    (sums-long 16 (λ j. packedEntry (a .l .now) j (a .i)) (a .w .now) (suc (a .i)) (o .j) (o .sums) (o .inv .3), omega arith)
 
 loop-again : tie.Need-loop-again Inv-loop μ-loop
 loop-again c =
@@ -43,7 +43,7 @@ loop-again c =
       omega arith,
       omega arith,
       next-at (o .at) (a .i) (o .j) (o .inv .2),
-      c .add-lanes .ensures ∙ rw (o .inv .2) (sums-more 8 (λ j. packedEntry (a .l .now) j (a .i)) (a .w .now) (suc (a .i)) (o .j) (o .sums) (o .inv .0) (o .inv .3)),
+      c .add-lanes .ensures ∙ rw (o .inv .2) (sums-more 16 (λ j. packedEntry (a .l .now) j (a .i)) (a .w .now) (suc (a .i)) (o .j) (o .sums) (o .inv .0) (o .inv .3)),
       kept-more (a .l .now) (a .kept .now) (o .kept) (a .i) (o .j) (o .at) (omega arith) (o .inv .2) (o .inv .4),
     )
 

@@ -24,7 +24,7 @@ returns c =
     let s = c .before .before .before .before .before .before in
     let a = s .args in
     let known = c .before .before .if1 .taken in
-    (c .row-lanes .ensures ∙ sums-kept 8 (a .l .now) (a .kept .now) (a .w .now) (a .i) (a .c) (s .pre .1 known), (refl, λ e. absurd (true≢false (sym known ∙ e))))
+    (c .row-lanes .ensures ∙ sums-kept 16 (a .l .now) (a .kept .now) (a .w .now) (a .i) (a .c) (s .pre .1 known), (refl, λ e. absurd (true≢false (sym known ∙ e))))
 
 returns-2 : tie.Need-returns-2
 returns-2 c =

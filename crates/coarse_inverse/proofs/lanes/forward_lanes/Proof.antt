@@ -9,7 +9,7 @@ use Rattle.coarse_inverse.proofs.lanes.forward_lanes.Statement.{stateme
 use Rattle.coarse_inverse.proofs.lanes.forward_lanes.Tie as tie
 
 abbrev Inv-loop : tie.InvT-loop
-Inv-loop l w₀ c first start₀ i₀ w start i = (first ≤ i) × (i ≤ c) × (start ≡ packedLength i) × (length w ≡ c * 8) × Ahead 8 l c i w₀ w
+Inv-loop l w₀ c first start₀ i₀ w start i = (first ≤ i) × (i ≤ c) × (start ≡ packedLength i) × (length w ≡ c * 16) × Ahead 16 l c i w₀ w
 
 abbrev μ-loop : tie.MeasureT-loop
 μ-loop l w₀ c first start₀ i₀ w start i = c - i
@@ -24,7 +24,7 @@ room c =
 loop-holds : tie.Need-loop-holds Inv-loop μ-loop
 loop-holds c =
     let s = c .before .before in
-    (omega arith, s .pre .0, refl, s .pre .2, ahead-none 8 (s .args .l .now) (s .args .c) (s .args .first) (s .args .w .now) (s .pre .4))
+    (omega arith, s .pre .0, refl, s .pre .2, ahead-none 16 (s .args .l .now) (s .args .c) (s .args .first) (s .args .w .now) (s .pre .4))
 
 loop-again : tie.Need-loop-again Inv-loop μ-loop
 loop-again c =
@@ -36,7 +36,7 @@ loop-again c =
       omega arith,
       tri-next (o .start) (o .i) (o .inv .2),
       p .kept .0 ∙ o .inv .3,
-      ahead-more 8 (a .l .now) (a .c) (a .first) (a .w .now) (s .pre .4) (o .w) (p .last .0) (o .i) (o .start) (c .before .before .before .before .before .row-lanes .result) (o .inv .0) (omega arith) (o .inv .3) (o .inv .2) (o .inv .4)
+      ahead-more 16 (a .l .now) (a .c) (a .first) (a .w .now) (s .pre .4) (o .w) (p .last .0) (o .i) (o .start) (c .before .before .before .before .before .row-lanes .result) (o .inv .0) (omega arith) (o .inv .3) (o .inv .2) (o .inv .4)
           (c .before .before .before .before .before .row-lanes .ensures) (p .ensures),
     )
 
@@ -44,7 +44,7 @@ returns : tie.Need-returns Inv-loop μ-loop
 returns c =
     let s = c .before .before .before .before in
     let a = s .args in
-    ahead-all 8 (a .l .now) (a .c) (a .first) (a .w .now) (s .pre .4) (c .before .loop .w) (c .before .loop .i) (omega arith) (c .before .loop .inv .4)
+    ahead-all 16 (a .l .now) (a .c) (a .first) (a .w .now) (s .pre .4) (c .before .loop .w) (c .before .loop .i) (omega arith) (c .before .loop .inv .4)
 
 pub forward-lanes-spec : {M : Type 1} → statement M
 forward-lanes-spec =

@@ -9,23 +9,23 @@ use Rattle.coarse_inverse.proofs.lanes.put_lanes.Statement.{statement}
 use Rattle.coarse_inverse.proofs.lanes.put_lanes.Tie as tie
 
 abbrev Inv-loop : tie.InvT-loop
-Inv-loop w₀ at pivot sums r₀ w r = (r ≤ 8) × (length w ≡ length w₀) × (w ≡ paste w₀ at (lanesLess 8 w₀ at sums pivot) r)
+Inv-loop w₀ at pivot sums r₀ w r = (r ≤ 16) × (length w ≡ length w₀) × (w ≡ paste w₀ at (lanesLess 16 w₀ at sums pivot) r)
 
 abbrev μ-loop : tie.MeasureT-loop
-μ-loop w₀ at pivot sums r₀ w r = 8 - r
+μ-loop w₀ at pivot sums r₀ w r = 16 - r
 
 loop-holds : tie.Need-loop-holds Inv-loop μ-loop
-loop-holds c = let a = c .args in (omega arith, refl, paste-zero (a .w .now) (a .at) (lanesLess 8 (a .w .now) (a .at) (a .t3) (a .pivot)))
+loop-holds c = let a = c .args in (omega arith, refl, paste-zero (a .w .now) (a .at) (lanesLess 16 (a .w .now) (a .at) (a .t3) (a .pivot)))
 
 loop-again : tie.Need-loop-again Inv-loop μ-loop
 loop-again c =
     let s = c .before .before .before in
     let a = s .args in
     let o = c .before .before .loop in
-    (omega arith, simp length-set (o .inv .1), put-more 8 (a .w .now) (a .at) (a .t3) (a .pivot) (o .r) (o .w) (omega arith) (s .pre) (o .inv .2))
+    (omega arith, simp length-set (o .inv .1), put-more 16 (a .w .now) (a .at) (a .t3) (a .pivot) (o .r) (o .w) (omega arith) (s .pre) (o .inv .2))
 
 returns : tie.Need-returns Inv-loop μ-loop
-returns c = let e : c .before .loop .r ≡ 8 = omega arith in rw e at (c .before .loop .inv .2)
+returns c = let e : c .before .loop .r ≡ 16 = omega arith in rw e at (c .before .loop .inv .2)
 
 pub put-lanes-spec : {M : Type 1} → statement M
 put-lanes-spec =

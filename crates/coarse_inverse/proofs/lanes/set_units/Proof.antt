@@ -8,7 +8,7 @@ use Rattle.coarse_inverse.proofs.lanes.set_units.Statement.{statement}
 use Rattle.coarse_inverse.proofs.lanes.set_units.Tie as tie
 
 abbrev Inv-loop : tie.InvT-loop
-Inv-loop w₀ c i n r₀ w r = (r ≤ n) × Units 8 c i r w
+Inv-loop w₀ c i n r₀ w r = (r ≤ n) × Units 16 c i r w
 
 abbrev μ-loop : tie.MeasureT-loop
 μ-loop w₀ c i n r₀ w r = n - r
@@ -17,13 +17,13 @@ loop-holds : tie.Need-loop-holds Inv-loop μ-loop
 loop-holds c =
     let s = c .before .before .before .before .before in
     let z = c .before .before .zero-floats in
-    (omega arith, units-none 8 (s .args .c) (s .args .i) (s .args .w .now) (z .last .0) (s .pre .3) (z .ensures))
+    (omega arith, units-none 16 (s .args .c) (s .args .i) (s .args .w .now) (z .last .0) (s .pre .3) (z .ensures))
 
 loop-again : tie.Need-loop-again Inv-loop μ-loop
 loop-again c =
     let s = c .before .before .before .before .before .before .before in
     let o = c .before .loop in
-    (omega arith, units-more 8 (s .args .c) (s .args .i) (o .w) (o .r) (omega arith) (omega arith) (o .inv .1))
+    (omega arith, units-more 16 (s .args .c) (s .args .i) (o .w) (o .r) (omega arith) (omega arith) (o .inv .1))
 
 returns : tie.Need-returns Inv-loop μ-loop
 returns c = let e : c .before .loop .r ≡ c .before .before .before .before .before .before .before .args .n = omega arith in rw e at (c .before .loop .inv .1)
