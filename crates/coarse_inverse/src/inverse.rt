@@ -63,7 +63,7 @@ fn first_row(regular: bool, i: usize) -> usize
 
 // Lane r of sixteen, as a row.
 fn copy_lane(w: &[f64], r: usize, row: &mut [f64])
-    requires { ⌜ (r < 16) × (length (now row) ≤ 2048) × (length (now row) * 16 ≤ length (now w)) ⌝ }
+    requires { ⌜ (r < 16) × (length (now row) ≤ maxCoarse) × (length (now row) * 16 ≤ length (now w)) ⌝ }
     ensures { λ _. ⌜ now (row .exit) ≡ lane 16 (length (now (row .entry))) (now (w .entry)) r ⌝ }
 {
     for k in 0..row.len() {
@@ -81,7 +81,7 @@ fn solve_rows(
     n: usize,
     first: usize,
 )
-    requires { ⌜ (n ≤ 16) × (i + n ≤ c) × (c ≤ 2048) × (length (now w) ≡ c * 16) × (length (now lower) ≡ packedLength c) × (c * c ≤ length (now inverse)) ⌝ }
+    requires { ⌜ (n ≤ 16) × (i + n ≤ c) × (c ≤ maxCoarse) × (length (now w) ≡ c * 16) × (length (now lower) ≡ packedLength c) × (c * c ≤ length (now inverse)) ⌝ }
     requires { ⌜ (first ≤ i) × (0 < first → Regular c (now lower)) ⌝ }
     ensures { λ _. ⌜ (let rows = solvedRows c (now (lower .entry)) in
         (u : List Float) → now (inverse .entry) ≡ rows i ++ drop (i * c) u → now (inverse .exit) ≡ rows (i + n) ++ drop ((i + n) * c) u) ⌝ }

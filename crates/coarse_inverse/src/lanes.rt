@@ -9,6 +9,7 @@ ghost use lib.Ieee.{nan};
 ghost use Rattle.definitions.specs.Lists.{tab};
 ghost use Rattle.definitions.specs.Numbers.{_+ᶠ_, _*ᶠ_};
 ghost use Rattle.definitions.specs.Coarse.{packed, packedEntry, packedLength, packedForward, packedBackward};
+ghost use Rattle.definitions.specs.Setup.{maxCoarse};
 ghost use Rattle.laws.specs.Packed.{Column, KeptBefore};
 ghost use Rattle.coarse_inverse.specs.Lanes.{EachLane, LanesStart, Regular, Units, Solved, laneSums, putLanes};
 
@@ -24,7 +25,7 @@ fn add_lanes(sums: &mut [f64; 16], x: f64, w: &[f64], at: usize)
 
 // The numbers k of each lane by those of l from start on, for k from `first` up to n.
 fn row_lanes(l: &[f64], w: &[f64], start: usize, first: usize, n: usize) -> [f64; 16]
-    requires { ⌜ (first ≤ n) × (n ≤ 2048) × (n * 16 ≤ length (now w)) × (start + n ≤ length (now l)) ⌝ }
+    requires { ⌜ (first ≤ n) × (n ≤ maxCoarse) × (n * 16 ≤ length (now w)) × (start + n ≤ length (now l)) ⌝ }
     ensures { λ r. ⌜ r ≡ laneSums 16 (λ k. getD (now (l .entry)) (start + k) nan) (now (w .entry)) first n ⌝ }
 {
     let mut sums = [-0.0; 16];
@@ -36,7 +37,7 @@ fn row_lanes(l: &[f64], w: &[f64], start: usize, first: usize, n: usize) -> [f64
 
 // The column i of the factor below the diagonal, by each lane; it begins at first. The column before it is kept on the way.
 fn col_lanes(l: &[f64], w: &[f64], i: usize, first: usize, c: usize, kept: &mut [f64]) -> [f64; 16]
-    requires { ⌜ (i < c) × (c ≤ 2048) × (c * 16 ≤ length (now w)) × (first ≡ packed (i + 1) i) × (length (now l) ≡ packedLength c) × (c ≤ length (now kept)) ⌝ }
+    requires { ⌜ (i < c) × (c ≤ maxCoarse) × (c * 16 ≤ length (now w)) × (first ≡ packed (i + 1) i) × (length (now l) ≡ packedLength c) × (c ≤ length (now kept)) ⌝ }
     ensures { λ r. ⌜ r ≡ laneSums 16 (λ j. packedEntry (now (l .entry)) j i) (now (w .entry)) (suc i) c ⌝ }
     ensures { λ _. ⌜ KeptBefore (now (l .entry)) i c (now (kept .entry)) (now (kept .exit)) ⌝ }
 {
@@ -60,7 +61,7 @@ fn column_lanes(
     known: bool,
     kept: &mut [f64],
 ) -> [f64; 16]
-    requires { ⌜ (i < c) × (c ≤ 2048) × (c * 16 ≤ length (now w)) × (end ≡ packedLength (i + 1)) × (length (now l) ≡ packedLength c) × (c ≤ length (now kept)) ⌝ }
+    requires { ⌜ (i < c) × (c ≤ maxCoarse) × (c * 16 ≤ length (now w)) × (end ≡ packedLength (i + 1)) × (length (now l) ≡ packedLength c) × (c ≤ length (now kept)) ⌝ }
     requires { ⌜ (known ≡ true → Column (now l) i c (now kept)) ⌝ }
     ensures { λ r. ⌜ r ≡ laneSums 16 (λ j. packedEntry (now (l .entry)) j i) (now (w .entry)) (suc i) c ⌝ }
     ensures { λ _. ⌜ (length (now (kept .exit)) ≡ length (now (kept .entry))) × (known ≡ false → 0 < i → Column (now (l .entry)) (i - 1) c (now (kept .exit))) ⌝ }
@@ -87,7 +88,7 @@ fn put_lanes(w: &mut [f64], at: usize, sums: [f64; 16], pivot: f64)
 
 // L y = b in each lane, from row `first` on.
 fn forward_lanes(l: &[f64], w: &mut [f64], c: usize, first: usize)
-    requires { ⌜ (first ≤ c) × (c ≤ 2048) × (length (now w) ≡ c * 16) × (length (now l) ≡ packedLength c) × LanesStart 16 c (now l) first (now w) ⌝ }
+    requires { ⌜ (first ≤ c) × (c ≤ maxCoarse) × (length (now w) ≡ c * 16) × (length (now l) ≡ packedLength c) × LanesStart 16 c (now l) first (now w) ⌝ }
     ensures { λ _. ⌜ EachLane 16 c (λ b. packedForward (now (l .entry)) b c) (now (w .entry)) (now (w .exit)) ⌝ }
 {
     let mut start = first * (first + 1) / 2;
@@ -100,7 +101,7 @@ fn forward_lanes(l: &[f64], w: &mut [f64], c: usize, first: usize)
 
 // Lᵀ x = y in each lane.
 fn backward_lanes(l: &[f64], w: &mut [f64], c: usize)
-    requires { ⌜ (c ≤ 2048) × (length (now w) ≡ c * 16) × (length (now l) ≡ packedLength c) ⌝ }
+    requires { ⌜ (c ≤ maxCoarse) × (length (now w) ≡ c * 16) × (length (now l) ≡ packedLength c) ⌝ }
     ensures { λ _. ⌜ EachLane 16 c (λ b. packedBackward (now (l .entry)) c b c) (now (w .entry)) (now (w .exit)) ⌝ }
 {
     // `known`: whether `kept` holds the column to come.
@@ -118,7 +119,7 @@ fn backward_lanes(l: &[f64], w: &mut [f64], c: usize)
 
 // The unit vectors from i on in the first n lanes.
 fn set_units(w: &mut [f64], c: usize, i: usize, n: usize)
-    requires { ⌜ (n ≤ 16) × (i + n ≤ c) × (c ≤ 2048) × (length (now w) ≡ c * 16) ⌝ }
+    requires { ⌜ (n ≤ 16) × (i + n ≤ c) × (c ≤ maxCoarse) × (length (now w) ≡ c * 16) ⌝ }
     ensures { λ _. ⌜ Units 16 c i n (now (w .exit)) ⌝ }
 {
     zero_floats(w);
@@ -129,7 +130,7 @@ fn set_units(w: &mut [f64], c: usize, i: usize, n: usize)
 
 // The solves of the n unit vectors from i on. The forward solve begins at row `first`: after row 0 only where the factor is regular.
 pub(crate) fn solve_units(l: &[f64], w: &mut [f64], c: usize, i: usize, n: usize, first: usize)
-    requires { ⌜ (n ≤ 16) × (i + n ≤ c) × (c ≤ 2048) × (length (now w) ≡ c * 16) × (length (now l) ≡ packedLength c) × (first ≤ i) × (0 < first → Regular c (now l)) ⌝ }
+    requires { ⌜ (n ≤ 16) × (i + n ≤ c) × (c ≤ maxCoarse) × (length (now w) ≡ c * 16) × (length (now l) ≡ packedLength c) × (first ≤ i) × (0 < first → Regular c (now l)) ⌝ }
     ensures { λ _. ⌜ Solved 16 c (now (l .entry)) i n (now (w .exit)) ⌝ }
 {
     set_units(w, c, i, n);
