@@ -18,8 +18,8 @@ use Rattle.averaging.specs.Averaging.{pairHalf, pairAveraged, tile, Aver
 use Rattle.definitions.specs.Setup.{maxCoarse}
 use Rattle.definitions.specs.declared.Refusal.the-variants.{CoarseTooLarge, CoarseListTooShort}
 use Rattle.causes.proofs.Left.{left-done}
-use Rattle.averaging.proofs.Lists.{square-is, split-is, tail-zeros}
-use Rattle.averaging.proofs.Places.{same-row, same-col, place}
+use Rattle.laws.proofs.Squares.{square-is, split-is, tail-zeros}
+use Rattle.laws.proofs.Places.{same-row, same-col, place}
 
 -- ---- parts of the pairs
 

@@ -9,7 +9,7 @@ use lib.Seq.{length-front}
 use lib.Ieee.{Float}
 use lib.Dec.{leb}
 use Rattle.definitions.specs.Lists.{padded}
-use Rattle.averaging.proofs.Lists.{take-zeros, drop-zeros}
+use Rattle.laws.proofs.Squares.{take-zeros, drop-zeros}
 use Rattle.definitions.specs.Numbers.{_*ᶠ_, zeroᶠ, oneᶠ, pivotTol, larger, largest, usable, above, rootᶠ}
 use Rattle.definitions.specs.Refusal.{Outcome, refused, done, require, _>>=_, resultLeft, keepsAll, causeOf}
 use Rattle.definitions.specs.Factor.{factorRows, belowDiagonal, rest}

@@ -13,7 +13,7 @@ use lib.Ieee.{Float, nan}
 use Rattle.definitions.specs.Lists.{tab}
 use Rattle.definitions.specs.Numbers.{_+ᶠ_, _-ᶠ_, _*ᶠ_, _/ᶠ_, minusZero, summed, zeroᶠ, oneᶠ}
 use Rattle.definitions.specs.Coarse.{packedEntry, packedLength, packedForward, packedBackward, packedSolve, unit}
-use Rattle.averaging.proofs.Places.{same-row, same-col, place}
+use Rattle.laws.proofs.Places.{same-row, same-col, place}
 use Rattle.laws.proofs.Lists.{tab-cong, tab-is, tab-same, getD-tab, length-tab}
 use Rattle.laws.proofs.Growing.{summed-none, summed-from, upto}
 use Rattle.laws.specs.Packed.{Column, ahead}

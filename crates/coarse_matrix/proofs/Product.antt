@@ -16,9 +16,9 @@ use Rattle.definitions.specs.Matrix.{Matrix, Entry, valuesWhere, entriesOf, row
 use Rattle.definitions.specs.Coarse.{weightedSum, weightsAt, productTerms, galerkinTerms, galerkinEntry, averagedSquare}
 use Rattle.definitions.specs.Refusal.{resultLeft}
 use Rattle.averaging.specs.Averaging.{averageCall}
-use Rattle.averaging.proofs.Lists.{square-is}
+use Rattle.laws.proofs.Squares.{square-is}
 use Rattle.averaging.proofs.Laws.{average-fits}
-use Rattle.averaging.proofs.Places.{place}
+use Rattle.laws.proofs.Places.{place}
 use Rattle.csr32.proofs.Stored.{where-append, where-hit, where-miss, where-none}
 use Rattle.laws.proofs.Lists.{Each, each-head, each-tail, each-by}
 use Rattle.laws.proofs.Growing.{flatMap-snoc, upTo-snoc, rows-none}

@@ -14,9 +14,9 @@ use borrow.Author.Tests.{eqb-true, eqb-false, eq-eqb, ne-eqb}
 use Rattle.definitions.specs.Lists.{upTo, square, padded}
 use Rattle.definitions.specs.Refusal.{resultLeft}
 use Rattle.averaging.specs.Averaging.{averageCall}
-use Rattle.averaging.proofs.Lists.{square-is, take-zeros}
+use Rattle.laws.proofs.Squares.{square-is, take-zeros}
 use Rattle.averaging.proofs.Laws.{average-fits}
-use Rattle.averaging.proofs.Places.{same-row, place}
+use Rattle.laws.proofs.Places.{same-row, place}
 use Rattle.definitions.specs.Numbers.{zeroᶠ, total}
 use Rattle.definitions.specs.Matrix.{Entry, valuesWhere, rowOf, entriesOf, csr, stored}
 use Rattle.definitions.specs.Coarse.{constantTerms, constantEntry, averagedSquare}

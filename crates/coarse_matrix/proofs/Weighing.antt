@@ -11,7 +11,7 @@ use lib.Ieee.{Float, nan}
 use borrow.Author.Tests.{ne-eqb}
 use Rattle.definitions.specs.Numbers.{_*ᶠ_}
 use Rattle.definitions.specs.Matrix.{Entry, stored}
-use Rattle.averaging.proofs.Places.{place}
+use Rattle.laws.proofs.Places.{place}
 use Rattle.csr32.proofs.Stored.{stored-none, stored-more, where-miss, where-none}
 use Rattle.laws.proofs.Growing.{flatMap-snoc}
 use Rattle.laws.proofs.Lists.{Each, none, each-head, each-tail, each-imp, each-append, each-by, each-map}

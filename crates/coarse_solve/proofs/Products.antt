@@ -11,7 +11,7 @@ use Rattle.definitions.specs.Numbers.{_*ᶠ_, zeroᶠ, summed}
 use Rattle.definitions.specs.Coarse.{coarseSolve, entryIn, packedSolve, packedLength, coarseLength}
 use Rattle.definitions.specs.declared.TwoLevelCoarseApplyPolicy.{TwoLevelCoarseApplyPolicy}
 use Rattle.definitions.specs.declared.TwoLevelCoarseApplyPolicy.the-variants.{Auto, FactorSolve, ExplicitInverse}
-use Rattle.averaging.proofs.Lists.{tail-zeros}
+use Rattle.laws.proofs.Squares.{tail-zeros}
 use Rattle.laws.proofs.Lists.{tab-is, tab-cong, length-tab}
 use Rattle.laws.proofs.Growing.{upto}
 use Rattle.laws.proofs.Packed.{length-solve}

@@ -11,7 +11,7 @@ use lib.Ieee.{Float, nan}
 use Rattle.definitions.specs.Lists.{tab}
 use Rattle.definitions.specs.Numbers.{_-ᶠ_, _/ᶠ_}
 use Rattle.definitions.specs.Coarse.{packedLength}
-use Rattle.averaging.proofs.Places.{place}
+use Rattle.laws.proofs.Places.{place}
 use Rattle.laws.proofs.Lists.{getD-tab}
 use Rattle.laws.specs.Packed.{ahead}
 use Rattle.laws.proofs.Packed.{tri-step, tri-row, length-forward, forward-step}

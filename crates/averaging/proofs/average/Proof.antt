@@ -8,7 +8,7 @@ use Rattle.definitions.specs.declared.Refusal.the-variants.{CoarseTooLarge, Coa
 use Rattle.causes.proofs.Left.{accept-left, refuse-cleared, large-clears, short-clears}
 use Rattle.averaging.specs.Averaging.{averageCall}
 use Rattle.averaging.proofs.Laws.{call-large, call-short, call-done, average-on}
-use Rattle.averaging.proofs.Places.{square-small}
+use Rattle.laws.proofs.Places.{square-small}
 use borrow.Author.Needs.{needs}
 use Rattle.averaging.proofs.average.Statement.{statement}
 use Rattle.averaging.proofs.average.Tie as tie

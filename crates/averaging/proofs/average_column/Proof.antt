@@ -5,7 +5,7 @@ use native.Mathlib.Omega.{arith}
 use lib.ListN.{length}
 use Rattle.averaging.specs.Averaging.{tile, Averages}
 use Rattle.averaging.proofs.Laws.{averages-none, column-more}
-use Rattle.averaging.proofs.Places.{place}
+use Rattle.laws.proofs.Places.{place}
 use borrow.Author.Needs.{needs}
 use Rattle.averaging.proofs.average_column.Statement.{statement}
 use Rattle.averaging.proofs.average_column.Tie as tie

@@ -8,11 +8,11 @@ use lib.ListN.{length, take}
 use Rattle.definitions.specs.Numbers.{largest}
 use Rattle.definitions.specs.Coarse.{packedLength, coarseFactor}
 use Rattle.definitions.specs.declared.Refusal.the-variants.{CoarseTooLarge, CoarseListTooShort}
-use Rattle.averaging.proofs.Places.{square-small}
+use Rattle.laws.proofs.Places.{square-small}
 use Rattle.causes.proofs.Left.{large-clears, short-clears}
 use Rattle.laws.proofs.Packed.{triangle-small}
 use Rattle.laws.proofs.CoarseChecks.{covered, large, short, fit}
-use Rattle.averaging.proofs.Lists.{front-length}
+use Rattle.laws.proofs.Squares.{front-length}
 use Rattle.coarse_factor.specs.Calls.{coarseFactorCall}
 use Rattle.coarse_factor.proofs.Fitting.{factor-checked, answer-cleared, answer-fits}
 use borrow.Author.Needs.{needs}

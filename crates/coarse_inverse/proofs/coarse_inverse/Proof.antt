@@ -12,8 +12,8 @@ use Rattle.definitions.specs.Numbers.{zeroᶠ}
 use Rattle.definitions.specs.Refusal.{done}
 use Rattle.definitions.specs.Coarse.{packedLength, inverseOf}
 use Rattle.definitions.specs.declared.Refusal.the-variants.{CoarseTooLarge, CoarseListTooShort}
-use Rattle.averaging.proofs.Lists.{front-length}
-use Rattle.averaging.proofs.Places.{square-small}
+use Rattle.laws.proofs.Squares.{front-length}
+use Rattle.laws.proofs.Places.{square-small}
 use Rattle.causes.proofs.Left.{accept-left, refuse-cleared, large-clears, short-clears}
 use Rattle.laws.proofs.Packed.{triangle-small}
 use Rattle.laws.proofs.CoarseChecks.{checks, covered, large, short, fit}

@@ -3,7 +3,7 @@ use Prim.Native.Nat.{_*_}
 use mathlib.Core.Path.{sym, _∙_}
 use native.Mathlib.Omega.{arith}
 use Rattle.definitions.specs.declared.Refusal.the-variants.{NotSquare, BlockSize, NotMultiple, CoarseTooLarge, CoarseListTooShort, SetupMisfit}
-use Rattle.averaging.proofs.Places.{square-small}
+use Rattle.laws.proofs.Places.{square-small}
 use Rattle.coarse_matrix.specs.Calls.{ConstantFacts}
 use Rattle.coarse_matrix.proofs.Checks.{not-accepted, groups-fit, not-square, size-none, size-large, not-multiple, too-large, short-list, other-ids, id-outside, all-passed}
 use borrow.Author.Needs.{needs}

@@ -2,7 +2,7 @@
 use mathlib.Core.Path.{sym, _∙_}
 use native.Mathlib.Omega.{arith}
 use Rattle.definitions.specs.declared.Refusal.the-variants.{NotSquare, CoarseTooLarge, CoarseListTooShort, SetupMisfit}
-use Rattle.averaging.proofs.Places.{square-small}
+use Rattle.laws.proofs.Places.{square-small}
 use Rattle.coarse_matrix.specs.Calls.{GalerkinFacts}
 use Rattle.coarse_matrix.proofs.Checks.{not-accepted, smoothed-square, smoothed-large, smoothed-ints, smoothed-floats, smoothed-misfit, smoothed-passed}
 use borrow.Author.Needs.{needs}

@@ -13,7 +13,7 @@ use Rattle.definitions.specs.Refusal.{done}
 use Rattle.definitions.specs.Coarse.{coarseLength, coarseSolve}
 use Rattle.definitions.specs.declared.TwoLevelCoarseApplyPolicy.{TwoLevelCoarseApplyPolicy}
 use Rattle.definitions.specs.declared.Refusal.the-variants.{CoarseTooLarge, CoarseListTooShort}
-use Rattle.averaging.proofs.Lists.{front-length}
+use Rattle.laws.proofs.Squares.{front-length}
 use Rattle.causes.proofs.Left.{accept-left, refuse-cleared, large-clears, short-clears}
 use Rattle.laws.proofs.CoarseChecks.{checks, covered, large, short, fit}
 use Rattle.coarse_solve.specs.Calls.{coarseSolveCall}

@@ -5,7 +5,7 @@ use Prim.Native.Nat.{_+_, _*_, _≤_, _-_}
 use native.Mathlib.Omega.{arith}
 use lib.ListN.{length, drop}
 use lib.Seq.{length-front}
-use Rattle.averaging.proofs.Lists.{front-length}
+use Rattle.laws.proofs.Squares.{front-length}
 use Rattle.coarse_inverse.specs.Rows.{solvedRows}
 use Rattle.coarse_inverse.proofs.Rows.{solved-none, invert-law}
 use borrow.Author.Needs.{needs}

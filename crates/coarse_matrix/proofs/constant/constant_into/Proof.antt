@@ -1,7 +1,7 @@
 use mathlib.Core.List.{_++_}
 use lib.ListN.{length, drop, getD, length-replicate}
 use Rattle.definitions.specs.Transfer.{coarseColumn}
-use Rattle.averaging.proofs.Lists.{front-length}
+use Rattle.laws.proofs.Squares.{front-length}
 use Rattle.coarse_matrix.proofs.Squares.{constant-law}
 use Prim.Native.Nat.{_*_, _-_}
 use mathlib.Core.Path.{_≡_, refl, ap, _∙_}

@@ -1,4 +1,4 @@
-use Rattle.averaging.proofs.Lists.{front-length}
+use Rattle.laws.proofs.Squares.{front-length}
 use lib.ListN.{drop}
 use mathlib.Core.List.{_++_}
 use Rattle.definitions.specs.Coarse.{packedLength}

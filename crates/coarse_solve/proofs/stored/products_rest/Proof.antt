@@ -1,7 +1,7 @@
 use Prim.Native.Nat.{_*_, _≤_, _-_}
 use mathlib.Core.Path.{_≡_}
 use native.Mathlib.Omega.{arith}
-use Rattle.averaging.proofs.Places.{next-row}
+use Rattle.laws.proofs.Places.{next-row}
 use Rattle.coarse_solve.specs.Stored.{ProductsOn}
 use Rattle.coarse_solve.proofs.RowByRow.{SquareRow, square-row, on-none, on-row}
 use Rattle.coarse_solve.proofs.stored.products_rest.Statement.{statement}
