@@ -11,8 +11,9 @@ pub mod RootExamples
 -- numbers that are the same but for a zero's sign, and what operations keep of that
 pub mod Same
 pub mod Near
--- tests of two parts; lists, what grows by one, what passes a test, what loops that add leave, coarse columns, compressed rows, counts
+-- tests of two parts, tests over whole lists; lists, what grows by one, what passes a test, what loops that add leave, coarse columns, compressed rows, counts
 pub mod Tests
+pub mod Scans
 pub mod Lists
 pub mod Growing
 pub mod Kept

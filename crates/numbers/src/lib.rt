@@ -1,10 +1,16 @@
-// Small tests on floats, a quotient, and lists cleared and copied: what every stage uses.
+// Small tests on floats, a quotient, and lists cleared, copied and scanned: what every stage uses.
 ghost use mathlib.Core.Path.{_≡_};
 ghost use Prim.Native.Nat.{_/_};
 ghost use lib.ListN.{length, replicate};
 ghost use lib.Ieee.Scale.{finite as isFinite};
 ghost use Rattle.definitions.specs.Numbers.{zeroᶠ, magnitude as magnitudeOf, larger as largerOf, usable as usableOf, above as aboveOf};
 ghost use Rattle.numbers.specs.Copied.{copied};
+
+mod scan;
+
+pub use scan::falls;
+pub use scan::largest;
+pub use scan::reaches;
 
 // Neither a NaN nor an infinity.
 pub fn finite(x: f64) -> bool
