@@ -27,8 +27,9 @@ pub mod Factor
 pub mod BlockFactors
 pub mod FiniteFactor
 pub mod FactorExamples
--- numbers of causes; diagonal sums behind accepted blocks, and the causes that setup never is
+-- numbers of causes, and those that leave zeros; diagonal sums behind accepted blocks, and the causes that setup never is
 pub mod Causes
+pub mod Clearing
 pub mod Diagonals
 pub mod SetupCauses
 -- the groups of setup: new numbers by first appearance, how many ids and groups; the lists of a setup, and the rows of the transfer
