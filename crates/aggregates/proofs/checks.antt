@@ -1,4 +1,4 @@
 -- The laws of the checks that several proofs cite.
-mod Scan
+mod Fitting
 pub mod Order
 mod Cut

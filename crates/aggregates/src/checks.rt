@@ -2,9 +2,9 @@
 ghost use mathlib.Core.Path.{_≡_};
 ghost use mathlib.Core.Bool.{_&&_, not};
 ghost use Prim.Native.Nat.{_+_, _≤_, min};
-ghost use lib.Dec.{eqb, leb};
+ghost use lib.Dec.{eqb};
 ghost use lib.ListN.{length, getD};
-ghost use Rattle.definitions.specs.Lists.{any, falls};
+ghost use Rattle.definitions.specs.Lists.{falls};
 ghost use Rattle.definitions.specs.Groups.{groupingCall};
 ghost use Rattle.definitions.specs.Answers.{answerOf};
 ghost use Rattle.definitions.specs.Matrix.{maxRows, maxEntries};
@@ -15,37 +15,6 @@ use definitions::MAX_ENTRIES;
 use definitions::MAX_GROUP;
 use definitions::MAX_ROWS;
 use definitions::Refusal;
-
-// Is some offset above the one after it?
-fn offset_falls(offsets: &[u32]) -> bool
-    ensures { λ r. ⌜ r ≡ falls (now (offsets .entry)) ⌝ }
-{
-    if offsets.len() == 0 {
-        return false;
-    }
-    let mut i: usize = 0;
-    while i < offsets.len() - 1 {
-        if offsets[i + 1] < offsets[i] {
-            return true;
-        }
-        i += 1;
-    }
-    false
-}
-
-// Is some neighbour not a node?
-fn neighbour_outside(neighbours: &[u32], nodes: usize) -> bool
-    ensures { λ r. ⌜ r ≡ any (λ w. leb nodes w) (now (neighbours .entry)) ⌝ }
-{
-    let mut i: usize = 0;
-    while i < neighbours.len() {
-        if nodes <= neighbours[i] as usize {
-            return true;
-        }
-        i += 1;
-    }
-    false
-}
 
 // Are there nodes + 1 offsets, from 0 up to the neighbour count, that do not fall?
 fn offsets_fit(nodes: usize, offsets: &[u32], count: usize) -> bool
@@ -60,7 +29,7 @@ fn offsets_fit(nodes: usize, offsets: &[u32], count: usize) -> bool
     if offsets[0] != 0 {
         return false;
     }
-    if offset_falls(offsets) {
+    if numbers::falls(offsets) {
         return false;
     }
     offsets[nodes] as usize == count
@@ -88,7 +57,7 @@ fn check_lists(nodes: usize, size: usize, offsets: &[u32], neighbours: &[u32]) -
     if nodes == 0 {
         return Answer::Refused(Refusal::NoNode);
     }
-    if neighbour_outside(neighbours, nodes) {
+    if numbers::reaches(neighbours, nodes) {
         return Answer::Refused(Refusal::NeighbourOutside);
     }
     Answer::Accepted

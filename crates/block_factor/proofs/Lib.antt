@@ -1,6 +1,5 @@
 pub mod Shape
 pub mod Tabs
-pub mod Folds
 pub mod Steps
 pub mod Gathering
 pub mod Front

@@ -8,7 +8,7 @@ use native.Mathlib.Nat.{sub-zero}
 use native.Mathlib.Numerals.{add-one}
 use lib.ListN.{getD, set}
 use lib.Ieee.{Float, nan}
-use Rattle.definitions.specs.Numbers.{_*ᶠ_, _/ᶠ_, rootᶠ, oneᶠ, above, larger, largest, symmetryTol, pivotTol}
+use Rattle.definitions.specs.Numbers.{_*ᶠ_, _/ᶠ_, rootᶠ, above, symmetryTol, pivotTol}
 use Rattle.definitions.specs.Refusal.{refused, done}
 use Rattle.definitions.specs.Factor.{rest, belowDiagonal, factorRows}
 use Rattle.definitions.specs.Block.{inBlock, topOf, skewed}
@@ -75,14 +75,10 @@ module _ (first w : ℕ) (d : List Float) where
   unfolding factorOf
   factor-goes p = rw (p, factorOf)
 
--- the same from the scale s and the top that the code has
-module _ (first w : ℕ) (d : List Float) (s top : Float) (es : s ≡ largest d) (et : top ≡ larger s oneᶠ) (t : Bool) (ef : t ≡ skewed d w (symmetryTol *ᶠ top)) where
-  top-is : top ≡ topOf d
-  unfolding topOf
-  top-is = et ∙ rw es
-
+-- the same from the scale that the code has
+module _ (first w : ℕ) (d : List Float) (top : Float) (et : top ≡ topOf d) (t : Bool) (ef : t ≡ skewed d w (symmetryTol *ᶠ top)) where
   pub stopped : t ≡ true → factorOf first w d ≡ refused (BlockNotSymmetric first)
-  stopped p = factor-skewed first w d (rw (← top-is) (sym ef ∙ p))
+  stopped p = factor-skewed first w d (rw (← et) (sym ef ∙ p))
 
   pub goes : t ≡ false → factorOf first w d ≡ factorRows (inBlock w) (pivotRow first) (λ i j. getD d (inBlock w i j) nan) (pivotTol *ᶠ top) w 0 blank
-  goes p = factor-goes first w d (rw (← top-is) (sym ef ∙ p)) ∙ ap (λ u. factorRows (inBlock w) (pivotRow first) (λ i j. getD d (inBlock w i j) nan) (pivotTol *ᶠ u) w 0 blank) (sym top-is)
+  goes p = factor-goes first w d (rw (← et) (sym ef ∙ p)) ∙ ap (λ u. factorRows (inBlock w) (pivotRow first) (λ i j. getD d (inBlock w i j) nan) (pivotTol *ᶠ u) w 0 blank) (sym et)

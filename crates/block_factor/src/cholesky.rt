@@ -10,8 +10,8 @@ use super::dense::at;
 use super::dense::blanks;
 use super::dense::given;
 use super::dense::put;
-use super::symmetry::largest;
 use super::symmetry::skewed;
+use super::symmetry::top;
 use definitions::Answer;
 use definitions::Refusal;
 
@@ -94,10 +94,10 @@ pub(crate) fn factor(b: Block, first: usize, table: &root::StartTable) -> Factor
 {
     let a = b.a;
     let w = b.size;
-    let top = numbers::larger(largest(&a, w * w), 1.0);
-    if skewed(&a, w, 1e-11 * top) {
+    let scale = top(&a, w);
+    if skewed(&a, w, 1e-11 * scale) {
         refused(w, Refusal::BlockNotSymmetric(first as u64))
     } else {
-        factor_rows(&a, w, first, 1e-14 * top, table)
+        factor_rows(&a, w, first, 1e-14 * scale, table)
     }
 }

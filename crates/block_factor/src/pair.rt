@@ -10,8 +10,8 @@ use super::cholesky::rest;
 use super::dense::Block;
 use super::dense::blanks;
 use super::dense::put;
-use super::symmetry::largest;
 use super::symmetry::skewed;
+use super::symmetry::top;
 
 // Their factors, where both have one.
 pub struct Pair {
@@ -78,8 +78,8 @@ pub(crate) fn factor_pair(b: Block, c: Block, table: &root::StartTable) -> Pair
     let x = b.a;
     let y = c.a;
     let w = b.size;
-    let s = numbers::larger(largest(&x, w * w), 1.0);
-    let t = numbers::larger(largest(&y, w * w), 1.0);
+    let s = top(&x, w);
+    let t = top(&y, w);
     if skewed(&x, w, 1e-11 * s) {
         return apart(w);
     }

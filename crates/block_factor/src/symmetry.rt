@@ -1,25 +1,18 @@
 // A block's scale, and whether it is symmetric within a tolerance.
 ghost use mathlib.Core.Path.{_≡_};
 ghost use Prim.Native.Nat.{_<_, _≤_};
-ghost use lib.ListN.{take};
-ghost use Rattle.definitions.specs.Numbers.{largest as largestOf};
-ghost use Rattle.definitions.specs.Block.{skewed as skewedOf, maxBlock};
+ghost use lib.ListN.{length};
+ghost use Rattle.definitions.specs.Block.{topOf, skewed as skewedOf, maxBlock};
 ghost use Rattle.block_factor.specs.Dense.{dense, apartAt, rowApart};
 use super::dense::given;
 
-// The largest magnitude of the first n numbers, at least +0. A NaN is passed over.
-pub(crate) fn largest(a: &[f64; 64], n: usize) -> f64
-    requires { ⌜ n ≤ 64 ⌝ }
-    ensures { λ r. ⌜ r ≡ largestOf (take n (now (a .entry))) ⌝ }
+// The largest magnitude of a block, taken as 1 where it is smaller.
+pub(crate) fn top(a: &[f64], w: usize) -> f64
+    requires { ⌜ (w ≤ maxBlock) × (length (now a) ≡ 64) ⌝ }
+    ensures { λ r. ⌜ r ≡ topOf (dense w (now (a .entry))) ⌝ }
 {
-    let mut scale = 0.0;
-    let mut k: usize = 0;
-    while k < n {
-        let x = numbers::magnitude(a[k]);
-        scale = numbers::larger(scale, x);
-        k += 1;
-    }
-    scale
+    let n = w * w;
+    numbers::larger(numbers::largest(&a[..n]), 1.0)
 }
 
 // Whether (i, j) and (j, i) are further apart than tol.

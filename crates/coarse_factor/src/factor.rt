@@ -2,8 +2,6 @@
 use definitions::Answer;
 use definitions::Refusal;
 use numbers::above;
-use numbers::larger;
-use numbers::magnitude;
 use root::root;
 ghost use mathlib.Core.Path.{_≡_};
 ghost use Prim.Native.Nat.{ℕ, _+_, _*_, _<_, _≤_};
@@ -22,11 +20,7 @@ ghost use Rattle.coarse_factor.specs.Calls.{outcomeOf};
 pub(crate) fn scale(m: &[f64]) -> f64
     ensures { λ r. ⌜ r ≡ largest (now (m .entry)) ⌝ }
 {
-    let mut top = 0.0;
-    for k in 0..m.len() {
-        top = larger(top, magnitude(m[k]));
-    }
-    top
+    numbers::largest(m)
 }
 
 // The number of m at a place, NaN where it has none: eight rows may reach past the last.

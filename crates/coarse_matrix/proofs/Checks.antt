@@ -8,8 +8,8 @@ use native.Mathlib.Nat.{mul-le-mul, mul-le-mul-right, div-add-mod', div-lt-iff-l
 use lib.Dec.{leb}
 use lib.ListN.{length, getD, replicate}
 use lib.Ieee.{Float}
-use borrow.Author.Tests.{le-leb, lt-leb, eq-eqb, ne-eqb, leb-false}
-use Rattle.definitions.specs.Lists.{square, padded, falls}
+use borrow.Author.Tests.{le-leb, lt-leb, eq-eqb, ne-eqb}
+use Rattle.definitions.specs.Lists.{square, padded, any, falls}
 use Rattle.definitions.specs.Numbers.{zeroᶠ}
 use Rattle.definitions.specs.Refusal.{Outcome, refused, done, Checked, require, _>>=_, resultLeft, workLeft}
 use Rattle.definitions.specs.Answers.{answerOf}
@@ -22,7 +22,8 @@ use Rattle.definitions.specs.declared.Refusal.the-variants.{TooLarge, NotSquare
 use Rattle.definitions.specs.declared.Answer.{Answer}
 use Rattle.definitions.specs.declared.Answer.the-variants.{Accepted, Refused}
 use Rattle.definitions.specs.Setup.{maxCoarse}
-use Rattle.csr32.specs.Rows.{outside, none-any, no-falls, no-falls-to, Rows}
+use Rattle.csr32.specs.Rows.{Rows}
+use Rattle.laws.proofs.Scans.{all-below, no-falls, no-falls-to}
 use Rattle.causes.proofs.Left.{checks-stop, checks-pass, accept-left, refuse-left, work-refused as refused-work}
 use Rattle.laws.specs.Bounds.{Compressed, Grouped}
 use Rattle.coarse_matrix.specs.Calls.{constantChecks, constantChecked, constantCoarseCall, ConstantFacts, transferFits, galerkinChecks, galerkinChecked, galerkinCoarseCall, GalerkinFacts}
@@ -97,11 +98,11 @@ module _ (rows cols size : ℕ) (ids : List ℕ) (groups lent : ℕ) where
             other-ids h = rw (eq-eqb rows cols e1, le-leb 1 size e2, le-leb size maxBlock e3, eq-eqb (rows % size) 0 e4, le-leb (groups * size) maxCoarse e5, le-leb (groups * size * (groups * size)) lent e6, ne-eqb (length ids) (rows / size) h)
 
             module _ (e7 : length ids ≡ rows / size) where
-              pub id-outside : outside groups ids ≡ true → Refused SetupMisfit ≡ answerOf (constantChecks rows cols size ids groups lent)
+              pub id-outside : any (λ g. leb groups g) ids ≡ true → Refused SetupMisfit ≡ answerOf (constantChecks rows cols size ids groups lent)
               unfolding constantChecks require _>>=_ answerOf
               id-outside h = rw (eq-eqb rows cols e1, le-leb 1 size e2, le-leb size maxBlock e3, eq-eqb (rows % size) 0 e4, le-leb (groups * size) maxCoarse e5, le-leb (groups * size * (groups * size)) lent e6, eq-eqb (length ids) (rows / size) e7, h)
 
-              pub all-passed : outside groups ids ≡ false → (Accepted ≡ answerOf (constantChecks rows cols size ids groups lent)) × ConstantFacts rows cols size ids groups lent
+              pub all-passed : any (λ g. leb groups g) ids ≡ false → (Accepted ≡ answerOf (constantChecks rows cols size ids groups lent)) × ConstantFacts rows cols size ids groups lent
               unfolding constantChecks require _>>=_ answerOf
               all-passed h = (
                 rw (eq-eqb rows cols e1, le-leb 1 size e2, le-leb size maxBlock e3, eq-eqb (rows % size) 0 e4, le-leb (groups * size) maxCoarse e5, le-leb (groups * size * (groups * size)) lent e6, eq-eqb (length ids) (rows / size) e7, h),
@@ -123,7 +124,7 @@ grouped-of rows cols size ids groups lent f =
     known i h = let e : rows ≡ rows / size * size = omega (arith, div-add-mod' rows size, f .whole) in rw (f .nodes) (div-lt-iff-lt-mul (f .some) .1 (omega (arith, e)))
 
     within : (i : ℕ) → i < rows → getD ids (i / size) 0 * size + i % size < groups * size
-    within i h = omega (arith, mul-le-mul-right size (leb-false groups (getD ids (i / size) 0) (none-any (λ c. leb groups c) 0 ids (f .below) (i / size) (known i h))), mod-lt i (f .some))
+    within i h = omega (arith, mul-le-mul-right size (all-below groups ids (f .below) (i / size) (known i h)), mod-lt i (f .some))
 
 -- ---- the whole call: its checks, and the result
 
@@ -180,11 +181,11 @@ module _ (rows c : ℕ) (ptr idx : List ℕ) (count : ℕ) where
           fits-rise h = rw (eq-eqb (length ptr) (rows + 1) e1, eq-eqb (length idx) count e2, eq-eqb (getD ptr 0 1) 0 (first-same ptr rows e1 ∙ e3), eq-eqb (getD ptr rows 0) count e4, h)
 
           module _ (e5 : falls ptr ≡ false) where
-            pub fits-below : outside c idx ≡ true → false ≡ transferFits rows c ptr idx count
+            pub fits-below : any (λ k. leb c k) idx ≡ true → false ≡ transferFits rows c ptr idx count
             unfolding transferFits
             fits-below h = rw (eq-eqb (length ptr) (rows + 1) e1, eq-eqb (length idx) count e2, eq-eqb (getD ptr 0 1) 0 (first-same ptr rows e1 ∙ e3), eq-eqb (getD ptr rows 0) count e4, e5, h)
 
-            pub fits-all : outside c idx ≡ false → (true ≡ transferFits rows c ptr idx count) × Compressed rows c ptr idx count
+            pub fits-all : any (λ k. leb c k) idx ≡ false → (true ≡ transferFits rows c ptr idx count) × Compressed rows c ptr idx count
             unfolding transferFits
             fits-all h = (
               rw (eq-eqb (length ptr) (rows + 1) e1, eq-eqb (length idx) count e2, eq-eqb (getD ptr 0 1) 0 (first-same ptr rows e1 ∙ e3), eq-eqb (getD ptr rows 0) count e4, e5, h),
@@ -193,7 +194,7 @@ module _ (rows c : ℕ) (ptr idx : List ℕ) (count : ℕ) where
                 rises = λ i k. no-falls ptr e5 i (omega arith);
                 ends = λ i k. let q : i + (rows - i) ≡ rows = omega arith in rw (← e4) (rw q at (no-falls-to ptr e5 (rows - i) i (omega arith)));
                 same = e2;
-                within = λ k b. leb-false c (getD idx k 0) (none-any (λ n. leb c n) 0 idx h k b);
+                within = all-below c idx h;
               },
             )
 

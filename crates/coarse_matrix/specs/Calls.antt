@@ -6,7 +6,7 @@ use mathlib.Core.List.{List}
 use lib.Dec.{leb, eqb}
 use lib.ListN.{length, getD}
 use lib.Ieee.{Float}
-use Rattle.definitions.specs.Lists.{square, falls}
+use Rattle.definitions.specs.Lists.{square, any, falls}
 use Rattle.definitions.specs.Refusal.{Outcome, done, Checked, require, _>>=_}
 use Rattle.definitions.specs.Matrix.{Matrix, maxRows, structureOf, rowOf}
 use Rattle.definitions.specs.Block.{maxBlock}
@@ -14,7 +14,6 @@ use Rattle.definitions.specs.Transfer.{coarseColumn}
 use Rattle.definitions.specs.Coarse.{constantEntry, galerkinEntry, averagedSquare}
 use Rattle.definitions.specs.declared.Refusal.the-variants.{TooLarge, NotSquare, BlockSize, NotMultiple, CoarseTooLarge, CoarseListTooShort, SetupMisfit}
 use Rattle.definitions.specs.Setup.{maxCoarse}
-use Rattle.csr32.specs.Rows.{outside}
 use Rattle.laws.specs.Bounds.{Compressed}
 
 -- ---- the basis that is constant over a group
@@ -27,7 +26,7 @@ constantChecks rows cols size ids groups lent = do
   _ ← require (eqb (rows % size) 0) NotMultiple
   _ ← require (leb (groups * size) maxCoarse) (CoarseTooLarge (groups * size))
   _ ← require (leb (groups * size * (groups * size)) lent) (CoarseListTooShort (groups * size))
-  require (eqb (length ids) (rows / size) && not (outside groups ids)) SetupMisfit
+  require (eqb (length ids) (rows / size) && not (any (λ g. leb groups g) ids)) SetupMisfit
 
 -- 1 for the groups as for rows, 1 to 7, and all of these
 unfoldable pub constantChecked : Matrix → ℕ → List ℕ → ℕ → ℕ → Checked
@@ -47,7 +46,7 @@ pub record ConstantFacts (rows cols size : ℕ) (ids : List ℕ) (groups lent : 
   pub whole : rows % size ≡ 0
   pub small : groups * size ≤ maxCoarse
   pub nodes : length ids ≡ rows / size
-  pub below : outside groups ids ≡ false
+  pub below : any (λ g. leb groups g) ids ≡ false
   pub room : groups * size * (groups * size) ≤ lent
 
 -- ---- the smoothed basis
@@ -55,7 +54,7 @@ pub record ConstantFacts (rows cols size : ℕ) (ids : List ℕ) (groups lent : 
 -- compressed rows with columns below c; their numbers may be any
 unfoldable pub transferFits : ℕ → ℕ → List ℕ → List ℕ → ℕ → Bool
 transferFits rows c ptr idx count =
-    eqb (length ptr) (rows + 1) && eqb (length idx) count && eqb (getD ptr 0 1) 0 && eqb (getD ptr rows 0) count && not (falls ptr) && not (outside c idx)
+    eqb (length ptr) (rows + 1) && eqb (length idx) count && eqb (getD ptr 0 1) 0 && eqb (getD ptr rows 0) count && not (falls ptr) && not (any (λ k. leb c k) idx)
 
 -- 9, 17, 18, 26
 unfoldable pub galerkinChecks : ℕ → ℕ → ℕ → List ℕ → List ℕ → ℕ → ℕ → ℕ → Checked

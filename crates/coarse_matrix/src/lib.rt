@@ -1,14 +1,14 @@
 // The coarse matrix, by the basis that is constant over a group and by the smoothed one.
 use causes::leave_floats;
 use causes::leave_ints;
-use csr32::column_outside;
-use csr32::pointer_falls;
 use csr32::structure;
 use definitions::Answer;
 use definitions::MAX_BLOCK;
 use definitions::MAX_COARSE;
 use definitions::MAX_ROWS;
 use definitions::Refusal;
+use numbers::falls;
+use numbers::reaches;
 ghost use mathlib.Core.Path.{_≡_};
 ghost use mathlib.Core.Bool.{true};
 ghost use Prim.Native.Nat.{_≤_};
@@ -59,7 +59,7 @@ fn constant_checks(
     if ids.len() != rows / size {
         return Answer::Refused(Refusal::SetupMisfit);
     }
-    if column_outside(ids, groups) {
+    if reaches(ids, groups) {
         return Answer::Refused(Refusal::SetupMisfit);
     }
     Answer::Accepted
@@ -157,10 +157,10 @@ fn transfer_fits(rows: usize, c: usize, ptr: &[u32], idx: &[u32], count: usize) 
     if last != count {
         return false;
     }
-    if pointer_falls(ptr) {
+    if falls(ptr) {
         return false;
     }
-    if column_outside(idx, c) {
+    if reaches(idx, c) {
         return false;
     }
     true

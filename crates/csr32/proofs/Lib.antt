@@ -1,4 +1,3 @@
-pub mod Scan
 pub mod Causes
 pub mod Sums
 pub mod Single

@@ -1,22 +1,21 @@
 -- What causes 1 to 7 leave of compressed rows, for every loop that walks them, and 8 of their values.
-use Prim.Native.Nat.{ℕ, zero, suc, _+_, _-_, _≤_, _<_}
+use Prim.Native.Nat.{ℕ, suc, _+_, _-_, _≤_, _<_}
 use mathlib.Core.Path.{_≡_, refl}
-use mathlib.Core.Bool.{Bool, true, false, not, _&&_, _||_}
+use mathlib.Core.Bool.{Bool, true, false, not}
 use mathlib.Core.List.{List, [], _∷_}
 use native.Mathlib.Omega.{arith}
-use lib.Dec.{leb, ltb}
+use lib.Dec.{leb}
 use lib.ListN.{length, getD}
 use lib.Ieee.{Float, nan}
 use lib.Ieee.Scale.{finite}
-use borrow.Author.Tests.{leb-true, leb-false, ltb-false, eqb-true, not-true, not-false}
+use borrow.Author.Tests.{leb-true, eqb-true, not-true, not-false}
 use Rattle.definitions.specs.Lists.{any, falls}
 use Rattle.definitions.specs.Refusal.{refused, done, Checked, require, _>>=_}
 use Rattle.definitions.specs.declared.Refusal.{Refusal}
 use Rattle.definitions.specs.Matrix.{Matrix, structureOf, validOf, maxRows, maxEntries}
-
--- some column is not below cols
-abbrev pub outside : ℕ → List ℕ → Bool
-outside cols idx = any (λ c. leb cols c) idx
+use Rattle.laws.proofs.Tests.{three-true}
+use Rattle.laws.proofs.Scans.{none-any, all-below, no-falls, no-falls-to}
+use Rattle.laws.proofs.Outcomes.{test-true, last-true}
 
 -- some value is not finite
 abbrev pub unreal : List Float → Bool
@@ -38,61 +37,6 @@ pub record Rows (a : Matrix) : Type 0 where
 abbrev pub Real : List Float → Type 0
 Real vals = (k : ℕ) → k < length vals → finite (getD vals k nan) ≡ true
 
--- ---- what a test over a whole list says of its elements
-
-pub none-any : {A : Type 0} (p : A → Bool) (d : A) (xs : List A) → any p xs ≡ false → (k : ℕ) → k < length xs → p (getD xs k d) ≡ false
-unfolding any
-none-any p d [] e k h = absurd (omega arith)
-none-any p d (x ∷ xs) e zero h = left (p x) (any p xs) e
-  where
-    left : (b c : Bool) → (b || c) ≡ false → b ≡ false
-    left false c e = refl
-    left true c e = e
-none-any p d (x ∷ xs) e (suc k) h = none-any p d xs (right (p x) (any p xs) e) k (omega arith)
-  where
-    right : (b c : Bool) → (b || c) ≡ false → c ≡ false
-    right false c e = e
-    right true c e = cc
-
-pub no-falls : (p : List ℕ) → falls p ≡ false → (i : ℕ) → suc i < length p → getD p i 0 ≤ getD p (suc i) 0
-unfolding falls
-no-falls [] e i h = absurd (omega arith)
-no-falls (x ∷ []) e i h = absurd (omega arith)
-no-falls (x ∷ (y ∷ p)) e zero h = ltb-false y x (left (ltb y x) (falls (y ∷ p)) e)
-  where
-    left : (b c : Bool) → (b || c) ≡ false → b ≡ false
-    left false c e = refl
-    left true c e = e
-no-falls (x ∷ (y ∷ p)) e (suc i) h = no-falls (y ∷ p) (right (ltb y x) (falls (y ∷ p)) e) i (omega arith)
-  where
-    right : (b c : Bool) → (b || c) ≡ false → c ≡ false
-    right false c e = e
-    right true c e = cc
-
--- a list that does not fall stays below its later elements
-pub no-falls-to : (p : List ℕ) → falls p ≡ false → (d i : ℕ) → i + d < length p → getD p i 0 ≤ getD p (i + d) 0
-no-falls-to p e zero i h = let q : i + 0 ≡ i = omega arith in rw q (omega arith)
-no-falls-to p e (suc d) i h =
-    let q : i + suc d ≡ suc (i + d) = omega arith in
-    rw q (omega (arith, no-falls-to p e d i (omega arith), no-falls p e (i + d) (omega arith)))
-
--- ---- a call's check that has passed
-
-both : (b : Bool) (k : Unit {0} → Checked) (r : Refusal) → (require b r >>= k) ≡ done tt → (b ≡ true) × (k tt ≡ done tt)
-unfolding require _>>=_
-both true k r e = (refl, e)
-both false k r e = (cc, cc)
-
-once : (b : Bool) (r : Refusal) → require b r ≡ done tt → b ≡ true
-unfolding require
-once true r e = refl
-once false r e = cc
-
-three : (b c d : Bool) → (b && c && d) ≡ true → (b ≡ true) × (c ≡ true) × (d ≡ true)
-three true true d e = (refl, refl, e)
-three true false d e = (cc, cc, cc)
-three false c d e = (cc, cc, cc)
-
 first-same : (p : List ℕ) (n : ℕ) → length p ≡ n + 1 → getD p 0 1 ≡ 0 → getD p 0 0 ≡ 0
 first-same [] n l e = absurd (omega arith)
 first-same (x ∷ p) n l e = e
@@ -101,14 +45,14 @@ first-same (x ∷ p) n l e = e
 pub structure-rows : (a : Matrix) → structureOf a ≡ done tt → Rows a
 unfolding structureOf
 structure-rows a e =
-    let p1 = both _ _ _ e in
-    let small = three (leb (a .rows) maxRows) (leb (a .cols) maxRows) (leb (length (a .values)) maxEntries) (p1 .0) in
-    let p2 = both _ _ _ (p1 .1) in
-    let p3 = both _ _ _ (p2 .1) in
-    let p4 = both _ _ _ (p3 .1) in
-    let p5 = both _ _ _ (p4 .1) in
-    let p6 = both _ _ _ (p5 .1) in
-    let p7 = once _ _ (p6 .1) in
+    let p1 = test-true _ _ _ _ e in
+    let small = three-true (leb (a .rows) maxRows) (leb (a .cols) maxRows) (leb (length (a .values)) maxEntries) (p1 .0) in
+    let p2 = test-true _ _ _ _ (p1 .1) in
+    let p3 = test-true _ _ _ _ (p2 .1) in
+    let p4 = test-true _ _ _ _ (p3 .1) in
+    let p5 = test-true _ _ _ _ (p4 .1) in
+    let p6 = test-true _ _ _ _ (p5 .1) in
+    let p7 = last-true _ _ (p6 .1) in
     let long : length (a .rowPtr) ≡ a .rows + 1 = eqb-true _ _ (p2 .0) in
     let last : getD (a .rowPtr) (a .rows) 0 ≡ length (a .values) = eqb-true _ _ (p5 .0) in
     let rising : falls (a .rowPtr) ≡ false = not-true _ (p6 .0) in
@@ -122,7 +66,7 @@ structure-rows a e =
       last = last;
       rises = λ i h. no-falls (a .rowPtr) rising i (omega arith);
       ends = λ i h. let q : i + (a .rows - i) ≡ a .rows = omega arith in rw (← last) (rw q at (no-falls-to (a .rowPtr) rising (a .rows - i) i (omega arith)));
-      within = λ k h. leb-false _ _ (none-any _ 0 (a .colIdx) (not-true _ p7) k h);
+      within = all-below _ (a .colIdx) (not-true _ p7);
     }
 
 -- and of one that is valid

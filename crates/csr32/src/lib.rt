@@ -8,71 +8,15 @@ ghost use mathlib.Core.Path.{_≡_};
 ghost use Prim.Native.Nat.{_≤_, _<_};
 ghost use lib.Dec.{eqb};
 ghost use lib.ListN.{length};
-ghost use Rattle.definitions.specs.Lists.{falls};
 ghost use Rattle.definitions.specs.Numbers.{zeroᶠ, total};
 ghost use Rattle.definitions.specs.Refusal.{resultLeft};
 ghost use Rattle.definitions.specs.Matrix.{csr, maxRows, maxEntries, structureOf, validOf, stored as storedFrom, valuesWhere};
 ghost use Rattle.definitions.specs.Diagonal.{diagonalOf, diagonalCall, diagonalLeft};
 ghost use Rattle.definitions.specs.Answers.{answerOf};
-ghost use Rattle.csr32.specs.Rows.{Rows, outside, unreal};
+ghost use Rattle.csr32.specs.Rows.{Rows, unreal};
 ghost use Rattle.csr32.specs.Found.{some};
 
-// Whether some pointer is above the one after it. The loop does not leave early: so the compiler takes several numbers at once.
-pub fn pointer_falls(row_ptr: &[u32]) -> bool
-    ensures { λ r. ⌜ r ≡ falls (now («row_ptr» .entry)) ⌝ }
-{
-    let mut found = false;
-    let mut i: usize = 1;
-    while i < row_ptr.len() {
-        if row_ptr[i] < row_ptr[i - 1] {
-            found = true;
-        }
-        i += 1;
-    }
-    found
-}
-
-// Whether some number is not below top. Again the loop does not leave early.
-fn reaches(numbers: &[u32], top: u32) -> bool
-    ensures { λ r. ⌜ r ≡ outside top (now (numbers .entry)) ⌝ }
-{
-    let mut found = false;
-    let mut i: usize = 0;
-    while i < numbers.len() {
-        if top <= numbers[i] {
-            found = true;
-        }
-        i += 1;
-    }
-    found
-}
-
-// The same for a bound of any size. None is found for one beyond 32 bits.
-fn reaches_far(numbers: &[u32], top: usize) -> bool
-    ensures { λ r. ⌜ r ≡ outside top (now (numbers .entry)) ⌝ }
-{
-    let mut i: usize = 0;
-    while i < numbers.len() {
-        if top <= wide(numbers[i]) {
-            return true;
-        }
-        i += 1;
-    }
-    false
-}
-
-// Whether some column is not below cols.
-pub fn column_outside(col_idx: &[u32], cols: usize) -> bool
-    ensures { λ r. ⌜ r ≡ outside cols (now («col_idx» .entry)) ⌝ }
-{
-    if cols <= 0xffff_ffff {
-        reaches(col_idx, cols as u32)
-    } else {
-        reaches_far(col_idx, cols)
-    }
-}
-
-// Whether some value is a NaN or an infinity. Again the loop does not leave early.
+// Whether some value is a NaN or an infinity. The loop does not leave early: so the compiler takes several numbers at once.
 fn value_not_finite(values: &[f64]) -> bool
     ensures { λ r. ⌜ r ≡ unreal (now (values .entry)) ⌝ }
 {
@@ -120,10 +64,10 @@ pub fn structure(
     if wide(row_ptr[rows]) != values.len() {
         return Answer::Refused(Refusal::LastPointer);
     }
-    if pointer_falls(row_ptr) {
+    if numbers::falls(row_ptr) {
         return Answer::Refused(Refusal::PointerFalls);
     }
-    if column_outside(col_idx, cols) {
+    if numbers::reaches(col_idx, cols) {
         return Answer::Refused(Refusal::ColumnOutside);
     }
     Answer::Accepted

@@ -3,13 +3,14 @@ use mathlib.Core.Path.{_≡_, refl, sym, ap, _∙_, subst}
 use mathlib.Core.Bool.{Bool, true, false, not, _||_}
 use mathlib.Core.List.{List, [], _∷_, flatMap}
 use Prim.Native.Nat.{ℕ, zero, suc, _+_, _-_, _≤_, _<_}
-use native.Mathlib.Nat.{not-suc-le-zero, zero-lt-suc, le-of-suc-le-suc, le-refl, le-trans}
+use native.Mathlib.Nat.{zero-lt-suc, le-refl, le-trans}
 use native.Mathlib.Omega.{arith}
-use lib.Dec.{T, eqb, ltb, eqb→eq, nltb→le, eqb·suc-zero, eqb·zero-suc}
+use lib.Dec.{T, eqb, eqb→eq, eqb·suc-zero, eqb·zero-suc}
 use lib.Ieee.Fits.{eq→eqb}
 use lib.ListN.{length, getD, length-append}
 use Rattle.definitions.specs.Lists.{tab, keep, any, falls}
 use Rattle.laws.proofs.Lists.{up-lt}
+use Rattle.laws.proofs.Scans.{no-falls}
 
 abbrev one : Bool → ℕ
 one true = 1
@@ -97,19 +98,11 @@ keep-count p f n xs h = subst (λ (x : ℕ). x ≤ length xs) (sym (keep-tally p
 -- ---- rows no longer than the steps of rising numbers, and one
 
 pub rises-at : (xs : List ℕ) (i : ℕ) → T (not (falls xs)) → suc i < length xs → getD xs i 0 ≤ getD xs (suc i) 0
-unfolding falls
-rises-at [] i t l = absurd (not-suc-le-zero l)
-rises-at (x ∷ []) i t l = absurd (not-suc-le-zero (le-of-suc-le-suc l))
-rises-at (x ∷ (y ∷ ys)) zero t l = go (ltb y x) t (nltb→le y x)
+rises-at xs i t l = no-falls xs (go (falls xs) t) i l
   where
-    go : (b : Bool) → T (not (b || falls (y ∷ ys))) → (T (not b) → x ≤ y) → x ≤ y
-    go true u f = absurd u
-    go false u f = f tt
-rises-at (x ∷ (y ∷ ys)) (suc i) t l = rises-at (y ∷ ys) i (go (ltb y x) t) (le-of-suc-le-suc l)
-  where
-    go : (b : Bool) → T (not (b || falls (y ∷ ys))) → T (not (falls (y ∷ ys)))
+    go : (b : Bool) → T (not b) → b ≡ false
     go true u = absurd u
-    go false u = u
+    go false u = refl
 
 pub rows-within : {A : Type 0} (f : ℕ → List A) (p : ℕ → ℕ) (n : ℕ) → ((i : ℕ) → i < n → p i ≤ p (suc i)) → ((i : ℕ) → i < n → length (f i) ≤ suc (p (suc i) - p i))
     → (length (flatMap (λ row. row) (tab f n)) ≤ n + (p n - p 0)) × (p 0 ≤ p n)

@@ -1,4 +1,4 @@
-// Small tests on floats and on lengths, a quotient, and lists cleared and copied: what every stage uses.
+// Small tests on floats and on lengths, a quotient, and lists cleared, copied and scanned: what every stage uses.
 ghost use mathlib.Core.Path.{_≡_};
 ghost use mathlib.Core.Bool.{_&&_};
 ghost use Prim.Native.Nat.{_/_};
@@ -7,6 +7,12 @@ ghost use lib.ListN.{length, replicate};
 ghost use lib.Ieee.Scale.{finite as isFinite};
 ghost use Rattle.definitions.specs.Numbers.{zeroᶠ, magnitude as magnitudeOf, larger as largerOf, usable as usableOf, above as aboveOf};
 ghost use Rattle.numbers.specs.Copied.{copied};
+
+mod scan;
+
+pub use scan::falls;
+pub use scan::largest;
+pub use scan::reaches;
 
 // Neither a NaN nor an infinity.
 pub fn finite(x: f64) -> bool

@@ -100,7 +100,7 @@ fn wide(x: u32) -> u64
 fn all_below(xs: &[u32], bound: u64) -> bool
     ensures { λ r. ⌜ r ≡ all (λ k. ltb k bound) (now (xs .entry)) ⌝ }
 {
-    !csr32::column_outside(xs, bound as usize)
+    !numbers::reaches(xs, bound as usize)
 }
 
 fn rows_fit(ptr: &[u32], idx: &[u32], rows: usize, count: u64, c: u64) -> bool
@@ -108,7 +108,7 @@ fn rows_fit(ptr: &[u32], idx: &[u32], rows: usize, count: u64, c: u64) -> bool
     ensures { λ r. ⌜ r ≡ rowsFit (now (ptr .entry)) (now (idx .entry)) rows count c ⌝ }
 {
     if ptr[0] == 0 {
-        if csr32::pointer_falls(ptr) {
+        if numbers::falls(ptr) {
             return false;
         }
         if wide(ptr[rows]) == count {

@@ -1,15 +1,13 @@
 -- The checks that follow those of the matrix: the answer at each return, and what an accepted call knows.
-use Prim.Native.Nat.{ℕ, zero, suc, _+_, _*_, _/_, _%_, _<_, _≤_}
-use mathlib.Core.Path.{_≡_, refl}
-use mathlib.Core.Bool.{Bool, true, false, not, _||_}
-use mathlib.Core.List.{List, [], _∷_}
+use Prim.Native.Nat.{ℕ, _+_, _*_, _/_, _%_, _<_, _≤_}
+use mathlib.Core.Path.{_≡_}
+use mathlib.Core.Bool.{true, false, not}
+use mathlib.Core.List.{List}
 use native.Mathlib.Omega.{arith}
-use native.Mathlib.Numerals.{add-one}
 use native.Mathlib.Nat.{div-add-mod', mod-lt, div-lt-iff-lt-mul, mul-le-mul-right}
 use lib.Dec.{eqb, leb}
-use lib.ListN.{length, getD, drop}
-use lib.Seq.{drop-cons, drop-length}
-use borrow.Author.Tests.{eq-eqb, ne-eqb, le-leb, lt-leb, eqb-true, leb-true, leb-false, not-true}
+use lib.ListN.{length, getD}
+use borrow.Author.Tests.{eq-eqb, ne-eqb, le-leb, lt-leb, eqb-true, leb-true, not-true}
 use Rattle.definitions.specs.Lists.{any}
 use Rattle.definitions.specs.Refusal.{require, _>>=_}
 use Rattle.definitions.specs.Answers.{answerOf}
@@ -20,8 +18,9 @@ use Rattle.definitions.specs.declared.Refusal.the-variants.{NotSquare, BlockSiz
 use Rattle.definitions.specs.declared.Answer.the-variants.{Accepted, Refused}
 use Rattle.csr32.specs.Calls.{accepted-done}
 use Rattle.laws.proofs.Tests.{both-true}
+use Rattle.laws.proofs.Scans.{all-below}
 use Rattle.laws.proofs.Outcomes.{test-true, last-true}
-use Rattle.laws.specs.Bounds.{Grouped, Below}
+use Rattle.laws.specs.Bounds.{Grouped}
 use Rattle.transfer.specs.Call.{shapeChecked, groupsChecked}
 
 -- ---- 9, 10, 12, 13
@@ -94,20 +93,6 @@ module _ (rows entries size : ℕ) (ids : List ℕ) (count diagonal ints floats 
             unfolding groupsChecked require _>>=_ answerOf
             groups-passed h = rw (le-leb (count * size) maxCoarse small, le-leb (2 * rows + entries + 1 + 2 * (count * size)) ints wide, le-leb (rows + entries + count * size) floats long, eq-eqb diagonal rows full, eq-eqb (length ids) (rows / size) each, h)
 
--- some id is outside: what is left decides
-module _ (groups : ℕ) (ids : List ℕ) (i : ℕ) where
-  pub id-found : i < length ids → groups ≤ getD ids i 0 → any (λ g. leb groups g) (drop i ids) ≡ true
-  unfolding any
-  id-found h l = let e = le-leb groups (getD ids i 0) l in rw (drop-cons ids i 0 h, e)
-
-  pub id-passed : i < length ids → getD ids i 0 < groups → any (λ g. leb groups g) (drop (i + 1) ids) ≡ any (λ g. leb groups g) (drop i ids)
-  unfolding any
-  id-passed h l = let e = lt-leb groups (getD ids i 0) l in rw (drop-cons ids i 0 h, e, add-one)
-
-  pub id-end : i ≡ length ids → any (λ g. leb groups g) (drop i ids) ≡ false
-  unfolding any
-  id-end e = rw (e, drop-length ids)
-
 -- ---- what passed checks say
 
 pub shape-facts : (rows cols entries size ints floats : ℕ) → answerOf (shapeChecked rows cols entries size ints floats) ≡ Accepted → (cols ≡ rows) × (1 ≤ size) × (size ≤ 8) × (rows % size ≡ 0)
@@ -118,20 +103,6 @@ shape-facts rows cols entries size ints floats h =
     let s = both-true (leb 1 size) (leb size maxBlock) (p2 .0) in
     let p3 = test-true _ _ _ _ (p2 .1) in
     (eqb-true _ _ (p1 .0), leb-true _ _ (s .0), leb-true _ _ (s .1), eqb-true _ _ (p3 .0))
-
-none-any : (groups : ℕ) (xs : List ℕ) → any (λ g. leb groups g) xs ≡ false → Below groups xs
-unfolding any
-none-any groups [] e k h = absurd (omega arith)
-none-any groups (x ∷ xs) e zero h = leb-false groups x (left (leb groups x) (any (λ g. leb groups g) xs) e)
-  where
-    left : (b c : Bool) → (b || c) ≡ false → b ≡ false
-    left false c e = refl
-    left true c e = e
-none-any groups (x ∷ xs) e (suc k) h = none-any groups xs (right (leb groups x) (any (λ g. leb groups g) xs) e) k (omega arith)
-  where
-    right : (b c : Bool) → (b || c) ≡ false → c ≡ false
-    right false c e = e
-    right true c e = cc
 
 -- a row's id, and its coarse column
 within-law : (id size groups r : ℕ) → id < groups → r < size → id * size + r < groups * size
@@ -148,7 +119,7 @@ groups-facts rows entries size ids groups diagonal ints floats some whole h =
     let s = both-true (eqb (length ids) (rows / size)) (not (any (λ g. leb groups g) ids)) (last-true _ _ (p3 .1)) in
     let small : groups * size ≤ 2_048 = leb-true _ _ (p1 .0) in
     let long : length ids ≡ rows / size = eqb-true _ _ (s .0) in
-    let below = none-any groups ids (not-true _ (s .1)) in
+    let below = all-below groups ids (not-true _ (s .1)) in
     let full : rows / size * size ≡ rows = omega (arith, div-add-mod' rows size, whole) in
     let known : (i : ℕ) → i < rows → i / size < length ids = λ i l. rw long (div-lt-iff-lt-mul some .1 (rw full l)) in (
       eqb-true _ _ (p3 .0),

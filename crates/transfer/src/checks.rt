@@ -3,11 +3,8 @@ use definitions::Answer;
 use definitions::MAX_BLOCK;
 use definitions::MAX_COARSE;
 use definitions::Refusal;
-use numbers::wide;
 ghost use mathlib.Core.Path.{_≡_};
 ghost use Prim.Native.Nat.{_≤_};
-ghost use lib.Dec.{leb};
-ghost use Rattle.definitions.specs.Lists.{any};
 ghost use Rattle.definitions.specs.Block.{maxBlock};
 ghost use Rattle.definitions.specs.Matrix.{maxRows, maxEntries};
 ghost use Rattle.definitions.specs.Answers.{answerOf};
@@ -45,20 +42,6 @@ pub(crate) fn shape(
     Answer::Accepted
 }
 
-// Whether some id is not below the number of groups.
-fn id_outside(ids: &[u32], groups: usize) -> bool
-    ensures { λ r. ⌜ r ≡ any (λ g. leb groups g) (now (ids .entry)) ⌝ }
-{
-    let mut i: usize = 0;
-    while i < ids.len() {
-        if groups <= wide(ids[i]) {
-            return true;
-        }
-        i += 1;
-    }
-    false
-}
-
 pub(crate) fn groups(
     rows: usize,
     entries: usize,
@@ -90,7 +73,7 @@ pub(crate) fn groups(
     if ids.len() != rows / size {
         return Answer::Refused(Refusal::SetupMisfit);
     }
-    if id_outside(ids, count) {
+    if numbers::reaches(ids, count) {
         return Answer::Refused(Refusal::SetupMisfit);
     }
     Answer::Accepted

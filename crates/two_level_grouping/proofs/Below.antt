@@ -1,10 +1,9 @@
 -- Every neighbour that a node lists is a node.
-use mathlib.Core.Path.{_≡_, refl}
+use mathlib.Core.Path.{_≡_}
 use mathlib.Core.Bool.{Bool, true, false, not, _&&_}
 use mathlib.Core.List.{List, _∷_}
 use Prim.Native.Nat.{ℕ, _<_, _/_}
 use lib.Dec.{leb, eqb}
-use borrow.Author.Tests.{lt-leb}
 use Rattle.definitions.specs.Lists.{any, joinedLists}
 use Rattle.definitions.specs.Matrix.{Matrix}
 use Rattle.definitions.specs.Links.{nodeEntries}
@@ -12,6 +11,7 @@ use Rattle.definitions.specs.Neighbours.{Neighbour, neighboursOf, strength, str
 use Rattle.definitions.specs.declared.TwoLevelAggregation.{TwoLevelAggregation}
 use Rattle.definitions.specs.declared.TwoLevelAggregation.the-variants.{Contiguous, Graph, StrongGraph}
 use Rattle.laws.proofs.Lists.{Each, none, more, each-keep, each-upTo, each-map, each-tab, each-flatMap}
+use Rattle.laws.proofs.Scans.{below-none}
 
 inserted-each : {P : Neighbour → Type 0} (x : Neighbour) {ys : List Neighbour} → P x → Each P ys → Each P (inserted x ys)
 unfolding inserted
@@ -38,12 +38,7 @@ module _ (a : Matrix) (size nodes v : ℕ) where
   list-below Graph = plain-below
   list-below StrongGraph = each-map (λ x. x .node) (sorted-each (each-map (λ w. record { node = w; strong = strength a size v w }) plain-below))
 
-none-outside : (nodes : ℕ) {xs : List ℕ} → Each (λ w. w < nodes) xs → any (λ w. leb nodes w) xs ≡ false
-unfolding any
-none-outside nodes none = refl
-none-outside nodes (more {x = x} {xs = xs} h k) = rw (lt-leb nodes x h) (none-outside nodes k)
-
 pub lists-inside : (k : TwoLevelAggregation) (a : Matrix) (size nodes : ℕ) → any (λ w. leb nodes w) (joinedLists (neighbourLists k a size nodes)) ≡ false
 unfolding neighbourLists
 lists-inside k a size nodes =
-    none-outside nodes (each-flatMap (λ row. row) (each-tab (listFor k a size nodes) nodes (λ v h. list-below a size nodes v k)))
+    below-none nodes (each-flatMap (λ row. row) (each-tab (listFor k a size nodes) nodes (λ v h. list-below a size nodes v k)))

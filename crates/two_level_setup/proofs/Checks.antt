@@ -26,7 +26,8 @@ use Rattle.two_level_setup.specs.Contracts.{Leaves, Zeroed}
 use Rattle.two_level_setup.specs.Asking.{Sized, Judged, judgedFor}
 use Rattle.two_level_setup.proofs.Composition.{setup-splits}
 use Rattle.two_level_setup.proofs.Composition.{refused-is as parts-refused, built-is as parts-built}
-use Rattle.two_level_setup.proofs.Clearing.{clears-all, clears-refused}
+use Rattle.laws.proofs.Clearing.{clears-refused}
+use Rattle.two_level_setup.proofs.Clearing.{clears-all}
 use Rattle.two_level_setup.proofs.Asking.{by-outcome, judged-valid}
 
 -- ---- building, and clearing after a refusal

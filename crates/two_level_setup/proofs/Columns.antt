@@ -9,9 +9,8 @@ use lib.Dec.{eqb}
 use lib.Seq.{slice, length-take-le}
 use lib.ListN.{length, getD, set, take, drop, length-set}
 use lib.Ieee.{Float, ne}
-use borrow.Author.Tests.{lt-leb}
 use borrow.Rule.Slice.PartMut.{mid-len}
-use Rattle.definitions.specs.Lists.{tab, upTo, between, keep, any}
+use Rattle.definitions.specs.Lists.{tab, upTo, between, keep}
 use Rattle.definitions.specs.Numbers.{zeroᶠ, total}
 use Rattle.definitions.specs.Refusal.{done}
 use Rattle.definitions.specs.Matrix.{Matrix, Entry, entriesOf, rowOf, valuesWhere, validOf}
@@ -20,7 +19,7 @@ use Rattle.definitions.specs.Coarse.{constantTerms, constantEntry}
 use Rattle.definitions.specs.Setup.{maxCoarse}
 use Rattle.laws.proofs.Lists.{Each, none, more, each-imp, each-take, each-drop, each-by, each-at, each-zipWith, each-upTo, each-tab, tab-cong, getD-tab}
 use Rattle.laws.proofs.Growing.{tab-none, tab-more, tab-all}
-use Rattle.csr32.specs.Rows.{outside, rows-of}
+use Rattle.csr32.specs.Rows.{rows-of}
 use Rattle.two_level_setup.specs.Contracts.{Listed}
 
 -- ---- lists by test
@@ -33,11 +32,6 @@ keep-cong {A = A} p q (more {x = x} {xs = xs} h t) = ap (λ (b : Bool). elim b [
 where-same : (f g : ℕ → ℕ) (j : ℕ) {row : List Entry} → Each (λ e. f (e .col) ≡ g (e .col)) row → valuesWhere (λ k. eqb (f k) j) row ≡ valuesWhere (λ k. eqb (g k) j) row
 unfolding valuesWhere
 where-same f g j h = ap (λ es. map (λ e. e .value) es) (keep-cong (λ e. eqb (f (e .col)) j) (λ e. eqb (g (e .col)) j) (each-imp (λ e q. rw q) h))
-
-pub none-outside : (n : ℕ) {xs : List ℕ} → Each (λ x. x < n) xs → outside n xs ≡ false
-unfolding any
-none-outside n none = refl
-none-outside n (more {x = x} h k) = rw (lt-leb n x h) (none-outside n k)
 
 -- ---- numbers of rows and nodes
 

@@ -4,13 +4,13 @@ use mathlib.Core.Bool.{Bool, true, false, not}
 use mathlib.Core.List.{List, [], _++_, map, zipWith, append-nil, append-assoc}
 use Prim.Native.Nat.{ℕ, zero, suc, _+_, _-_, _*_, _/_, _%_, _≤_, _<_}
 use native.Mathlib.Omega.{arith}
-use lib.Dec.{T}
+use lib.Dec.{T, leb}
 use lib.Seq.{slice, take-at, drop-at, length-take-le}
 use native.Mathlib.Decide.{decLt}
 use lib.ListN.{length, take, drop, replicate, getD, List·getD-eq-default}
 use lib.Ieee.{Float}
 use borrow.Author.Tests.{le-leb, eq-eqb}
-use Rattle.definitions.specs.Lists.{tab, padded, between, square, pointersFrom, falls}
+use Rattle.definitions.specs.Lists.{tab, padded, between, square, pointersFrom, any, falls}
 use Rattle.definitions.specs.Numbers.{zeroᶠ}
 use Rattle.definitions.specs.Refusal.{Outcome, done, resultLeft, workLeft}
 use Rattle.definitions.specs.Matrix.{Matrix, Entry, maxRows, structureOf, rowOf}
@@ -20,18 +20,19 @@ use Rattle.definitions.specs.Setup.{coarseEntry, transferInts, transferFloats, 
 use Rattle.definitions.specs.declared.Setup.{Setup}
 use Rattle.definitions.specs.declared.TwoLevelBasis.the-variants.{PiecewiseConstant, JacobiSmoothed}
 use Rattle.definitions.specs.declared.Refusal.the-variants.{TooLarge, NotSquare, BlockSize, NotMultiple, CoarseTooLarge, CoarseListTooShort, SetupMisfit}
+use Rattle.laws.proofs.Scans.{below-none}
 use Rattle.laws.proofs.Lists.{Each, length-tab, each-map, each-flatMap, each-imp, part-mid}
 use Rattle.laws.proofs.Csr.{columnsOf, numbersOf, pointers-length, pointers-first, pointers-last, pointers-rise, columns-length, values-length, row-back}
 use Rattle.laws.proofs.SetupLists.{pointers-read, columns-read}
 use Rattle.csr32.specs.Calls.{goes-on, passed}
-use Rattle.csr32.specs.Rows.{outside, valid-structure}
+use Rattle.csr32.specs.Rows.{valid-structure}
 use Rattle.coarse_matrix.specs.Calls.{constantChecks, constantChecked, constantCoarseCall, transferFits, galerkinChecks, galerkinChecked, galerkinCoarseCall}
 use Rattle.two_level_setup.specs.Stages.{Parts, matrixOf}
 use Rattle.two_level_setup.specs.Fit.{MatrixFit}
 use Rattle.two_level_setup.specs.Contracts.{roomIn, Holds, Weighted, Weighed, Listed, MatrixStage}
 use Rattle.two_level_setup.proofs.Padding.{padded-front}
 use Rattle.two_level_setup.proofs.Lending.{put-zeros}
-use Rattle.two_level_setup.proofs.Columns.{whole-nodes, ids-small, none-outside, listed-made, listed-below, constant-listed}
+use Rattle.two_level_setup.proofs.Columns.{whole-nodes, ids-small, listed-made, listed-below, constant-listed}
 
 -- rows laid end to end read back, those past the end as well
 row-all : (rows : List (List Entry)) (i : ℕ) → rowOf (pointersFrom 0 rows) (columnsOf rows) (numbersOf rows) i ≡ getD rows i []
@@ -99,7 +100,7 @@ module _ (a : Matrix) (s : Setup) (ints : List ℕ) (floats : List Float) (workI
       ∙ goes-on _ tt _ (passed _ NotMultiple (eq-eqb (a .rows % 1) 0 z))
       ∙ goes-on _ tt _ (passed _ (CoarseTooLarge (c * 1)) (le-leb (c * 1) 2048 (rw one (w .small))))
       ∙ goes-on _ tt _ (passed _ (CoarseListTooShort (c * 1)) (rw one (le-leb (c * c) (length workFloats) (omega (arith, w .workFloats)))))
-      ∙ passed _ SetupMisfit (rw (eq-eqb (length (listed ids)) (a .rows / 1) long, none-outside c below)))
+      ∙ passed _ SetupMisfit (rw (eq-eqb (length (listed ids)) (a .rows / 1) long, below-none c below)))
       ∙ ap (λ k. done (averagedSquare k (square k (constantEntry a (coarseColumn 1 (listed ids)))))) one
       ∙ ap (λ f. done (averagedSquare c (square c f))) (constant-listed (s .block) ids (a .rows) a (f .valid) (f .square) refl)
 
@@ -134,7 +135,7 @@ module _ (a : Matrix) (s : Setup) (ints : List ℕ) (floats : List Float) (workI
       let l : length (pointersFrom 0 ws) ≡ a .rows + 1 = pointers-length 0 ws ∙ rw (v .many) (omega arith) in
       let k : length (columnsOf ws) ≡ length (numbersOf ws) = columns-length ws ∙ sym (values-length ws) in
       let z : getD (pointersFrom 0 ws) (a .rows) 0 ≡ length (numbersOf ws) = rw (← v .many) (pointers-last 0 0 ws ∙ plain _ ∙ sym (values-length ws)) in
-      let out : outside c (columnsOf ws) ≡ false = none-outside c (each-flatMap (λ row. map (λ e. e .col) row) (each-imp (λ row h. each-map (λ e. e .col) h) (v .below))) in
+      let out : any (λ k. leb c k) (columnsOf ws) ≡ false = below-none c (each-flatMap (λ row. map (λ e. e .col) row) (each-imp (λ row h. each-map (λ e. e .col) h) (v .below))) in
       rw (
         eq-eqb (length (pointersFrom 0 ws)) (a .rows + 1) l,
         eq-eqb (length (columnsOf ws)) (length (numbersOf ws)) k,

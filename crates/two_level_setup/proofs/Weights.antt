@@ -24,6 +24,7 @@ use Rattle.definitions.specs.declared.TransferAnswer.the-variants.{Count, Refus
 use Rattle.definitions.specs.declared.TwoLevelBasis.the-variants.{JacobiSmoothed}
 use Rattle.definitions.specs.declared.Refusal.{Refusal}
 use Rattle.definitions.specs.declared.Refusal.the-variants.{TooLarge, NotSquare, BlockSize, NotMultiple, ListTooShort, CoarseTooLarge, CoarseListTooShort, WrongLength, SetupMisfit}
+use Rattle.laws.proofs.Scans.{below-none}
 use Rattle.laws.proofs.Lists.{Each, each-tab, each-keep, length-tab, part-mid}
 use Rattle.laws.proofs.Csr.{columnsOf, numbersOf, pointers-length, columns-length, values-length}
 use Rattle.laws.proofs.Counting.{rows-within}
@@ -39,7 +40,7 @@ use Rattle.two_level_setup.specs.Fit.{Ample}
 use Rattle.two_level_setup.specs.Contracts.{roomIn, Holds, Begun, Weighted, Listed, ColumnsPlaced, MovedInts, MovedFloats, beside, WeightsStage}
 use Rattle.two_level_setup.proofs.Padding.{padded-none, padded-front, padded-all, padded-back, padded-join, padded-past, copied-longer, tail-is}
 use Rattle.two_level_setup.proofs.Lending.{padded-full, put-padded, tail-cleared}
-use Rattle.two_level_setup.proofs.Columns.{whole-nodes, ids-small, none-outside, listed-made, listed-below, transfer-listed}
+use Rattle.two_level_setup.proofs.Columns.{whole-nodes, ids-small, listed-made, listed-below, transfer-listed}
 use Rattle.two_level_setup.proofs.FineParts.{no-rows, no-weights}
 
 map-over : {B : Type 0} (h : Entry → B) (xs ys : List Entry) → map h (xs ++ ys) ≡ map h xs ++ map h ys
@@ -113,7 +114,7 @@ module _ (a : Matrix) (s : Setup) (damping : Float) (ints : List ℕ) (floats : 
       ∙ goes-on _ tt _ (passed _ (CoarseTooLarge (s .coarse * 1)) (le-leb (s .coarse * 1) 2048 (rw c (w .small))))
       ∙ goes-on _ tt _ (passed _ (CoarseListTooShort (s .coarse * 1)) (rw (ints-long, floats-long, c, le-leb (2 * a .rows + length (a .values) + 1 + 2 * s .coarse) fewInts (omega arith), le-leb (a .rows + length (a .values) + s .coarse) fewFloats (omega arith))))
       ∙ goes-on _ tt _ (passed _ (WrongLength (a .rows) (length d)) (eq-eqb (length d) (a .rows) ld))
-      ∙ passed _ SetupMisfit (rw (eq-eqb (length (listed ids)) (a .rows / 1) n, none-outside (s .coarse) below)))
+      ∙ passed _ SetupMisfit (rw (eq-eqb (length (listed ids)) (a .rows / 1) n, below-none (s .coarse) below)))
       ∙ ap (λ k. done (transferOf a d damping 1 (listed ids) k)) c ∙ ap done (transfer-listed (s .block) ids (a .rows) a (f .valid) (f .square) refl d damping (s .coarse))
 
   few-rows : (d : List Float) (ids : List ℕ) → length (joinedLists (rowsOf d ids)) ≤ a .rows + length (a .values)

@@ -16,11 +16,12 @@ use Rattle.definitions.specs.declared.Answer.the-variants.{Accepted, Refused}
 use Rattle.definitions.specs.declared.Refusal.{Refusal}
 use Rattle.definitions.specs.declared.Refusal.the-variants.{TooLarge, GroupSize, ListTooShort, NoNode, NeighbourOffsets, NeighbourOutside}
 use Rattle.laws.proofs.Tests.{both-true}
+use Rattle.laws.proofs.Scans.{all-below, no-falls}
 use Rattle.aggregates.specs.Lists.{Lists}
 use Rattle.aggregates.specs.Checked.{Accepts}
 use Rattle.aggregates.specs.Stored.{offsetsAt, neighboursAt, listsAt, roomFor}
 use Rattle.aggregates.specs.Within.{listsCall, withinCall}
-use Rattle.aggregates.proofs.checks.Scan.{rises, all-below, all-4, getD-any}
+use Rattle.aggregates.proofs.checks.Fitting.{all-4, getD-any}
 
 -- five tests in a row
 unfoldable pub ordered : Bool → Bool → Bool → Bool → Bool → Checked
@@ -162,7 +163,7 @@ module _ (nodes size : ℕ) (offsets neighbours : List ℕ) (h : Accepted ≡ an
       record {
         long = omega arith;
         start = getD-any offsets 0 0 1 (omega arith) ∙ eqb-true (getD offsets 0 1) 0 (p .1);
-        rises = λ v k. rises offsets f v (omega arith);
+        rises = λ v k. no-falls offsets f v (omega arith);
         ends = eqb-true (getD offsets nodes 0) (length neighbours) (p .3);
         within = all-below nodes neighbours (not-true (any (λ w. leb nodes w) neighbours) (tests .4));
       }

@@ -38,12 +38,12 @@ returns-7 : tie.Need-returns-7
 returns-7 c = let a = c .before .before .before .before .before .before .before .before .args in (other-ids (a .rows) (a .cols) (a .size) (a .ids .now) (a .groups) (a .lent) (c .before .before .before .before .before .before .if1 .left) (omega arith) (omega arith) (c .before .before .before .if4 .left) (omega arith) (omega arith) (c .if7 .taken), not-accepted SetupMisfit (ConstantFacts (a .rows) (a .cols) (a .size) (a .ids .now) (a .groups) (a .lent)))
 
 returns-8 : tie.Need-returns-8
-returns-8 c = let a = c .before .before .before .before .before .before .before .before .before .before .args in (id-outside (a .rows) (a .cols) (a .size) (a .ids .now) (a .groups) (a .lent) (c .before .before .before .before .before .before .before .before .if1 .left) (omega arith) (omega arith) (c .before .before .before .before .before .if4 .left) (omega arith) (omega arith) (c .before .before .if7 .left) (sym (c .before .column-outside .ensures) ∙ c .if8 .taken), not-accepted SetupMisfit (ConstantFacts (a .rows) (a .cols) (a .size) (a .ids .now) (a .groups) (a .lent)))
+returns-8 c = let a = c .before .before .before .before .before .before .before .before .before .before .args in (id-outside (a .rows) (a .cols) (a .size) (a .ids .now) (a .groups) (a .lent) (c .before .before .before .before .before .before .before .before .if1 .left) (omega arith) (omega arith) (c .before .before .before .before .before .if4 .left) (omega arith) (omega arith) (c .before .before .if7 .left) (sym (c .before .reaches .ensures) ∙ c .if8 .taken), not-accepted SetupMisfit (ConstantFacts (a .rows) (a .cols) (a .size) (a .ids .now) (a .groups) (a .lent)))
 
 returns-9 : tie.Need-returns-9
 returns-9 c =
     let a = c .before .before .before .before .before .before .before .before .before .before .args in
-    let f = all-passed (a .rows) (a .cols) (a .size) (a .ids .now) (a .groups) (a .lent) (c .before .before .before .before .before .before .before .before .if1 .left) (omega arith) (omega arith) (c .before .before .before .before .before .if4 .left) (omega arith) (omega arith) (c .before .before .if7 .left) (sym (c .before .column-outside .ensures) ∙ c .if8 .left) in
+    let f = all-passed (a .rows) (a .cols) (a .size) (a .ids .now) (a .groups) (a .lent) (c .before .before .before .before .before .before .before .before .if1 .left) (omega arith) (omega arith) (c .before .before .before .before .before .if4 .left) (omega arith) (omega arith) (c .before .before .if7 .left) (sym (c .before .reaches .ensures) ∙ c .if8 .left) in
     (f .0, λ _. f .1)
 
 pub constant-checks-spec : {M : Type 1} → statement M

@@ -28,17 +28,17 @@ returns-4 c =
 returns-5 : tie.Need-returns-5
 returns-5 c =
     let a = c .before .before .before .before .before .before .before .before .before .before .before .before .args in
-    (fits-rise (a .rows) (a .c) (a .ptr .now) (a .idx .now) (a .count) (c .before .before .before .before .before .before .before .before .before .if1 .left) (c .before .before .before .before .before .before .before .before .if2 .left) (sym (c .before .before .before .before .before .before .wide .ensures) ∙ c .before .before .before .before .before .if3 .left) (sym (c .before .before .before .wide2 .ensures) ∙ c .before .before .if4 .left) (sym (c .before .pointer-falls .ensures) ∙ c .if5 .taken), never-true (Compressed (a .rows) (a .c) (a .ptr .now) (a .idx .now) (a .count)))
+    (fits-rise (a .rows) (a .c) (a .ptr .now) (a .idx .now) (a .count) (c .before .before .before .before .before .before .before .before .before .if1 .left) (c .before .before .before .before .before .before .before .before .if2 .left) (sym (c .before .before .before .before .before .before .wide .ensures) ∙ c .before .before .before .before .before .if3 .left) (sym (c .before .before .before .wide2 .ensures) ∙ c .before .before .if4 .left) (sym (c .before .falls .ensures) ∙ c .if5 .taken), never-true (Compressed (a .rows) (a .c) (a .ptr .now) (a .idx .now) (a .count)))
 
 returns-6 : tie.Need-returns-6
 returns-6 c =
     let a = c .before .before .before .before .before .before .before .before .before .before .before .before .before .before .args in
-    (fits-below (a .rows) (a .c) (a .ptr .now) (a .idx .now) (a .count) (c .before .before .before .before .before .before .before .before .before .before .before .if1 .left) (c .before .before .before .before .before .before .before .before .before .before .if2 .left) (sym (c .before .before .before .before .before .before .before .before .wide .ensures) ∙ c .before .before .before .before .before .before .before .if3 .left) (sym (c .before .before .before .before .before .wide2 .ensures) ∙ c .before .before .before .before .if4 .left) (sym (c .before .before .before .pointer-falls .ensures) ∙ c .before .before .if5 .left) (sym (c .before .column-outside .ensures) ∙ c .if6 .taken), never-true (Compressed (a .rows) (a .c) (a .ptr .now) (a .idx .now) (a .count)))
+    (fits-below (a .rows) (a .c) (a .ptr .now) (a .idx .now) (a .count) (c .before .before .before .before .before .before .before .before .before .before .before .if1 .left) (c .before .before .before .before .before .before .before .before .before .before .if2 .left) (sym (c .before .before .before .before .before .before .before .before .wide .ensures) ∙ c .before .before .before .before .before .before .before .if3 .left) (sym (c .before .before .before .before .before .wide2 .ensures) ∙ c .before .before .before .before .if4 .left) (sym (c .before .before .before .falls .ensures) ∙ c .before .before .if5 .left) (sym (c .before .reaches .ensures) ∙ c .if6 .taken), never-true (Compressed (a .rows) (a .c) (a .ptr .now) (a .idx .now) (a .count)))
 
 returns-7 : tie.Need-returns-7
 returns-7 c =
     let a = c .before .before .before .before .before .before .before .before .before .before .before .before .before .before .args in
-    let f = fits-all (a .rows) (a .c) (a .ptr .now) (a .idx .now) (a .count) (c .before .before .before .before .before .before .before .before .before .before .before .if1 .left) (c .before .before .before .before .before .before .before .before .before .before .if2 .left) (sym (c .before .before .before .before .before .before .before .before .wide .ensures) ∙ c .before .before .before .before .before .before .before .if3 .left) (sym (c .before .before .before .before .before .wide2 .ensures) ∙ c .before .before .before .before .if4 .left) (sym (c .before .before .before .pointer-falls .ensures) ∙ c .before .before .if5 .left) (sym (c .before .column-outside .ensures) ∙ c .if6 .left) in
+    let f = fits-all (a .rows) (a .c) (a .ptr .now) (a .idx .now) (a .count) (c .before .before .before .before .before .before .before .before .before .before .before .if1 .left) (c .before .before .before .before .before .before .before .before .before .before .if2 .left) (sym (c .before .before .before .before .before .before .before .before .wide .ensures) ∙ c .before .before .before .before .before .before .before .if3 .left) (sym (c .before .before .before .before .before .wide2 .ensures) ∙ c .before .before .before .before .if4 .left) (sym (c .before .before .before .falls .ensures) ∙ c .before .before .if5 .left) (sym (c .before .reaches .ensures) ∙ c .if6 .left) in
     (f .0, λ _. f .1)
 
 pub transfer-fits-spec : {M : Type 1} → statement M

@@ -1,38 +1,9 @@
 -- Each check that passes goes on to the next, and the first that fails gives its cause.
-use Rattle.definitions.specs.Matrix.{structureOf}
+use Rattle.definitions.specs.Matrix.{csr, structureOf}
 use Rattle.csr32.proofs.Causes.{causes, shape-passed}
-use Rattle.definitions.specs.Matrix.{csr}
 use borrow.Author.Needs.{needs}
 use Rattle.csr32.proofs.structure.Statement.{statement}
 use Rattle.csr32.proofs.structure.Tie as tie
-
-returns : tie.Need-returns
-unfolding structureOf
-returns c = search causes depth 14
-
-returns-2 : tie.Need-returns-2
-unfolding structureOf
-returns-2 c = search causes depth 14
-
-returns-3 : tie.Need-returns-3
-unfolding structureOf
-returns-3 c = search causes depth 14
-
-returns-4 : tie.Need-returns-4
-unfolding structureOf
-returns-4 c = search causes depth 14
-
-returns-5 : tie.Need-returns-5
-unfolding structureOf
-returns-5 c = search causes depth 14
-
-returns-6 : tie.Need-returns-6
-unfolding structureOf
-returns-6 c = search causes depth 14
-
-returns-7 : tie.Need-returns-7
-unfolding structureOf
-returns-7 c = search causes depth 14
 
 returns-8 : tie.Need-returns-8
 returns-8 c =
@@ -56,21 +27,22 @@ returns-10 c =
     (search causes depth 14)
 
 pub structure-spec : {M : Type 1} → statement M
+unfolding structureOf
 structure-spec =
     tie.close
     (tie.spec
-    returns
-    returns-2
-    returns-3
+    (λ c. search causes depth 14)
+    (λ c. search causes depth 14)
+    (λ c. search causes depth 14)
     (λ c. search needs)
-    returns-4
-    returns-5
+    (λ c. search causes depth 14)
+    (λ c. search causes depth 14)
     (λ c. search needs)
-    returns-6
+    (λ c. search causes depth 14)
     (λ c. search needs)
     (λ c. search needs)
     (λ c κs. search needs)
-    returns-7
+    (λ c. search causes depth 14)
     (λ c κs. search needs)
     returns-8
     (λ c κs. search needs)

@@ -7,7 +7,7 @@ use lib.ListN.{length, drop}
 use lib.Ieee.{nan}
 use lib.Ieee.Scale.{finite}
 use Rattle.csr32.specs.Rows.{unreal}
-use Rattle.csr32.proofs.Scan.{scan-hit, scan-miss, scan-end}
+use Rattle.numbers.proofs.Passing.{scan-hit, scan-miss, scan-end}
 use borrow.Author.Needs.{needs}
 use Rattle.csr32.proofs.value_not_finite.Statement.{statement}
 use Rattle.csr32.proofs.value_not_finite.Tie as tie

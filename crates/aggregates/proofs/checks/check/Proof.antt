@@ -9,7 +9,7 @@ use Rattle.definitions.specs.Groups.{graphGrouping, listed, noAnchor}
 use Rattle.definitions.specs.Answers.{answerOf}
 use Rattle.definitions.specs.declared.Answer.the-variants.{Accepted}
 use Rattle.aggregates.specs.Within.{listsCall}
-use Rattle.aggregates.proofs.checks.Scan.{both, not-one, not-two}
+use Rattle.aggregates.proofs.checks.Fitting.{both, not-one, not-two}
 use Rattle.aggregates.proofs.checks.Order.{roomy, call-is, room-refused, room-short, room-enough, accepted-few}
 use borrow.Author.Needs.{needs}
 use Rattle.aggregates.proofs.checks.check.Statement.{statement}

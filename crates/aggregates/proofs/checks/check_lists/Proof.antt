@@ -7,7 +7,7 @@ use lib.ListN.{length}
 use borrow.Author.Tests.{le-leb, lt-leb, lt-ltb, le-ltb}
 use Rattle.definitions.specs.Matrix.{maxRows, maxEntries}
 use Rattle.definitions.specs.Groups.{maxGroup}
-use Rattle.aggregates.proofs.checks.Scan.{both, not-one, not-two}
+use Rattle.aggregates.proofs.checks.Fitting.{both, not-one, not-two}
 use Rattle.aggregates.proofs.checks.Order.{large, sized, proper, inside, first-1, first-11, first-27, first-16, first-28, none-found}
 use borrow.Author.Needs.{needs}
 use Rattle.aggregates.proofs.checks.check_lists.Statement.{statement}
@@ -27,7 +27,7 @@ some-ok : (c : tie.Else6) → ltb 0 (c .before .before .before .before .before .
 some-ok c = let a = c .before .before .before .before .before .before .before .before .before .args in lt-ltb 0 (a .nodes) (omega (arith, c .if6 .left))
 
 inside-ok : (c : tie.Else7) → inside (c .before .before .before .before .before .before .before .before .before .before .before .args .nodes) (c .before .before .before .before .before .before .before .before .before .before .before .args .size) (c .before .before .before .before .before .before .before .before .before .before .before .args .offsets .now) (c .before .before .before .before .before .before .before .before .before .before .before .args .neighbours .now) ≡ true
-inside-ok c = let a = c .before .before .before .before .before .before .before .before .before .before .before .args in ap not (sym (c .before .neighbour-outside .ensures) ∙ c .if7 .left)
+inside-ok c = let a = c .before .before .before .before .before .before .before .before .before .before .before .args in ap not (sym (c .before .reaches .ensures) ∙ c .if7 .left)
 
 returns : tie.Need-returns
 returns c = let a = c .before .before .before .args in first-1 (a .nodes) (a .size) (a .offsets .now) (a .neighbours .now) (not-one _ _ (lt-leb (a .nodes) maxRows (c .if1 .taken)))
@@ -48,7 +48,7 @@ returns-6 : tie.Need-returns-6
 returns-6 c = let a = c .before .before .before .before .before .before .before .before .before .args in first-16 (a .nodes) (a .size) (a .offsets .now) (a .neighbours .now) (large-ok (c .before .before .before .before .before)) (sized-ok (c .before .before .before)) (proper-ok (c .before)) (le-ltb 0 (a .nodes) (omega (arith, c .if6 .taken)))
 
 returns-7 : tie.Need-returns-7
-returns-7 c = let a = c .before .before .before .before .before .before .before .before .before .before .before .args in first-28 (a .nodes) (a .size) (a .offsets .now) (a .neighbours .now) (large-ok (c .before .before .before .before .before .before .before)) (sized-ok (c .before .before .before .before .before)) (proper-ok (c .before .before .before)) (some-ok (c .before .before)) (ap not (sym (c .before .neighbour-outside .ensures) ∙ c .if7 .taken))
+returns-7 c = let a = c .before .before .before .before .before .before .before .before .before .before .before .args in first-28 (a .nodes) (a .size) (a .offsets .now) (a .neighbours .now) (large-ok (c .before .before .before .before .before .before .before)) (sized-ok (c .before .before .before .before .before)) (proper-ok (c .before .before .before)) (some-ok (c .before .before)) (ap not (sym (c .before .reaches .ensures) ∙ c .if7 .taken))
 
 returns-8 : tie.Need-returns-8
 returns-8 c = let a = c .before .before .before .before .before .before .before .before .before .before .before .args in none-found (a .nodes) (a .size) (a .offsets .now) (a .neighbours .now) (large-ok (c .before .before .before .before .before .before .before)) (sized-ok (c .before .before .before .before .before)) (proper-ok (c .before .before .before)) (some-ok (c .before .before)) (inside-ok c)

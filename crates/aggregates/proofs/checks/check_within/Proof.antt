@@ -12,7 +12,7 @@ use Rattle.definitions.specs.declared.Answer.the-variants.{Accepted}
 use Rattle.definitions.specs.declared.Refusal.the-variants.{TooLarge}
 use Rattle.aggregates.specs.Stored.{offsetsAt, neighboursAt, listsAt, roomFor}
 use Rattle.aggregates.specs.Within.{listsCall}
-use Rattle.aggregates.proofs.checks.Scan.{not-one}
+use Rattle.aggregates.proofs.checks.Fitting.{not-one}
 use Rattle.aggregates.proofs.checks.Order.{inRoom, within-is, first-1, room-refused, room-short, room-enough, accepted-few}
 use Rattle.aggregates.proofs.checks.Cut.{count-read, count-none, cut-count, cut-lists}
 use borrow.Author.Needs.{needs}

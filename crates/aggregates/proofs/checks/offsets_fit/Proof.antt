@@ -1,7 +1,7 @@
 -- `offsets_fit` makes the four tests in their order.
 use mathlib.Core.Path.{sym, _∙_}
 use native.Mathlib.Omega.{arith}
-use Rattle.aggregates.proofs.checks.Scan.{fit-empty, fit-long, fit-start, fit-falls, fit-end}
+use Rattle.aggregates.proofs.checks.Fitting.{fit-empty, fit-long, fit-start, fit-falls, fit-end}
 use borrow.Author.Needs.{needs}
 use Rattle.aggregates.proofs.checks.offsets_fit.Statement.{statement}
 use Rattle.aggregates.proofs.checks.offsets_fit.Tie as tie
@@ -20,7 +20,7 @@ returns-3 c =
 returns-4 : tie.Need-returns-4
 returns-4 c =
     let a = c .before .before .before .before .before .before .before .args in
-    fit-falls (a .offsets .now) (a .nodes) (a .count) (c .before .before .before .before .before .if1 .left) (c .before .before .before .before .if2 .left) (c .before .before .if3 .left) (sym (c .before .offset-falls .ensures) ∙ c .if4 .taken)
+    fit-falls (a .offsets .now) (a .nodes) (a .count) (c .before .before .before .before .before .if1 .left) (c .before .before .before .before .if2 .left) (c .before .before .if3 .left) (sym (c .before .falls .ensures) ∙ c .if4 .taken)
 
 cast-result : tie.Need-cast-result
 cast-result c = omega (arith, c .shared-slice-known3 .given (c .before .before .before .before .before .before .before .before .args .nodes))
@@ -28,7 +28,7 @@ cast-result c = omega (arith, c .shared-slice-known3 .given (c .before .before .
 returns-5 : tie.Need-returns-5
 returns-5 c =
     let a = c .before .before .before .before .before .before .before .before .args in
-    fit-end (a .offsets .now) (a .nodes) (a .count) (c .before .before .before .before .before .before .if1 .left) (c .before .before .before .before .before .if2 .left) (c .before .before .before .if3 .left) (sym (c .before .before .offset-falls .ensures) ∙ c .before .if4 .left)
+    fit-end (a .offsets .now) (a .nodes) (a .count) (c .before .before .before .before .before .before .if1 .left) (c .before .before .before .before .before .if2 .left) (c .before .before .before .if3 .left) (sym (c .before .before .falls .ensures) ∙ c .before .if4 .left)
 
 pub offsets-fit-spec : {M : Type 1} → statement M
 offsets-fit-spec =

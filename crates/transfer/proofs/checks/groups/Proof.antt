@@ -26,10 +26,10 @@ returns-5 : tie.Need-returns-5
 returns-5 c = let a = c .before .before .before .before .before .before .args in other-ids (a .rows) (a .entries) (a .size) (a .ids .now) (a .count) (a .diagonal) (a .ints) (a .floats) (omega arith) (omega arith) (omega arith) (c .before .if4 .left) (c .if5 .taken)
 
 returns-6 : tie.Need-returns-6
-returns-6 c = let a = c .before .before .before .before .before .before .before .before .args in id-outside (a .rows) (a .entries) (a .size) (a .ids .now) (a .count) (a .diagonal) (a .ints) (a .floats) (omega arith) (omega arith) (omega arith) (c .before .before .before .if4 .left) (c .before .before .if5 .left) (sym (c .before .id-outside .ensures) ∙ c .if6 .taken)
+returns-6 c = let a = c .before .before .before .before .before .before .before .before .args in id-outside (a .rows) (a .entries) (a .size) (a .ids .now) (a .count) (a .diagonal) (a .ints) (a .floats) (omega arith) (omega arith) (omega arith) (c .before .before .before .if4 .left) (c .before .before .if5 .left) (sym (c .before .reaches .ensures) ∙ c .if6 .taken)
 
 returns-7 : tie.Need-returns-7
-returns-7 c = let a = c .before .before .before .before .before .before .before .before .args in groups-passed (a .rows) (a .entries) (a .size) (a .ids .now) (a .count) (a .diagonal) (a .ints) (a .floats) (omega arith) (omega arith) (omega arith) (c .before .before .before .if4 .left) (c .before .before .if5 .left) (sym (c .before .id-outside .ensures) ∙ c .if6 .left)
+returns-7 c = let a = c .before .before .before .before .before .before .before .before .args in groups-passed (a .rows) (a .entries) (a .size) (a .ids .now) (a .count) (a .diagonal) (a .ints) (a .floats) (omega arith) (omega arith) (omega arith) (c .before .before .before .if4 .left) (c .before .before .if5 .left) (sym (c .before .reaches .ensures) ∙ c .if6 .left)
 
 pub groups-spec : {M : Type 1} → statement M
 groups-spec =

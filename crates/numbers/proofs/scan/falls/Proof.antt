@@ -6,16 +6,16 @@ use Prim.Native.Nat.{_-_, _<_}
 use native.Mathlib.Omega.{arith}
 use lib.ListN.{length, drop}
 use Rattle.definitions.specs.Lists.{falls}
-use Rattle.csr32.proofs.Scan.{falls-found, falls-passed, falls-end, went-hit, went-miss, went-end}
+use Rattle.numbers.proofs.Passing.{falls-found, falls-passed, falls-end, went-hit, went-miss, went-end}
 use borrow.Author.Needs.{needs}
-use Rattle.csr32.proofs.pointer_falls.Statement.{statement}
-use Rattle.csr32.proofs.pointer_falls.Tie as tie
+use Rattle.numbers.proofs.scan.falls.Statement.{statement}
+use Rattle.numbers.proofs.scan.falls.Tie as tie
 
 abbrev Inv-loop : tie.InvT-loop
-Inv-loop row-ptr found₀ i₀ found i = (0 < i) × (falls row-ptr ≡ (found || falls (drop (i - 1) row-ptr)))
+Inv-loop list found₀ i₀ found i = (0 < i) × (falls list ≡ (found || falls (drop (i - 1) list)))
 
 abbrev μ-loop : tie.MeasureT-loop
-μ-loop row-ptr found₀ i₀ found i = length row-ptr - i
+μ-loop list found₀ i₀ found i = length list - i
 
 loop-holds : tie.Need-loop-holds Inv-loop μ-loop
 loop-holds c = (omega arith, refl)
@@ -25,15 +25,15 @@ loop-again c =
     let a = c .before .before .before .before .before .args in
     let l = c .before .before .before .before .loop in
     ⊎-elim
-    (λ w. (omega arith, went-hit _ _ (l .found) (l .inv .1) (c .if1 .found) _ (w .1) (falls-found (a .row-ptr .now) (l .i) (l .inv .0) (omega arith) (w .0 .taken))))
-    (λ w. (omega arith, went-miss _ _ (l .found) (l .inv .1) (c .if1 .found) _ (w .1) (falls-passed (a .row-ptr .now) (l .i) (l .inv .0) (omega arith) (w .0 .left))))
+    (λ w. (omega arith, went-hit _ _ (l .found) (l .inv .1) (c .if1 .found) _ (w .1) (falls-found (a .list .now) (l .i) (l .inv .0) (omega arith) (w .0 .taken))))
+    (λ w. (omega arith, went-miss _ _ (l .found) (l .inv .1) (c .if1 .found) _ (w .1) (falls-passed (a .list .now) (l .i) (l .inv .0) (omega arith) (w .0 .left))))
     (c .if1 .came)
 
 returns : tie.Need-returns Inv-loop μ-loop
-returns c = let l = c .before .loop in went-end _ _ (l .found) (l .inv .1) (falls-end (c .before .before .args .row-ptr .now) (l .i) (l .inv .0) (omega arith))
+returns c = let l = c .before .loop in went-end _ _ (l .found) (l .inv .1) (falls-end (c .before .before .args .list .now) (l .i) (l .inv .0) (omega arith))
 
-pub pointer-falls-spec : {M : Type 1} → statement M
-pointer-falls-spec =
+pub falls-spec : {M : Type 1} → statement M
+falls-spec =
     tie.close
     (tie.spec
     Inv-loop

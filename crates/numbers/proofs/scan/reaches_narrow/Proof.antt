@@ -7,17 +7,17 @@ use lib.Dec.{leb}
 use lib.ListN.{length, drop}
 use borrow.Author.Tests.{le-leb, lt-leb}
 use mathlib.Core.Logic.{⊎-elim}
-use Rattle.csr32.specs.Rows.{outside}
-use Rattle.csr32.proofs.Scan.{scan-hit, scan-miss, scan-end}
+use Rattle.definitions.specs.Lists.{any}
+use Rattle.numbers.proofs.Passing.{scan-hit, scan-miss, scan-end}
 use borrow.Author.Needs.{needs}
-use Rattle.csr32.proofs.reaches.Statement.{statement}
-use Rattle.csr32.proofs.reaches.Tie as tie
+use Rattle.numbers.proofs.scan.reaches_narrow.Statement.{statement}
+use Rattle.numbers.proofs.scan.reaches_narrow.Tie as tie
 
 abbrev Inv-loop : tie.InvT-loop
-Inv-loop numbers top found₀ i₀ found i = (i ≤ length numbers) × (outside top numbers ≡ (found || outside top (drop i numbers)))
+Inv-loop list top found₀ i₀ found i = (i ≤ length list) × (any (leb top) list ≡ (found || any (leb top) (drop i list)))
 
 abbrev μ-loop : tie.MeasureT-loop
-μ-loop numbers top found₀ i₀ found i = length numbers - i
+μ-loop list top found₀ i₀ found i = length list - i
 
 loop-holds : tie.Need-loop-holds Inv-loop μ-loop
 loop-holds c = (omega arith, refl)
@@ -27,18 +27,18 @@ loop-again c =
     let a = c .before .before .before .before .args in
     let l = c .before .before .before .loop in
     ⊎-elim
-    (λ w. (omega arith, scan-hit (leb (a .top)) (a .numbers .now) (l .i) (l .found) (l .inv .1) 0 (omega arith) (c .if1 .found) (w .1) (le-leb _ _ (w .0 .taken))))
-    (λ w. (omega arith, scan-miss (leb (a .top)) (a .numbers .now) (l .i) (l .found) (l .inv .1) 0 (omega arith) (c .if1 .found) (w .1) (lt-leb _ _ (w .0 .left))))
+    (λ w. (omega arith, scan-hit (leb (a .top)) (a .list .now) (l .i) (l .found) (l .inv .1) 0 (omega arith) (c .if1 .found) (w .1) (le-leb _ _ (w .0 .taken))))
+    (λ w. (omega arith, scan-miss (leb (a .top)) (a .list .now) (l .i) (l .found) (l .inv .1) 0 (omega arith) (c .if1 .found) (w .1) (lt-leb _ _ (w .0 .left))))
     (c .if1 .came)
 
 returns : tie.Need-returns Inv-loop μ-loop
 returns c =
     let a = c .before .before .args in
     let l = c .before .loop in
-    scan-end (leb (a .top)) (a .numbers .now) (l .i) (l .found) (l .inv .1) (omega arith)
+    scan-end (leb (a .top)) (a .list .now) (l .i) (l .found) (l .inv .1) (omega arith)
 
-pub reaches-spec : {M : Type 1} → statement M
-reaches-spec =
+pub reaches-narrow-spec : {M : Type 1} → statement M
+reaches-narrow-spec =
     tie.close
     (tie.spec
     Inv-loop

@@ -1,68 +1,13 @@
--- A scan that looks at one element a turn: what is left of the list decides.
+-- Tests in a row, and those of `offsets_fit`.
 use mathlib.Core.Path.{_≡_, refl, ap, sym, _∙_}
 use mathlib.Core.Bool.{Bool, true, false, not, _&&_, true≢false}
 use mathlib.Core.List.{List, [], _∷_}
-use Prim.Native.Nat.{ℕ, zero, suc, _+_, _-_, _<_, _≤_}
-use native.Mathlib.Numerals.{add-one}
+use Prim.Native.Nat.{ℕ, zero, suc, _+_, _-_, _<_}
 use native.Mathlib.Omega.{arith}
-use lib.Dec.{eqb, ltb, leb}
-use lib.ListN.{length, getD, drop}
-use lib.Seq.{drop-cons, drop-length}
-use borrow.Author.Tests.{lt-ltb, le-ltb, ltb-false, leb-false, eq-eqb, ne-eqb}
-use Rattle.definitions.specs.Lists.{any, falls}
-use Rattle.laws.proofs.Tests.{both-false}
-
-module _ (f : ℕ → Bool) (xs : List ℕ) (i : ℕ) (h : i < length xs) where
-  pub any-found : f (getD xs i 0) ≡ true → any f (drop i xs) ≡ true
-  unfolding any
-  any-found e = rw (drop-cons xs i 0 h, e)
-
-  pub any-passed : f (getD xs i 0) ≡ false → any f (drop i xs) ≡ any f (drop (i + 1) xs)
-  unfolding any
-  any-passed e = rw (drop-cons xs i 0 h, e, add-one)
-
-pub any-end : (f : ℕ → Bool) (xs : List ℕ) (i : ℕ) → i ≡ length xs → any f (drop i xs) ≡ false
-unfolding any
-any-end f xs i h = rw (h, drop-length xs)
-
-module _ (p : List ℕ) (i : ℕ) (h : i + 1 < length p) where
-  two : drop i p ≡ getD p i 0 ∷ (getD p (i + 1) 0 ∷ drop (suc (i + 1)) p)
-  two = rw (drop-cons p i 0 (omega arith), ← add-one i, drop-cons p (i + 1) 0 h)
-
-  pub falls-found : getD p (i + 1) 0 < getD p i 0 → falls (drop i p) ≡ true
-  unfolding falls
-  falls-found e = rw (two, lt-ltb _ _ e)
-
-  pub falls-passed : getD p i 0 ≤ getD p (i + 1) 0 → falls (drop i p) ≡ falls (drop (i + 1) p)
-  unfolding falls
-  falls-passed e = rw (two, le-ltb _ _ e, drop-cons p (i + 1) 0 h)
-
-pub falls-end : (p : List ℕ) (i : ℕ) → i + 1 ≡ length p → falls (drop i p) ≡ false
-unfolding falls
-falls-end p i h = rw (drop-cons p i 0 (omega arith), ← add-one i, h, drop-length p)
-
-pub falls-none : (p : List ℕ) → length p ≡ 0 → false ≡ falls p
-unfolding falls
-falls-none [] h = refl
-falls-none (x ∷ p) h = absurd (not-zero h)
-  where
-    not-zero : suc (length p) ≡ 0 → ⊥
-    not-zero e = omega arith
-
--- a list that does not fall rises everywhere
-pub rises : (p : List ℕ) → falls p ≡ false → (v : ℕ) → suc v < length p → getD p v 0 ≤ getD p (suc v) 0
-unfolding falls
-rises [] e v h = omega arith
-rises (x ∷ []) e v h = omega arith
-rises (x ∷ (y ∷ p)) e zero h = ltb-false y x (both-false (ltb y x) (falls (y ∷ p)) e .0)
-rises (x ∷ (y ∷ p)) e (suc v) h = rises (y ∷ p) (both-false (ltb y x) (falls (y ∷ p)) e .1) v (omega arith)
-
--- where no element reaches n, each is below it
-pub all-below : (n : ℕ) (xs : List ℕ) → any (λ x. leb n x) xs ≡ false → (k : ℕ) → k < length xs → getD xs k 0 < n
-unfolding any
-all-below n [] e k h = omega arith
-all-below n (x ∷ xs) e zero h = leb-false n x (both-false (leb n x) (any (λ y. leb n y) xs) e .0)
-all-below n (x ∷ xs) e (suc k) h = all-below n xs (both-false (leb n x) (any (λ y. leb n y) xs) e .1) k (omega arith)
+use lib.Dec.{eqb}
+use lib.ListN.{length, getD}
+use borrow.Author.Tests.{eq-eqb, ne-eqb}
+use Rattle.definitions.specs.Lists.{falls}
 
 -- inside a list the default does not matter
 pub getD-any : (l : List ℕ) (i d e : ℕ) → i < length l → getD l i d ≡ getD l i e

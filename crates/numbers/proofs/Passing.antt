@@ -1,25 +1,28 @@
--- A scan that looks at one element a turn: what is left of the list decides.
+-- A pass that looks at one element a turn: what was found, or is found in what is left.
 use mathlib.Core.Path.{_≡_, refl, sym, _∙_}
 use mathlib.Core.Bool.{Bool, true, false, _||_}
-use mathlib.Core.List.{List, [], _∷_}
+use mathlib.Core.List.{List, [], _∷_, foldl-append}
 use Prim.Native.Nat.{ℕ, suc, _+_, _-_, _<_, _≤_}
 use native.Mathlib.Numerals.{add-one}
 use native.Mathlib.Omega.{arith}
-use lib.ListN.{length, getD, drop, length-drop}
-use lib.Seq.{drop-cons, drop-length}
-use borrow.Author.Tests.{lt-ltb, le-ltb}
+use lib.Dec.{leb}
+use lib.ListN.{length, getD, take, drop, length-drop}
+use lib.Seq.{drop-cons, drop-length, take-suc, take-length}
+use lib.Ieee.{Float, nan}
+use borrow.Author.Tests.{lt-ltb, le-ltb, lt-leb}
 use Rattle.definitions.specs.Lists.{any, falls}
+use Rattle.definitions.specs.Numbers.{zeroᶠ, magnitude, larger, largest}
 
 module _ {A : Type 0} (f : A → Bool) (xs : List A) (i : ℕ) (d : A) (h : i < length xs) where
-  pub any-found : f (getD xs i d) ≡ true → any f (drop i xs) ≡ true
+  any-found : f (getD xs i d) ≡ true → any f (drop i xs) ≡ true
   unfolding any
   any-found e = rw (drop-cons xs i d h, e)
 
-  pub any-passed : f (getD xs i d) ≡ false → any f (drop i xs) ≡ any f (drop (i + 1) xs)
+  any-passed : f (getD xs i d) ≡ false → any f (drop i xs) ≡ any f (drop (i + 1) xs)
   unfolding any
   any-passed e = rw (drop-cons xs i d h, e, add-one)
 
-pub any-end : {A : Type 0} (f : A → Bool) (xs : List A) (i : ℕ) → i ≡ length xs → any f (drop i xs) ≡ false
+any-end : {A : Type 0} (f : A → Bool) (xs : List A) (i : ℕ) → i ≡ length xs → any f (drop i xs) ≡ false
 unfolding any
 any-end f xs i h = rw (h, drop-length xs)
 
@@ -75,3 +78,22 @@ short (x ∷ (y ∷ l)) e = absurd (omega arith)
 -- at most one is left
 pub falls-end : (p : List ℕ) (i : ℕ) → 0 < i → length p ≤ i → falls (drop (i - 1) p) ≡ false
 falls-end p i k h = short (drop (i - 1) p) (simp length-drop (omega arith))
+
+-- none reaches a bound that every number is below
+pub none-reaches : (n : ℕ) (xs : List ℕ) → ((k : ℕ) → getD xs k 0 < n) → any (λ x. leb n x) xs ≡ false
+unfolding any
+none-reaches n [] h = refl
+none-reaches n (x ∷ xs) h = rw (lt-leb n x (h 0)) (none-reaches n xs (λ k. h (suc k)))
+
+-- the largest magnitude of the numbers passed
+pub largest-none : (xs : List Float) → zeroᶠ ≡ largest (take 0 xs)
+unfolding largest
+largest-none xs = refl
+
+module _ (xs : List Float) (k : ℕ) (s : Float) (es : s ≡ largest (take k xs)) where
+  pub largest-more : (u t : Float) → k < length xs → u ≡ magnitude (getD xs k nan) → t ≡ larger s u → t ≡ largest (take (k + 1) xs)
+  unfolding largest
+  largest-more u t h eu et = et ∙ rw (add-one, take-suc xs k nan h, foldl-append (λ s x. larger s (magnitude x)) zeroᶠ (take k xs) (getD xs k nan ∷ []), es, eu)
+
+  pub largest-all : k ≡ length xs → s ≡ largest xs
+  largest-all e = rw (e, take-length xs) at es
