@@ -1,32 +1,17 @@
--- The packed factor, a row at a time, and the largest magnitude.
+-- The packed factor, a row at a time.
 use Prim.Native.Nat.{ℕ, suc, _+_, _-_, _<_, _≤_}
-use mathlib.Core.Path.{_≡_, refl, _∙_}
+use mathlib.Core.Path.{_≡_, refl}
 use mathlib.Core.Bool.{true, false}
-use mathlib.Core.List.{List, [], _∷_, foldl-append}
+use mathlib.Core.List.{List}
 use native.Mathlib.Omega.{arith}
 use native.Mathlib.Numerals.{add-one}
-use lib.ListN.{length, getD, set, take}
-use lib.Seq.{take-suc, take-length}
-use lib.Ieee.{Float, nan}
-use Rattle.definitions.specs.Numbers.{zeroᶠ, magnitude, larger, largest, above, rootᶠ}
+use lib.ListN.{set}
+use lib.Ieee.{Float}
+use Rattle.definitions.specs.Numbers.{above, rootᶠ}
 use Rattle.definitions.specs.Factor.{belowDiagonal, rest, factorRows}
 use Rattle.definitions.specs.Refusal.{refused, done}
 use Rattle.definitions.specs.declared.Refusal.the-variants.{CoarsePivot}
 use Rattle.definitions.specs.Coarse.{packed, packedLength, entryIn}
-
--- ---- the largest magnitude
-
-pub largest-none : (m : List Float) → zeroᶠ ≡ largest (take 0 m)
-unfolding largest
-largest-none m = refl
-
-pub largest-more : (m : List Float) (k : ℕ) {s t u : Float} → k < length m → s ≡ largest (take k m) → u ≡ magnitude (getD m k nan) → t ≡ larger s u → t ≡ largest (take (k + 1) m)
-unfolding largest
-largest-more m k h es eu et =
-    et ∙ rw (add-one, take-suc m k nan h, foldl-append (λ s x. larger s (magnitude x)) zeroᶠ (take k m) (getD m k nan ∷ []), es, eu)
-
-pub largest-all : (m : List Float) (k : ℕ) {s : Float} → k ≡ length m → s ≡ largest (take k m) → s ≡ largest m
-largest-all m k e es = rw (e, take-length m) at es
 
 -- ---- the entries of a row, left to right
 

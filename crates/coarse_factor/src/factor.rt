@@ -8,20 +8,13 @@ ghost use Prim.Native.Nat.{ℕ, _+_, _*_, _<_, _≤_};
 ghost use lib.ListN.{length, getD};
 ghost use lib.Ieee.{Float, nan};
 ghost use Rattle.definitions.specs.Lists.{tab};
-ghost use Rattle.definitions.specs.Numbers.{largest, _-ᶠ_, _*ᶠ_, _/ᶠ_};
+ghost use Rattle.definitions.specs.Numbers.{_-ᶠ_, _*ᶠ_, _/ᶠ_};
 ghost use Rattle.definitions.specs.Factor.{belowDiagonal, factorRows};
 ghost use Rattle.definitions.specs.declared.Refusal.the-variants.{CoarsePivot};
 ghost use Rattle.definitions.specs.Coarse.{packed, packedLength, entryIn};
 ghost use Rattle.definitions.specs.Setup.{maxCoarse};
 ghost use Rattle.coarse_factor.specs.Fronts.{lessRow, Fronts, Put};
 ghost use Rattle.coarse_factor.specs.Calls.{outcomeOf};
-
-// The largest magnitude.
-pub(crate) fn scale(m: &[f64]) -> f64
-    ensures { λ r. ⌜ r ≡ largest (now (m .entry)) ⌝ }
-{
-    numbers::largest(m)
-}
 
 // The number of m at a place, NaN where it has none: eight rows may reach past the last.
 fn number_at(m: &[f64], at: usize) -> f64

@@ -25,7 +25,7 @@ fn factor_fitting(c: usize, m: &[f64], lower: &mut [f64]) -> FactorAnswer
     ensures { λ r. ⌜ (r ≡ factorAnswer (largest (now (m .entry))) (coarseFactor c (now (m .entry)))) × (now (lower .exit) ≡ resultLeft zeroᶠ (coarseFactor c (now (m .entry))) (now (lower .entry))) ⌝ }
 {
     zero_floats(lower);
-    let top = factor::scale(m);
+    let top = numbers::largest(m);
     if usable(top) {
         let from = 0;
         let end = c * (c + 1) / 2;

@@ -9,7 +9,7 @@ returns c =
     let a = c .before .before .before .before .before .before .before .before .before .before .before .before .before .before .before .before .args in
     let p = c .before .before .before .before .before .before .before .before .before .before .before .before .before .before .before .before .pre in
     let f = c .before .before .before .before .factor-rows in
-    fitting-done (a .c) (a .m .now) (a .lower .now) (c .before .before .before .before .before .before .before .before .before .before .before .before .zero-floats .last .0) (f .last .1 .0) (c .before .before .before .before .before .before .before .before .before .scale .result) (c .before .before .before .before .before .larger .result) (f .result) (c .before .before .before .before .before .before .before .before .before .scale .ensures) (sym (c .before .before .before .before .before .before .before .before .usable .ensures) ∙ c .before .before .before .before .before .before .before .if1 .taken) (c .before .before .before .before .before .larger .ensures) (p .1)
+    fitting-done (a .c) (a .m .now) (a .lower .now) (c .before .before .before .before .before .before .before .before .before .before .before .before .zero-floats .last .0) (f .last .1 .0) (c .before .before .before .before .before .before .before .before .before .largest .result) (c .before .before .before .before .before .larger .result) (f .result) (c .before .before .before .before .before .before .before .before .before .largest .ensures) (sym (c .before .before .before .before .before .before .before .before .usable .ensures) ∙ c .before .before .before .before .before .before .before .if1 .taken) (c .before .before .before .before .before .larger .ensures) (p .1)
     (c .before .before .before .before .before .before .before .before .before .before .before .before .zero-floats .ensures) (f .ensures .0) (f .ensures .1) (c .enum-told .given .1)
 
 returns-2 : tie.Need-returns-2
@@ -17,13 +17,13 @@ returns-2 c =
     let a = c .before .before .before .before .before .before .before .before .before .before .before .before .before .before .before .before .before .before .before .before .before .args in
     let p = c .before .before .before .before .before .before .before .before .before .before .before .before .before .before .before .before .before .before .before .before .before .pre in
     let f = c .before .before .before .before .before .before .before .before .before .factor-rows in
-    fitting-pivot (a .c) (a .m .now) (a .lower .now) (c .before .before .before .before .before .before .before .before .before .before .before .before .before .before .before .before .before .zero-floats .last .0) (f .last .1 .0) (c .before .before .before .before .before .before .before .before .before .before .before .before .before .before .scale .result) (c .before .before .before .before .before .before .before .before .before .before .larger .result) (f .result) (c .before .before .before .before .before .before .before .before .before .before .before .before .before .before .scale .ensures) (sym (c .before .before .before .before .before .before .before .before .before .before .before .before .before .usable .ensures) ∙ c .before .before .before .before .before .before .before .before .before .before .before .before .if1 .taken) (c .before .before .before .before .before .before .before .before .before .before .larger .ensures) (p .1)
+    fitting-pivot (a .c) (a .m .now) (a .lower .now) (c .before .before .before .before .before .before .before .before .before .before .before .before .before .before .before .before .before .zero-floats .last .0) (f .last .1 .0) (c .before .before .before .before .before .before .before .before .before .before .before .before .before .before .largest .result) (c .before .before .before .before .before .before .before .before .before .before .larger .result) (f .result) (c .before .before .before .before .before .before .before .before .before .before .before .before .before .before .largest .ensures) (sym (c .before .before .before .before .before .before .before .before .before .before .before .before .before .usable .ensures) ∙ c .before .before .before .before .before .before .before .before .before .before .before .before .if1 .taken) (c .before .before .before .before .before .before .before .before .before .before .larger .ensures) (p .1)
     (c .before .before .before .before .before .before .before .before .before .before .before .before .before .before .before .before .before .zero-floats .ensures) (f .ensures .0) (f .ensures .1) _ (c .before .before .zero-floats2 .last .0) (c .before .before .before .before .before .answer .given .1) (c .before .before .zero-floats2 .ensures)
 
 returns-3 : tie.Need-returns-3
 returns-3 c =
     let a = c .before .before .before .before .before .before .before .before .before .args in
-    fitting-scale (a .c) (a .m .now) (a .lower .now) (c .before .before .before .before .before .zero-floats .last .0) (c .before .before .scale .result) (c .before .before .scale .ensures) (sym (c .before .usable .ensures) ∙ c .if1 .left) (c .before .before .before .before .before .zero-floats .ensures)
+    fitting-scale (a .c) (a .m .now) (a .lower .now) (c .before .before .before .before .before .zero-floats .last .0) (c .before .before .largest .result) (c .before .before .largest .ensures) (sym (c .before .usable .ensures) ∙ c .if1 .left) (c .before .before .before .before .before .zero-floats .ensures)
 
 pub factor-fitting-spec : {M : Type 1} → statement M
 factor-fitting-spec =
