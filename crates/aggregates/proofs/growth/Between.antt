@@ -12,7 +12,7 @@ use lib.Seq.{getD-set-same, getD-set-other, set-out}
 use Rattle.definitions.specs.Groups.{free, waiting, growGroup, growGroups, grown, noAnchor}
 use Rattle.aggregates.proofs.growth.Growing.{grow-takes, from-grows, from-passes}
 
-split {ℓ} : {X : Type ℓ} (b : Bool) → (b ≡ true → X) → (b ≡ false → X) → X
+pub split {ℓ} : {X : Type ℓ} (b : Bool) → (b ≡ true → X) → (b ≡ false → X) → X
 split true t f = t refl
 split false t f = f refl
 
