@@ -5,6 +5,6 @@ mod Enqueued
 mod Queued
 mod Pushing
 mod Queue
-mod Seeding
 mod Seeded
+mod Seeding
 pub mod Between

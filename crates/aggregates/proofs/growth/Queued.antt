@@ -1,17 +1,18 @@
--- A node joins the growing group when it is queued: growth so is growth that takes each node in when its turn comes.
+-- A group in which each node joins when it is queued is the group of the definition, in which it joins when its turn comes.
 use mathlib.Core.Path.{_≡_, refl, ap, sym, _∙_}
 use mathlib.Core.Logic.{⊎-elim}
 use mathlib.Core.List.{List, [], _∷_, _++_}
-use Prim.Native.Nat.{ℕ, zero, suc, _+_, _-_, _≤_, _<_}
+use Prim.Native.Nat.{ℕ, zero, suc, _-_, _<_}
 use native.Mathlib.Omega.{arith}
 use borrow.Author.Tests.{eqb-true, eqb-false}
 use lib.Dec.{eqb}
 use lib.ListN.{length, getD, set, length-append}
 use Rattle.definitions.specs.Groups.{free, growGroup, relabelled, noAnchor}
 use Rattle.aggregates.specs.Growth.{enqueued}
-use Rattle.aggregates.proofs.growth.Between.{split, set-cases}
+use Rattle.aggregates.proofs.Appearance.{split}
+use Rattle.aggregates.proofs.growth.Between.{set-cases}
 use Rattle.aggregates.proofs.growth.Growing.{grow-full, grow-ends, grow-skips, grow-takes}
-use Rattle.aggregates.proofs.growth.Enqueued.{enqueued-full, enqueued-none, enqueued-takes, enqueued-skips, enqueued-append, enqueued-free}
+use Rattle.aggregates.proofs.growth.Enqueued.{enqueued-none, enqueued-takes, enqueued-skips, enqueued-append, enqueued-free}
 
 pub relabelled-append : (g : ℕ) (a b ids : List ℕ) → relabelled g (a ++ b) ids ≡ relabelled g b (relabelled g a ids)
 unfolding relabelled
@@ -25,11 +26,16 @@ relabelled-some g [] ids u pos h = h
 relabelled-some g (v ∷ vs) ids u pos h = relabelled-some g vs (set ids v g) u pos (⊎-elim (λ e. omega arith) (λ e. omega arith) (set-cases ids v g u))
 
 module _ (lists : ℕ → List ℕ) (g : ℕ) where
-  -- the nodes that are pending are in the group already; so many turns are enough that there is one for each of them and of those that it still has room for
+  -- the pending nodes are in the group already; a turn for each of them, and for each node that there is still room for, is enough
   unfoldable pub queued : ℕ → ℕ → List ℕ → List ℕ → List ℕ
   queued zero room ids pending = ids
   queued (suc turns) room ids [] = ids
   queued (suc turns) room ids (v ∷ pending) = let new = enqueued g room ids (lists v) in queued turns (room - length new) (relabelled g new ids) (pending ++ new)
+
+  pub queued-turn : (turns room : ℕ) (ids : List ℕ) (v : ℕ) (pending : List ℕ) → queued (suc turns) room ids (v ∷ pending) ≡
+      queued turns (room - length (enqueued g room ids (lists v))) (relabelled g (enqueued g room ids (lists v)) ids) (pending ++ enqueued g room ids (lists v))
+  unfolding queued
+  queued-turn turns room ids v pending = refl
 
   pub queued-ends : (turns room : ℕ) (ids : List ℕ) → queued turns room ids [] ≡ ids
   unfolding queued
@@ -58,7 +64,7 @@ module _ (lists : ℕ → List ℕ) (g : ℕ) where
       let e : suc room - suc (length p) ≡ room - length p = omega arith in
       rw (whole, less, relabelled-append g p new ids', enqueued-takes g room ids v rest z, e, relabelled, queued)
 
-  -- THE LAW
+  -- THE LAW: by induction on the room, and on the queue
   pub grow-queued : (room : ℕ) (ids q : List ℕ) → 0 < g → growGroup lists noAnchor g room ids q ≡ queuedFrom room ids q
   unfolding queuedFrom queued enqueued relabelled
   grow-queued zero ids q pos = grow-full lists g ids q
