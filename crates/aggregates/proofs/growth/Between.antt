@@ -1,7 +1,6 @@
 -- Growth puts every node into a group, and numbers them from 1 to their count.
 use mathlib.Core.Path.{_≡_, refl, _∙_}
 use mathlib.Core.Logic.{_⊎_, inl, inr, ⊎-elim}
-use mathlib.Core.Bool.{Bool, true, false}
 use mathlib.Core.List.{List, [], _∷_, _++_}
 use Prim.Native.Nat.{ℕ, zero, suc, _+_, _≤_, _<_}
 use native.Mathlib.Omega.{arith}
@@ -10,11 +9,8 @@ use lib.Dec.{eqb, ltb}
 use lib.ListN.{length, getD, set, replicate, length-set, length-replicate, getD-replicate, List·getD-eq-default}
 use lib.Seq.{getD-set-same, getD-set-other, set-out}
 use Rattle.definitions.specs.Groups.{free, waiting, growGroup, growGroups, grown, noAnchor}
+use Rattle.aggregates.proofs.Appearance.{split}
 use Rattle.aggregates.proofs.growth.Growing.{grow-takes, from-grows, from-passes}
-
-split {ℓ} : {X : Type ℓ} (b : Bool) → (b ≡ true → X) → (b ≡ false → X) → X
-split true t f = t refl
-split false t f = f refl
 
 -- an element after a store: the number stored, or as before
 pub set-cases : (l : List ℕ) (i a j : ℕ) → (getD (set l i a) j 0 ≡ a) ⊎ (getD (set l i a) j 0 ≡ getD l j 0)

@@ -1,77 +1,109 @@
--- The loop of `push_free`: what is on the queue, with what is still to be pushed, stays the same.
+-- The loop of `push_free`: the groups and the queue, with what is still to be queued, stay the same.
 use mathlib.Core.Path.{_≡_, refl, ap, sym, _∙_}
-use mathlib.Core.List.{List, [], _++_, append-nil}
+use mathlib.Core.List.{List, [], _∷_, _++_, append-nil}
 use Prim.Native.Nat.{ℕ, suc, _+_, _-_, _≤_, _<_}
 use native.Mathlib.Omega.{arith}
 use native.Mathlib.Numerals.{add-one}
 use lib.ListN.{length, getD, set, take, drop, length-set}
-use lib.Seq.{slice, slice-empty, take-set-le, drop-set-lt, getD-take}
-use Rattle.definitions.specs.Groups.{free, listed, noAnchor}
-use Rattle.aggregates.proofs.growth.Free.{free-slice-takes, free-slice-skips, free-slice-push}
+use lib.Seq.{slice, slice-empty, slice-cons, length-take-le, drop-append-le, take-set-lt, take-set-le, drop-set-lt, take-suc-set, append-snoc, getD-take}
+use Rattle.definitions.specs.Groups.{listed, relabelled}
+use Rattle.aggregates.specs.Growth.{enqueued, Pushed}
+use Rattle.aggregates.proofs.growth.Enqueued.{enqueued-full, enqueued-none, enqueued-takes, enqueued-skips}
 
-pub record Pushing (lists : ℕ → List ℕ) (nb w₀ : List ℕ) (base nodes from to tail : ℕ) (w : List ℕ) (end i : ℕ) : Type 0 where
+-- a store below the queue leaves it
+pub below-queue : (n : ℕ) (w : List ℕ) (v x head tail : ℕ) → v < n → n ≤ head → head ≤ tail → slice head tail (set w v x) ≡ slice head tail w
+below-queue n w v x head tail h k o = ap (drop head) (take-set-lt tail w v x (omega arith)) ∙ drop-set-lt head (take tail w) v x (omega arith)
+
+-- a node goes to the group g and to the queue's end
+module _ (n : ℕ) (w : List ℕ) (u g end : ℕ) (node : u < n) (behind : n ≤ end) (fits : end < length w) where
+  pub stored-ids : take n (set (set w u g) end u) ≡ set (take n w) u g
+  stored-ids = take-set-le n (set w u g) end u behind ∙ take-set-lt n w u g node
+
+  pub stored-queue : slice n (end + 1) (set (set w u g) end u) ≡ slice n end w ++ (u ∷ [])
+  stored-queue =
+      let l : length (set w u g) ≡ length w = length-set w u g in
+      rw (add-one end, take-suc-set (set w u g) end u (omega arith))
+      (drop-append-le n (take end (set w u g)) (u ∷ []) (rw (length-take-le end (set w u g) (omega arith)) behind)
+      ∙ ap (λ q. q ++ (u ∷ [])) (below-queue n w u g n end node (omega arith) behind))
+
+  pub stored-still : (base : ℕ) → end < base → drop base (set (set w u g) end u) ≡ drop base w
+  stored-still base h = drop-set-lt base (set w u g) end u h ∙ drop-set-lt base w u g (omega arith)
+
+  pub stored-length : length (set (set w u g) end u) ≡ length w
+  stored-length = simp length-set
+
+-- what has joined and what is still to join
+pub record Pushing (nb w₀ : List ℕ) (base nodes from to g tail room : ℕ) (w : List ℕ) (end left i : ℕ) : Type 0 where
   pub upto : i ≤ to
-  pub room : end + (to - i) ≤ base
+  pub space : end + (to - i) ≤ base
   pub same : length w ≡ length w₀
   pub behind : nodes ≤ end
-  pub kept : take nodes w ≡ take nodes w₀
   pub still : drop base w ≡ drop base w₀
-  pub queue : take end w ++ free lists noAnchor (take nodes w₀) (slice i to nb) ≡ take tail w₀ ++ free lists noAnchor (take nodes w₀) (slice from to nb)
-  pub count : end + length (free lists noAnchor (take nodes w₀) (slice i to nb)) ≡ tail + length (free lists noAnchor (take nodes w₀) (slice from to nb))
+  pub count : end + length (enqueued g left (take nodes w) (slice i to nb)) ≡ tail + length (enqueued g room (take nodes w₀) (slice from to nb))
+  pub ids : relabelled g (enqueued g left (take nodes w) (slice i to nb)) (take nodes w) ≡ relabelled g (enqueued g room (take nodes w₀) (slice from to nb)) (take nodes w₀)
+  pub queue : slice nodes end w ++ enqueued g left (take nodes w) (slice i to nb) ≡ slice nodes tail w₀ ++ enqueued g room (take nodes w₀) (slice from to nb)
 
-module _ (lists : ℕ → List ℕ) (nb w₀ : List ℕ) (base nodes from to tail : ℕ) where
-  pub push-first : from ≤ to → nodes ≤ tail → tail + (to - from) ≤ base → Pushing lists nb w₀ base nodes from to tail w₀ tail from
-  push-first a b r = record { upto = a; room = r; same = refl; behind = b; kept = refl; still = refl; queue = refl; count = refl }
+module _ (nb w₀ : List ℕ) (base nodes from to g tail room : ℕ) where
+  pub push-first : from ≤ to → nodes ≤ tail → tail + (to - from) ≤ base → Pushing nb w₀ base nodes from to g tail room w₀ tail room from
+  push-first a b r = record { upto = a; space = r; same = refl; behind = b; still = refl; count = refl; ids = refl; queue = refl }
 
-  module _ (w : List ℕ) (end i : ℕ) (inv : Pushing lists nb w₀ base nodes from to tail w end i) where
-    -- the group of a node, as the loop reads it
-    read : (u : ℕ) → u < nodes → getD w u 0 ≡ getD (take nodes w₀) u 0
-    read u h = sym (getD-take nodes w u 0 h) ∙ ap (λ l. getD l u 0) (inv .kept)
+  module _ (w : List ℕ) (end left i : ℕ) (inv : Pushing nb w₀ base nodes from to g tail room w end left i) where
+    module _ (fits : base ≤ length w₀) (h : i < to) (k : to ≤ length nb) (u : ℕ) (is : u ≡ getD nb i 0) (node : u < nodes) where
+      front : slice i to nb ≡ u ∷ slice (i + 1) to nb
+      front = rw (add-one, is) (slice-cons i to nb 0 h k)
 
-    module _ (fits : base ≤ length w₀) (h : i < to) (k : to ≤ length nb) (node : getD nb i 0 < nodes) where
-      pub push-takes : getD w (getD nb i 0) 0 ≡ 0 → Pushing lists nb w₀ base nodes from to tail (set w end (getD nb i 0)) (end + 1) (i + 1)
-      push-takes z =
-          let z' : getD (take nodes w₀) (getD nb i 0) 0 ≡ 0 = sym (read (getD nb i 0) node) ∙ z in
+      pub push-takes : getD w u 0 ≡ 0 → (left ≡ 0 → ⊥) → Pushing nb w₀ base nodes from to g tail room (set (set w u g) end u) (end + 1) (left - 1) (i + 1)
+      unfolding relabelled
+      push-takes z some =
+          let r : left ≡ suc (left - 1) = omega (arith, some) in
+          let next = enqueued g (left - 1) (set (take nodes w) u g) (slice (i + 1) to nb) in
+          let e : enqueued g left (take nodes w) (slice i to nb) ≡ u ∷ next = ap (λ m. enqueued g m (take nodes w) (slice i to nb)) r ∙ ap (enqueued g (suc (left - 1)) (take nodes w)) front ∙ enqueued-takes g (left - 1) (take nodes w) u (slice (i + 1) to nb) (getD-take nodes w u 0 node ∙ z) in
+          let room-here : end < length w = omega (arith, inv .same, inv .space) in
+          let s = stored-ids nodes w u g end node (inv .behind) room-here in
+          let q = stored-queue nodes w u g end node (inv .behind) room-here in
           record {
             upto = omega arith;
-            room = omega arith;
-            same = simp length-set (inv .same);
-            behind = omega arith;
-            kept = take-set-le nodes w end (getD nb i 0) (inv .behind) ∙ inv .kept;
-            still = drop-set-lt base w end (getD nb i 0) (omega arith) ∙ inv .still;
-            queue = free-slice-push lists (take nodes w₀) nb i to h k w end (omega (arith, inv .same)) z' ∙ inv .queue;
-            count = omega (arith, ap length (free-slice-takes lists (take nodes w₀) nb i to h k z'));
+            space = omega (arith, inv .space);
+            same = stored-length nodes w u g end node (inv .behind) room-here ∙ inv .same;
+            behind = omega (arith, inv .behind);
+            still = stored-still nodes w u g end node (inv .behind) room-here base (omega (arith, inv .space)) ∙ inv .still;
+            count = rw s (omega (arith, rw e at (inv .count)));
+            ids = rw s (rw e at (inv .ids));
+            queue = rw (q, s) (append-snoc (slice nodes end w) u next ∙ (rw e at (inv .queue)));
           }
 
-      pub push-skips : (getD w (getD nb i 0) 0 ≡ 0 → ⊥) → Pushing lists nb w₀ base nodes from to tail w end (i + 1)
+      pub push-skips : (getD w u 0 ≡ 0 → ⊥) → Pushing nb w₀ base nodes from to g tail room w end left (i + 1)
       push-skips z =
-          let skip = free-slice-skips lists (take nodes w₀) nb i to h k (λ e. z (read (getD nb i 0) node ∙ e)) in
+          let e : enqueued g left (take nodes w) (slice i to nb) ≡ enqueued g left (take nodes w) (slice (i + 1) to nb) =
+          ap (enqueued g left (take nodes w)) front ∙ enqueued-skips g left (take nodes w) u (slice (i + 1) to nb) (λ y. z (sym (getD-take nodes w u 0 node) ∙ y)) in
           record {
             upto = omega arith;
-            room = omega arith;
+            space = omega (arith, inv .space);
             same = inv .same;
             behind = inv .behind;
-            kept = inv .kept;
             still = inv .still;
-            queue = rw (← skip) (inv .queue);
-            count = rw (← skip) (inv .count);
+            count = rw e at (inv .count);
+            ids = rw e at (inv .ids);
+            queue = rw e at (inv .queue);
           }
 
-    pub push-last : to ≤ i → (end ≡ tail + length (free lists noAnchor (take nodes w₀) (slice from to nb))) × (take end w ≡ take tail w₀ ++ free lists noAnchor (take nodes w₀) (slice from to nb))
-    unfolding free
+    push-done : enqueued g left (take nodes w) (slice i to nb) ≡ [] → Pushed (enqueued g room (take nodes w₀) (slice from to nb)) w₀ nodes g tail w end
+    unfolding relabelled
+    push-done e = record {
+      count = omega (arith, rw e at (inv .count));
+      ids = rw e at (inv .ids);
+      queue = sym (append-nil (slice nodes end w)) ∙ (rw e at (inv .queue));
+    }
+
+    pub push-full : left ≡ 0 → Pushed (enqueued g room (take nodes w₀) (slice from to nb)) w₀ nodes g tail w end
+    push-full z = push-done (ap (λ m. enqueued g m (take nodes w) (slice i to nb)) z ∙ enqueued-full g (take nodes w) (slice i to nb))
+
+    pub push-last : to ≤ i → Pushed (enqueued g room (take nodes w₀) (slice from to nb)) w₀ nodes g tail w end
     push-last h =
-        let e : i ≡ to = omega arith in
-        let none : slice i to nb ≡ [] = rw e (slice-empty to nb) in
-        (omega (arith, rw none at (inv .count)), sym (append-nil (take end w)) ∙ (rw none at (inv .queue)))
+        let e : i ≡ to = omega (arith, inv .upto) in
+        push-done (ap (λ m. enqueued g left (take nodes w) (slice m to nb)) e ∙ ap (enqueued g left (take nodes w)) (slice-empty to nb) ∙ enqueued-none g left (take nodes w))
 
-listed-is : (offsets nb : List ℕ) (v from to : ℕ) → from ≡ getD offsets v 0 → to ≡ getD offsets (suc v) 0 → listed offsets nb v ≡ slice from to nb
+-- the list of v
+pub listed-is : (offsets nb : List ℕ) (v from to : ℕ) → from ≡ getD offsets v 0 → to ≡ getD offsets (v + 1) 0 → listed offsets nb v ≡ slice from to nb
 unfolding listed
-listed-is offsets nb v from to a b = rw (a, b)
-
--- as `listed` has it
-pub push-listed : (offsets nb w₀ w : List ℕ) (nodes v tail end from to : ℕ) → from ≡ getD offsets v 0 → to ≡ getD offsets (v + 1) 0 →
-    (end ≡ tail + length (free (listed offsets nb) noAnchor (take nodes w₀) (slice from to nb))) × (take end w ≡ take tail w₀ ++ free (listed offsets nb) noAnchor (take nodes w₀) (slice from to nb)) →
-    (end ≡ tail + length (free (listed offsets nb) noAnchor (take nodes w₀) (listed offsets nb v))) × (take end w ≡ take tail w₀ ++ free (listed offsets nb) noAnchor (take nodes w₀) (listed offsets nb v))
-push-listed offsets nb w₀ w nodes v tail end from to f t p =
-    let l : listed offsets nb v ≡ slice from to nb = listed-is offsets nb v from to f (t ∙ ap (λ k. getD offsets k 0) (add-one v)) in
-    rw l p
+listed-is offsets nb v from to a b = rw (a, b, add-one)

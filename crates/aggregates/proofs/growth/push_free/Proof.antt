@@ -4,19 +4,20 @@ use mathlib.Core.Logic.{⊎-elim}
 use Prim.Native.Nat.{suc, _-_, _≤_, _<_}
 use native.Mathlib.Omega.{arith}
 use native.Mathlib.Numerals.{add-one}
-use lib.ListN.{length, getD}
+use lib.ListN.{length, getD, take, length-set}
+use Rattle.aggregates.specs.Growth.{enqueued, Pushed}
 use Rattle.aggregates.specs.Stored.{offsetsAt, neighboursAt, listsAt}
 use Rattle.aggregates.proofs.stored.Elements.{offsets-within, offsets-few, lists-still}
-use Rattle.aggregates.proofs.growth.Pushing.{Pushing, push-first, push-takes, push-skips, push-last, push-listed}
+use Rattle.aggregates.proofs.growth.Pushing.{Pushing, push-first, push-takes, push-skips, push-full, push-last, listed-is}
 use borrow.Author.Needs.{needs}
 use Rattle.aggregates.proofs.growth.push_free.Statement.{statement}
 use Rattle.aggregates.proofs.growth.push_free.Tie as tie
 
 abbrev Inv-loop : tie.InvT-loop
-Inv-loop w₀ base nodes v tail end₀ i₀ to w end i = Pushing (listsAt base nodes w₀) (neighboursAt base nodes w₀) w₀ base nodes i₀ to tail w end i
+Inv-loop w₀ base nodes v g tail room end₀ left₀ i₀ to w end left i = Pushing (neighboursAt base nodes w₀) w₀ base nodes i₀ to g tail room w end left i
 
 abbrev μ-loop : tie.MeasureT-loop
-μ-loop w₀ base nodes v tail end₀ i₀ to w end i = to - i
+μ-loop w₀ base nodes v g tail room end₀ left₀ i₀ to w end left i = to - i
 
 -- where the list of v ends
 ends : (c : tie.After-offset2 Inv-loop μ-loop) → c .offset2 .result ≡ getD (offsetsAt (c .before .before .before .before .before .args .base) (c .before .before .before .before .before .args .nodes) (c .before .before .before .before .before .args .w .now)) (suc (c .before .before .before .before .before .args .v)) 0
@@ -48,7 +49,7 @@ loop-holds c =
     let s = c .before .before .before .before .before in
     let a = s .args in
     let f = c .before .before .offset .ensures in
-    push-first (listsAt (a .base) (a .nodes) (a .w .now)) (neighboursAt (a .base) (a .nodes) (a .w .now)) (a .w .now) (a .base) (a .nodes) (c .before .before .offset .result) (c .offset2 .result) (a .tail) (omega (arith, f, ends c, s .pre .rises)) (s .pre .behind) (omega (arith, f, ends c, s .pre .room))
+    push-first (neighboursAt (a .base) (a .nodes) (a .w .now)) (a .w .now) (a .base) (a .nodes) (c .before .before .offset .result) (c .offset2 .result) (a .g) (a .tail) (a .room) (omega (arith, f, ends c, s .pre .rises)) (s .pre .behind) (omega (arith, f, ends c, s .pre .room))
 
 neighbour-requires : tie.Need-neighbour-requires Inv-loop μ-loop
 neighbour-requires c κs =
@@ -67,24 +68,43 @@ read c =
 below : (c : tie.After-wide Inv-loop μ-loop) → c .wide .result < c .before .before .before .before .before .before .before .before .before .before .args .nodes
 below c = omega (arith, c .wide .ensures, read (c .before), c .before .before .before .before .before .before .before .before .before .before .pre .within (c .before .before .before .before .loop .i) (omega (arith, to-fits (c .before .before .before .before .before))))
 
-mul-if1 : tie.Need-mul-if1 Inv-loop μ-loop
-mul-if1 c =
+-- the node and the queue's end lie within the list
+inside : (c : tie.After-wide Inv-loop μ-loop) → (c .wide .result < length (c .before .before .before .before .loop .w)) × (c .before .before .before .before .loop .end < length (c .before .before .before .before .loop .w))
+inside c =
     let s = c .before .before .before .before .before .before .before .before .before .before in
-    omega (arith, below c, s .pre .behind, s .pre .room, s .pre .fits)
+    let l = c .before .before .before .before .loop in
+    (omega (arith, below c, s .pre .behind, s .pre .room, s .pre .fits, l .inv .same), omega (arith, c .before .before .before .loop-test .taken, s .pre .fits, l .inv .space, l .inv .same))
 
 slice-read-if1 : tie.Need-slice-read-if1 Inv-loop μ-loop
-slice-read-if1 c =
-    let s = c .before .before .before .before .before .before .before .before .before .before .before in
-    omega (arith, below (c .before), s .pre .behind, s .pre .room, s .pre .fits, c .before .before .before .before .before .loop .inv .same)
+slice-read-if1 c = inside (c .before) .0
 
-mul-w : tie.Need-mul-w Inv-loop μ-loop
-mul-w c = let s = c .before .before .before .before .before .before .before .before .before .before .before .before in let l = c .before .before .before .before .before .before .loop in omega (arith, s .pre .fits, l .inv .room, l .inv .same)
+same-length : tie.Need-same-length Inv-loop μ-loop
+same-length c = c .before .before .before .before .before .before .before .loop .inv .same
+
+returns : tie.Need-returns Inv-loop μ-loop
+returns c =
+    let s = c .before .before .before .before .before .before .before .before .before .before .before .before .before in
+    let a = s .args in
+    let l = c .before .before .before .before .before .before .before .loop in
+    let nb = neighboursAt (a .base) (a .nodes) (a .w .now) in
+    let to = c .before .before .before .before .before .before .before .before .offset2 .result in
+    let from = c .before .before .before .before .before .before .before .before .before .before .offset .result in
+    let list = listed-is (offsetsAt (a .base) (a .nodes) (a .w .now)) nb (a .v) from to (c .before .before .before .before .before .before .before .before .before .before .offset .ensures) (c .before .before .before .before .before .before .before .before .offset2 .ensures) in
+    let p = push-full nb (a .w .now) (a .base) (a .nodes) from to (a .g) (a .tail) (a .room) (l .w) (l .end) (l .left) (l .i) (l .inv) (c .if2 .taken) in
+    let q : Pushed (enqueued (a .g) (a .room) (take (a .nodes) (a .w .now)) (listsAt (a .base) (a .nodes) (a .w .now) (a .v))) (a .w .now) (a .nodes) (a .g) (a .tail) (l .w) (l .end) = rw list p in
+    (q, l .inv .still)
 
 slice-write-w : tie.Need-slice-write-w Inv-loop μ-loop
-slice-write-w c = let s = c .before .before .before .before .before .before .before .before .before .before .before .before in let l = c .before .before .before .before .before .before .loop in omega (arith, s .pre .fits, l .inv .room, l .inv .same)
+slice-write-w c = inside (c .before .before .before) .0
+
+mul-w-2 : tie.Need-mul-w-2 Inv-loop μ-loop
+mul-w-2 c = omega (arith, inside (c .before .before .before))
+
+slice-write-w-2 : tie.Need-slice-write-w-2 Inv-loop μ-loop
+slice-write-w-2 c = simp length-set (inside (c .before .before .before) .1)
 
 add-end : tie.Need-add-end Inv-loop μ-loop
-add-end c = let s = c .before .before .before .before .before .before .before .before .before .before .before .before in let l = c .before .before .before .before .before .before .loop in omega (arith, s .pre .fits, l .inv .room, l .inv .same)
+add-end c = omega (arith, inside (c .before .before .before))
 
 loop-again : tie.Need-loop-again Inv-loop μ-loop
 loop-again c =
@@ -92,32 +112,30 @@ loop-again c =
     let a = s .args in
     let l = c .before .before .before .before .before .before .loop in
     let nb = neighboursAt (a .base) (a .nodes) (a .w .now) in
-    let lists = listsAt (a .base) (a .nodes) (a .w .now) in
-    let u : c .before .before .before .neighbour .result ≡ getD nb (l .i) 0 = read (c .before .before .before) in
-    let e : c .before .before .wide .result ≡ getD nb (l .i) 0 = c .before .before .wide .ensures ∙ u in
-    let node : getD nb (l .i) 0 < a .nodes = rw e at (below (c .before .before)) in
+    let u : c .before .before .wide .result ≡ getD nb (l .i) 0 = c .before .before .wide .ensures ∙ read (c .before .before .before) in
     let to = c .before .before .before .before .before .before .before .offset2 .result in
     let from = c .before .before .before .before .before .before .before .before .before .offset .result in
     let k : to ≤ length nb = to-fits (c .before .before .before .before .before .before .before) in
     ⊎-elim
-    (λ w. rw (w .1, w .2, u) (push-takes lists nb (a .w .now) (a .base) (a .nodes) from to (a .tail) (l .w) (l .end) (l .i) (l .inv) (s .pre .fits) (omega arith) k node (rw e at (w .0 .taken))))
-    (λ w. rw (w .1, w .2) (push-skips lists nb (a .w .now) (a .base) (a .nodes) from to (a .tail) (l .w) (l .end) (l .i) (l .inv) (s .pre .fits) (omega arith) k node (rw e at (w .0 .left))))
+    (λ x. rw (x .2, x .3, x .4, ← (c .before .before .wide .ensures)) (push-takes nb (a .w .now) (a .base) (a .nodes) from to (a .g) (a .tail) (a .room) (l .w) (l .end) (l .left) (l .i) (l .inv) (s .pre .fits) (c .before .before .before .before .before .loop-test .taken) k (c .before .before .wide .result) u (below (c .before .before)) (x .0 .taken) (x .1 .left)))
+    (λ x. rw (x .1, x .2, x .3) (push-skips nb (a .w .now) (a .base) (a .nodes) from to (a .g) (a .tail) (a .room) (l .w) (l .end) (l .left) (l .i) (l .inv) (s .pre .fits) (c .before .before .before .before .before .loop-test .taken) k (c .before .before .wide .result) u (below (c .before .before)) (x .0 .left)))
     (c .if1 .came)
 
-same-length : tie.Need-same-length Inv-loop μ-loop
-same-length c = c .before .loop .inv .same
+same-length-2 : tie.Need-same-length-2 Inv-loop μ-loop
+same-length-2 c = c .before .loop .inv .same
 
-returns : tie.Need-returns Inv-loop μ-loop
-returns c =
+returns-2 : tie.Need-returns-2 Inv-loop μ-loop
+returns-2 c =
     let s = c .before .before .before .before .before .before .before in
     let a = s .args in
     let l = c .before .loop in
-    let offsets = offsetsAt (a .base) (a .nodes) (a .w .now) in
     let nb = neighboursAt (a .base) (a .nodes) (a .w .now) in
     let to = c .before .before .offset2 .result in
     let from = c .before .before .before .before .offset .result in
-    let p = push-listed offsets nb (a .w .now) (l .w) (a .nodes) (a .v) (a .tail) (l .end) from to (c .before .before .before .before .offset .ensures) (c .before .before .offset2 .ensures) (push-last (listsAt (a .base) (a .nodes) (a .w .now)) nb (a .w .now) (a .base) (a .nodes) from to (a .tail) (l .w) (l .end) (l .i) (l .inv) (omega arith)) in
-    (p .0, (p .1, l .inv .still))
+    let list = listed-is (offsetsAt (a .base) (a .nodes) (a .w .now)) nb (a .v) from to (c .before .before .before .before .offset .ensures) (c .before .before .offset2 .ensures) in
+    let p = push-last nb (a .w .now) (a .base) (a .nodes) from to (a .g) (a .tail) (a .room) (l .w) (l .end) (l .left) (l .i) (l .inv) (c .loop-test .left) in
+    let q : Pushed (enqueued (a .g) (a .room) (take (a .nodes) (a .w .now)) (listsAt (a .base) (a .nodes) (a .w .now) (a .v))) (a .w .now) (a .nodes) (a .g) (a .tail) (l .w) (l .end) = rw list p in
+    (q, l .inv .still)
 
 pub push-free-spec : {M : Type 1} → statement M
 push-free-spec =
@@ -131,13 +149,18 @@ push-free-spec =
     loop-holds
     neighbour-requires
     (λ c κs. search needs)
-    mul-if1
+    (λ c. omega (arith, inside c))
     slice-read-if1
-    mul-w
+    same-length
+    returns
+    (λ c. omega (arith, inside (c .before .before .before)))
     slice-write-w
+    mul-w-2
+    slice-write-w-2
     add-end
+    (λ c. search needs)
     (λ c. search needs)
     (λ c. omega arith)
     loop-again
-    same-length
-    returns)
+    same-length-2
+    returns-2)
