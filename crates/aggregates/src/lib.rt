@@ -30,7 +30,7 @@ fn floor_of(size: usize) -> u32
 }
 
 // How many groups there are, and how many joinings led to them.
-#[derive(Drop)]
+#[derive(Clone, Copy)]
 struct Counts {
     count: u32,
     joinings: u32,

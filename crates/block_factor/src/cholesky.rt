@@ -10,7 +10,7 @@ use super::symmetry::{skewed, top};
 use definitions::{Answer, Refusal};
 
 // A factor, and whether there is one: refused, the block is blank.
-#[derive(Drop)]
+#[derive(Clone, Copy)]
 pub struct Factored {
     pub block: Block,
     pub answer: Answer,

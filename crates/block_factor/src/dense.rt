@@ -5,7 +5,7 @@ ghost use Rattle.definitions.specs.Block.{in_block, max_block};
 ghost use Rattle.block_factor.specs.Dense.{blank, dense_entry};
 
 // The numbers and the width, together.
-#[derive(Drop)]
+#[derive(Clone, Copy)]
 pub struct Block {
     pub a: [f64; 64],
     pub size: usize,

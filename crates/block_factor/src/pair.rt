@@ -9,7 +9,7 @@ use super::dense::{Block, blanks, put};
 use super::symmetry::{skewed, top};
 
 // Their factors, where both have one.
-#[derive(Drop)]
+#[derive(Clone, Copy)]
 pub struct Pair {
     pub one: Block,
     pub two: Block,

@@ -8,7 +8,7 @@ use definitions::Refusal;
 use numbers::{zero_floats, zero_ints};
 
 // A cause's number, and the first and second value returned with it, 0 where there is none.
-#[derive(Drop)]
+#[derive(Clone, Copy)]
 pub struct Row {
     pub number: u64,
     pub first: u64,

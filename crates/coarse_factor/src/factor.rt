@@ -47,7 +47,7 @@ fn take_eight(x: &mut [f64; 8], w: &[f64; 16384], at: usize, y: f64)
 }
 
 // Two columns of eight numbers.
-#[derive(Drop)]
+#[derive(Clone, Copy)]
 pub struct Pair {
     pub a: [f64; 8],
     pub b: [f64; 8],

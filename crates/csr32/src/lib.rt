@@ -91,7 +91,7 @@ pub fn validate(
 }
 
 // The numbers stored at one column: whether there are any, and their sum.
-#[derive(Drop)]
+#[derive(Clone, Copy)]
 struct Found {
     stored: bool,
     sum: f64,

@@ -13,7 +13,7 @@ mod reading;
 mod whole;
 
 // How far a text was read: no byte met yet that is neither digit nor blank; inside a number, and its value so far; how many numbers.
-#[derive(Drop)]
+#[derive(Clone, Copy)]
 pub struct Reader {
     pub good: bool,
     pub inside: bool,
@@ -22,7 +22,7 @@ pub struct Reader {
 }
 
 // Lists that were read: how many neighbours, and where the numbers go on; or the number of a cause.
-#[derive(Drop)]
+#[derive(Clone, Copy)]
 pub struct Got {
     pub cause: u32,
     pub count: usize,
@@ -30,7 +30,7 @@ pub struct Got {
 }
 
 // A text that was read whole: nodes, size and how many neighbours; or the number of a cause.
-#[derive(Drop)]
+#[derive(Clone, Copy)]
 pub struct Asking {
     pub cause: u32,
     pub nodes: usize,

@@ -121,6 +121,7 @@ contiguous_few nodes (suc size) h = lower ((nodes + (suc size - 1)) / suc size) 
 
     lower : (x y : ℕ) → x < suc y → x ≤ y
     lower x y l = omega arith
+contiguous_few nodes zero h = elim h [ ]
 
 graph_few : (lists : ℕ → List ℕ) (n size : ℕ) → (graph_grouping lists no_anchor n size).count ≤ n
 unfolding graph_grouping renumbered

@@ -77,6 +77,9 @@ zero_over (fin s zero e) nan z h = absurd h
 zero_over (fin s zero e) (inf t) z h = tt
 zero_over (fin s zero e) (fin t zero d) z h = absurd h
 zero_over (fin s zero e) (fin t (suc n) d) z h = div_zero binary64 (fin s zero e) (fin t (suc n) d) tt (tt, tt)
+zero_over nan d z h = elim z [ ]
+zero_over (inf _) d z h = elim z [ ]
+zero_over (fin s (suc _) e) d z h = elim z [ ]
 
 -- by one divisor, whatever it is
 pub near_div : (x x' d : Float) → Near x x' → Near (x /ᶠ d) (x' /ᶠ d)
@@ -147,7 +150,7 @@ module _ {A : Type 0} where
 
 pub near_sums : {s t : Float} {xs ys : List Float} → Near s t → Nears xs ys → Near (foldl (λ a x. a +ᶠ x) s xs) (foldl (λ a x. a +ᶠ x) t ys)
 near_sums p both_none = p
-near_sums {s} {t} p (both_more {x = x} {y = y} h k) = near_sums (near_add s t x y p h) k
+near_sums {s} {t} p (both_more {x = x} {y = y} h k) = near_sums {s = s +ᶠ x} {t = t +ᶠ y} (near_add s t x y p h) k
 
 pub near_total : {xs ys : List Float} → Nears xs ys → Near (total xs) (total ys)
 unfolding total
@@ -160,13 +163,13 @@ near_summed h = near_sums (near_refl minus_zero minus_fits) h
 pub near_reduced : {s t : Float} {xs ys : List Float} → Near s t → Nears xs ys → Near (reduced s xs) (reduced t ys)
 unfolding reduced
 near_reduced p both_none = p
-near_reduced {s} {t} p (both_more {x = x} {y = y} h k) = near_reduced (near_sub s t x y p h) k
+near_reduced {s} {t} p (both_more {x = x} {y = y} h k) = near_reduced {s = s -ᶠ x} {t = t -ᶠ y} (near_sub s t x y p h) k
 
 -- ---- a list of numbers that vanish
 
 pub vanish_sums : {s : Float} {xs : List Float} → Vanishing s → Each Vanishing xs → Vanishing (foldl (λ a x. a +ᶠ x) s xs)
 vanish_sums p none = p
-vanish_sums {s} p (more {x = x} h k) = vanish_sums (vanish_add s x p h) k
+vanish_sums {s} p (more {x = x} h k) = vanish_sums {s = s +ᶠ x} (vanish_add s x p h) k
 
 pub vanish_summed : {xs : List Float} → Each Vanishing xs → Vanishing (summed xs)
 unfolding summed
@@ -175,7 +178,7 @@ vanish_summed h = vanish_sums (vanish_zero minus_zero minus_zero_lem) h
 pub vanish_reduced : {s : Float} {xs : List Float} → Vanishing s → Each Vanishing xs → Vanishing (reduced s xs)
 unfolding reduced
 vanish_reduced p none = p
-vanish_reduced {s} p (more {x = x} h k) = vanish_reduced (vanish_sub s x p h) k
+vanish_reduced {s} p (more {x = x} h k) = vanish_reduced {s = s -ᶠ x} (vanish_sub s x p h) k
 
 -- a sum of no terms
 pub total_none : (xs : List Float) → xs ≡ [] → Vanishing (total xs)

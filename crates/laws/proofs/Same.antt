@@ -201,6 +201,12 @@ add_zeros f (fin s zero e) (fin t zero d) p q =
     subst (λ (a : ℕ). Zero (sum f s a t (0 * up d * down e) (down e * down d))) (sym (nil (up e) (down d)))
     (subst (λ (b : ℕ). Zero (sum f s 0 t b (down e * down d))) (sym (nil (up d) (down e)))
     (sum_zeros f s t (down e * down d) (mul-pos (down_pos e) (down_pos d))))
+add_zeros f nan y p q = elim p [ ]
+add_zeros f (inf _) y p q = elim p [ ]
+add_zeros f (fin s zero e) nan p q = elim q [ ]
+add_zeros f (fin s zero e) (inf _) p q = elim q [ ]
+add_zeros f (fin s zero e) (fin t (suc _) d) p q = elim q [ ]
+add_zeros f (fin s (suc _) e) y p q = elim p [ ]
 
 add_zero_big_l : (f : Format) (s : Bool) (e : ℤ) (t : Bool) (n : ℕ) (d : ℤ) → T (fits f (fin t (suc n) d)) → add f (fin s zero e) (fin t (suc n) d) ≡ fin t (suc n) d
 unfolding add
@@ -225,11 +231,24 @@ pub add_zero_l : (f : Format) (x y : Float) → T (fits f y) → Zero x → Fini
 add_zero_l f (fin s zero e) (fin t zero d) p z h = inr (add_zeros f (fin s zero e) (fin t zero d) tt tt, tt)
 add_zero_l f (fin s zero e) (fin t (suc n) d) p z h =
     let r = add_zero_big_l f s e t n d p in inl (subst (λ (w : Float). Finite w) (sym r) tt, r)
+add_zero_l f nan y p z h = elim z [ ]
+add_zero_l f (inf _) y p z h = elim z [ ]
+add_zero_l f (fin s zero e) nan p z h = elim h [ ]
+add_zero_l f (fin s zero e) (inf _) p z h = elim h [ ]
+add_zero_l f (fin s (suc _) e) y p z h = elim z [ ]
 
 pub add_zero_r : (f : Format) (x y : Float) → T (fits f x) → Finite x → Zero y → Same (add f x y) x
 add_zero_r f (fin t zero d) (fin s zero e) p h z = inr (add_zeros f (fin t zero d) (fin s zero e) tt tt, tt)
 add_zero_r f (fin t (suc n) d) (fin s zero e) p h z =
     let r = add_zero_big_r f s e t n d p in inl (subst (λ (w : Float). Finite w) (sym r) tt, r)
+add_zero_r f nan y p h z = elim h [ ]
+add_zero_r f (inf _) y p h z = elim h [ ]
+add_zero_r f (fin t zero d) nan p h z = elim z [ ]
+add_zero_r f (fin t zero d) (inf _) p h z = elim z [ ]
+add_zero_r f (fin t zero d) (fin s (suc _) e) p h z = elim z [ ]
+add_zero_r f (fin t (suc n) d) nan p h z = elim z [ ]
+add_zero_r f (fin t (suc n) d) (inf _) p h z = elim z [ ]
+add_zero_r f (fin t (suc n) d) (fin s (suc _) e) p h z = elim z [ ]
 
 -- ---- the sum of two pairs alike
 pub add_same : (f : Format) (x x' y y' : Float) → T (fits f x) → T (fits f y) → Same x x' → Same y y' → Finite (add f x y) → Same (add f x y) (add f x' y')
@@ -246,10 +265,15 @@ add_same f x x' y y' p q (inr h) (inr k) r = inr (add_zeros f x y h.0 k.0, add_z
 pub neg_zero : (x : Float) → Zero x → Zero (neg x)
 unfolding neg
 neg_zero (fin s zero e) z = tt
+neg_zero nan z = elim z [ ]
+neg_zero (inf _) z = elim z [ ]
+neg_zero (fin s (suc _) e) z = elim z [ ]
 
 pub neg_finite : (x : Float) → Finite x → Finite (neg x)
 unfolding neg
 neg_finite (fin s m e) z = tt
+neg_finite nan z = elim z [ ]
+neg_finite (inf _) z = elim z [ ]
 
 pub neg_same : (x y : Float) → Same x y → Same (neg x) (neg y)
 neg_same x y (inl h) = inl (neg_finite x h.0, ap neg h.1)
@@ -271,11 +295,21 @@ sub_zero_r f x y p h z = add_zero_r f x (neg y) p h (neg_zero y z)
 pub mul_zero_l : (f : Format) (x y : Float) → Zero x → Finite y → Zero (mul f x y)
 unfolding mul
 mul_zero_l f (fin s zero e) (fin t n d) z h = round_zero_at f (unlike s t) (0 * up e * (n * up d)) (down e * down d) (nil (up e) (n * up d)) (mul-pos (down_pos e) (down_pos d))
+mul_zero_l f nan y z h = elim z [ ]
+mul_zero_l f (inf _) y z h = elim z [ ]
+mul_zero_l f (fin s zero e) nan z h = elim h [ ]
+mul_zero_l f (fin s zero e) (inf _) z h = elim h [ ]
+mul_zero_l f (fin s (suc _) e) y z h = elim z [ ]
 
 pub mul_zero_r : (f : Format) (x y : Float) → Finite x → Zero y → Zero (mul f x y)
 unfolding mul
 mul_zero_r f (fin s m e) (fin t zero d) h z =
     round_zero_at f (unlike s t) (m * up e * (0 * up d)) (down e * down d) (ap (λ (x : ℕ). m * up e * x) (zero-mul (up d)) ∙ mul-zero (m * up e)) (mul-pos (down_pos e) (down_pos d))
+mul_zero_r f nan y h z = elim h [ ]
+mul_zero_r f (inf _) y h z = elim h [ ]
+mul_zero_r f (fin s m e) nan h z = elim z [ ]
+mul_zero_r f (fin s m e) (inf _) h z = elim z [ ]
+mul_zero_r f (fin s m e) (fin t (suc _) d) h z = elim z [ ]
 
 pub mul_same : (f : Format) (x x' y y' : Float) → Same x x' → Same y y' → Finite (mul f x y) → Same (mul f x y) (mul f x' y')
 mul_same f x x' y y' (inl h) (inl k) r = inl (r, ap (λ (w : Float). mul f w y) h.1 ∙ ap (λ (w : Float). mul f x' w) k.1)
@@ -295,6 +329,9 @@ div_zero f (fin s zero e) (fin t zero d) z h = absurd h.1
 div_zero f (fin s zero e) (fin t (suc n) d) z h =
     subst (λ (b : Bool). Zero (cond b (cond (eqb 0 0) nan (inf (unlike s t))) (round f (unlike s t) (0 * up e * down d) (suc n * up d * down e)))) (sym (eqb-suc-zero n))
     (round_zero_at f (unlike s t) (0 * up e * down d) (suc n * up d * down e) (nil (up e) (down d)) (mul-pos (mul-pos (zero-lt-suc n) (up_pos d)) (down_pos e)))
+div_zero f nan d z h = elim z [ ]
+div_zero f (inf _) d z h = elim z [ ]
+div_zero f (fin s (suc _) e) d z h = elim z [ ]
 
 pub div_same : (f : Format) (x x' d d' : Float) → Same x x' → Same d d' → T (not (is_zero d)) → Finite (div f x d) → Same (div f x d) (div f x' d')
 div_same f x x' d d' h (inr k) n r = absurd (T_not (is_zero d) n k.0)
@@ -356,6 +393,12 @@ div_nonzero f nan (fin t n d) h r = absurd r
 div_nonzero f (inf s) (fin t n d) h r = absurd r
 div_nonzero f (fin s m e) (fin t zero d) h r = absurd (cond_not_finite (eqb m 0) (unlike s t) r)
 div_nonzero f (fin s m e) (fin t (suc n) d) h r = tt
+div_nonzero f nan nan h r = elim h [ ]
+div_nonzero f nan (inf _) h r = elim h [ ]
+div_nonzero f (inf s) nan h r = elim h [ ]
+div_nonzero f (inf s) (inf _) h r = elim h [ ]
+div_nonzero f (fin s m e) nan h r = elim h [ ]
+div_nonzero f (fin s m e) (inf _) h r = elim h [ ]
 
 -- ---- IEEE's equality, Rust's `==`, of values that fit and are finite
 or_cases : (a b : Bool) → T (a || b) → T a ⊎ T b
@@ -393,6 +436,8 @@ eq→same f (fin s (suc m) e) (fin u (suc n) d) p q h t =
     go : T (beq s u) ⊎ T (eqb (suc m * up e * down d) 0) → (suc m ≡ suc n) × (e ≡ d) → Same (fin s (suc m) e) (fin u (suc n) d)
     go (inl g) r = inl (tt, λ i. fin (beq_is s u g i) (r.0 i) (r.1 i))
     go (inr g) r = absurd (pos_not_zero m e d (eqb→eq (suc m * up e * down d) 0 g))
+eq→same f nan y p q h t = elim h [ ]
+eq→same f (inf _) y p q h t = elim h [ ]
 
 or_left : (a b : Bool) → T a → T (a || b)
 or_left true b u = tt
@@ -411,10 +456,18 @@ unfolding eq
 eq_self (fin s m e) h =
     let a = m * up e * down e in
     and_i (eqb a a) (beq s s || eqb a 0) (eqb_refl a) (or_left (beq s s) (eqb a 0) (beq_self s))
+eq_self nan h = elim h [ ]
+eq_self (inf _) h = elim h [ ]
 
 eq_zeros : (x y : Float) → Zero x → Zero y → T (eq x y)
 unfolding eq
 eq_zeros (fin s zero e) (fin u zero d) p q = level_zero s u (0 * up e * down d) (0 * up d * down e) (nil (up e) (down d)) (nil (up d) (down e))
+eq_zeros nan y p q = elim p [ ]
+eq_zeros (inf _) y p q = elim p [ ]
+eq_zeros (fin s zero e) nan p q = elim q [ ]
+eq_zeros (fin s zero e) (inf _) p q = elim q [ ]
+eq_zeros (fin s zero e) (fin u (suc _) d) p q = elim q [ ]
+eq_zeros (fin s (suc _) e) y p q = elim p [ ]
 
 pub same→eq : (x y : Float) → Same x y → T (eq x y)
 same→eq x y (inl h) = subst (λ (z : Float). T (eq x z)) h.1 (eq_self x h.0)

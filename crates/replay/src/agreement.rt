@@ -4,7 +4,7 @@ use crate::reading::{Line, closed, numbers};
 use definitions::Refusal;
 
 // A refusal's number and the values that the Rust tells with it, in so many places of a line.
-#[derive(Drop)]
+#[derive(Clone, Copy)]
 struct Cause {
     count: usize,
     number: u64,

@@ -7,7 +7,7 @@ use crate::StartTable;
 use crate::starts::start;
 
 // A whole root, and what the number is above its square.
-#[derive(Drop)]
+#[derive(Clone, Copy)]
 pub struct Rooted {
     pub root: u64,
     pub rest: u64,

@@ -4,7 +4,7 @@ ghost use Rattle.std.specs.Prelude.{◌+◌, ◌*◌, ◌≤◌, ◌<◌, ◌^�
 ghost use Rattle.std.specs.Int.Signed.{mag};
 ghost use Rattle.root.specs.Fields.{Split, odd_bit, half, raised};
 
-#[derive(Drop)]
+#[derive(Clone, Copy)]
 pub struct Scaled {
     pub m: u64,
     pub e: i32,

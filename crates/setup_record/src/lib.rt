@@ -13,7 +13,7 @@ use definitions::{
 };
 
 // Whether a setup's lists fit their record, and if so where their parts stand.
-#[derive(Drop)]
+#[derive(Clone, Copy)]
 pub enum Fitting {
     Fits(Places),
     Misfit,

@@ -5,13 +5,13 @@ use Rattle.definitions.specs.Numbers.{above}
 use Rattle.numbers.proofs.above.Statement.{statement}
 use Rattle.numbers.proofs.above.Tie as tie
 
-returns : tie.Need-returns
+returns : tie.Need-returns-then-finite
 unfolding above
-returns c = rw (sym c.before.finite.ensures ∙ c.if1.true)
+returns c = rw (sym c.before.finite.ensures ∙ c.if-finite.true)
 
-returns-2 : tie.Need-returns-2
+returns-2 : tie.Need-returns-else-finite
 unfolding above
-returns-2 c = rw (sym c.before.finite.ensures ∙ c.if1.false)
+returns-2 c = rw (sym c.before.finite.ensures ∙ c.if-finite.false)
 
-pub above-spec : {M : Type 1} → statement M
-above-spec = tie.close (tie.spec (λ c κs. search rules) returns returns-2)
+pub above_spec : {M : Type 1} → statement M
+above_spec = tie.close (tie.spec (λ c κs. search rules) returns returns-2)

@@ -9,30 +9,30 @@ use Rattle.numbers.proofs.Over.{Over, over_next, over_source, over_target}
 use Rattle.numbers.proofs.copy_floats.Statement.{statement}
 use Rattle.numbers.proofs.copy_floats.Tie as tie
 
-abbrev invariant-loop : tie.invariant-loop
-invariant-loop from to₀ i₀ to i = Over from to₀ to i
+abbrev invariant-loop-i : tie.invariant-loop-i
+invariant-loop-i from to₀ i₀ to i = Over from to₀ to i
 
-abbrev decreases-loop : tie.decreases-loop
-decreases-loop from to₀ i₀ to i = length to₀ - i
+abbrev decreases-loop-i : tie.decreases-loop-i
+decreases-loop-i from to₀ i₀ to i = length to₀ - i
 
-loop-holds : tie.Need-loop-init invariant-loop decreases-loop
+loop-holds : tie.Need-loop-i-init invariant-loop-i decreases-loop-i
 loop-holds c = record { in_target = omega arith; in_source = omega arith; long = refl; front = refl }
 
-loop-again : tie.Need-loop-preserved invariant-loop decreases-loop
-loop-again c = over_next nan c.before.before.before.loop.invariant (omega arith) (omega arith)
+loop-again : tie.Need-loop-i-preserved invariant-loop-i decreases-loop-i
+loop-again c = over_next nan c.before.before.before.loop-i.invariant (omega arith) (omega arith)
 
-returns : tie.Need-returns invariant-loop decreases-loop
-returns c = over_source c.before.before.loop.invariant (omega arith)
+returns : tie.Need-returns-else-i-from invariant-loop-i decreases-loop-i
+returns c = over_source c.before.before.loop-i.invariant (omega arith)
 
-returns-2 : tie.Need-returns-2 invariant-loop decreases-loop
-returns-2 c = over_target c.before.loop.invariant (omega arith)
+returns-2 : tie.Need-returns-else-i-from invariant-loop-i decreases-loop-i
+returns-2 c = over_target c.before.loop-i.invariant (omega arith)
 
-pub copy-floats-spec : {M : Type 1} → statement M
-copy-floats-spec =
+pub copy_floats_spec : {M : Type 1} → statement M
+copy_floats_spec =
     tie.close
     (tie.spec
-    invariant-loop
-    decreases-loop
+    invariant-loop-i
+    decreases-loop-i
     loop-holds
     (λ c. search rules)
     (λ c. search rules)

@@ -19,13 +19,13 @@ not_below nan e = refl
 not_below (inf s) e = refl
 not_below (fin s m d) e = sym e
 
-returns : tie.Need-returns
+returns : tie.Need-returns-then-x-top
 unfolding div of_bits
-returns c = below c.before.args.x c.if1.true
+returns c = below c.before.args.x c.if-x-top.true
 
-returns-2 : tie.Need-returns-2
+returns-2 : tie.Need-returns-else-x-top
 unfolding div of_bits
-returns-2 c = not_below c.before.args.x c.if1.false
+returns-2 c = not_below c.before.args.x c.if-x-top.false
 
-pub finite-spec : {M : Type 1} → statement M
-finite-spec = tie.close (tie.spec returns returns-2)
+pub finite_spec : {M : Type 1} → statement M
+finite_spec = tie.close (tie.spec returns returns-2)

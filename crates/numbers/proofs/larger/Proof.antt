@@ -3,13 +3,13 @@ use Rattle.definitions.specs.Numbers.{larger}
 use Rattle.numbers.proofs.larger.Statement.{statement}
 use Rattle.numbers.proofs.larger.Tie as tie
 
-returns : tie.Need-returns
+returns : tie.Need-returns-then-x-y
 unfolding larger
-returns c = rw c.if1.true
+returns c = rw c.if-x-y.true
 
-returns-2 : tie.Need-returns-2
+returns-2 : tie.Need-returns-else-x-y
 unfolding larger
-returns-2 c = rw c.if1.false
+returns-2 c = rw c.if-x-y.false
 
-pub larger-spec : {M : Type 1} → statement M
-larger-spec = tie.close (tie.spec returns returns-2)
+pub larger_spec : {M : Type 1} → statement M
+larger_spec = tie.close (tie.spec returns returns-2)

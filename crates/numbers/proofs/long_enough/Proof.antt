@@ -5,11 +5,11 @@ use borrow.Author.Rules.{rules}
 use Rattle.numbers.proofs.long_enough.Statement.{statement}
 use Rattle.numbers.proofs.long_enough.Tie as tie
 
-returns : tie.Need-returns
+returns : tie.Need-returns-then-need-len
 returns c = let a = c.before.args in rw (le-leb a.need a.len (omega arith))
 
-returns-2 : tie.Need-returns-2
+returns-2 : tie.Need-returns-then-need-len
 returns-2 c = let a = c.before.args in rw (lt-leb a.need a.len (omega arith))
 
-pub long-enough-spec : {M : Type 1} → statement M
-long-enough-spec = tie.close (tie.spec returns returns-2)
+pub long_enough_spec : {M : Type 1} → statement M
+long_enough_spec = tie.close (tie.spec returns returns-2)

@@ -5,13 +5,13 @@ use Rattle.definitions.specs.Numbers.{usable}
 use Rattle.numbers.proofs.usable.Statement.{statement}
 use Rattle.numbers.proofs.usable.Tie as tie
 
-returns : tie.Need-returns
+returns : tie.Need-returns-then-finite
 unfolding usable
-returns c = rw (sym c.before.finite.ensures ∙ c.if1.true)
+returns c = rw (sym c.before.finite.ensures ∙ c.if-finite.true)
 
-returns-2 : tie.Need-returns-2
+returns-2 : tie.Need-returns-else-finite
 unfolding usable
-returns-2 c = rw (sym c.before.finite.ensures ∙ c.if1.false)
+returns-2 c = rw (sym c.before.finite.ensures ∙ c.if-finite.false)
 
-pub usable-spec : {M : Type 1} → statement M
-usable-spec = tie.close (tie.spec (λ c κs. search rules) returns returns-2)
+pub usable_spec : {M : Type 1} → statement M
+usable_spec = tie.close (tie.spec (λ c κs. search rules) returns returns-2)

@@ -9,27 +9,27 @@ use Rattle.numbers.proofs.Over.{Filled, filled, filled_more}
 use Rattle.numbers.proofs.zero_floats.Statement.{statement}
 use Rattle.numbers.proofs.zero_floats.Tie as tie
 
-abbrev invariant-loop : tie.invariant-loop
-invariant-loop s₀ i₀ s i = Filled zeroᶠ s₀ s i
+abbrev invariant-loop-i : tie.invariant-loop-i
+invariant-loop-i s₀ i₀ s i = Filled zeroᶠ s₀ s i
 
-abbrev decreases-loop : tie.decreases-loop
-decreases-loop s₀ i₀ s i = length s₀ - i
+abbrev decreases-loop-i : tie.decreases-loop-i
+decreases-loop-i s₀ i₀ s i = length s₀ - i
 
-loop-holds : tie.Need-loop-init invariant-loop decreases-loop
+loop-holds : tie.Need-loop-i-init invariant-loop-i decreases-loop-i
 loop-holds c = record { within = omega arith; long = refl; front = refl }
 
-loop-again : tie.Need-loop-preserved invariant-loop decreases-loop
-loop-again c = filled_more c.before.loop.invariant (omega arith)
+loop-again : tie.Need-loop-i-preserved invariant-loop-i decreases-loop-i
+loop-again c = filled_more c.before.loop-i.invariant (omega arith)
 
-returns : tie.Need-returns invariant-loop decreases-loop
-returns c = filled c.before.loop.invariant (omega arith)
+returns : tie.Need-returns invariant-loop-i decreases-loop-i
+returns c = filled c.before.loop-i.invariant (omega arith)
 
-pub zero-floats-spec : {M : Type 1} → statement M
-zero-floats-spec =
+pub zero_floats_spec : {M : Type 1} → statement M
+zero_floats_spec =
     tie.close
     (tie.spec
-    invariant-loop
-    decreases-loop
+    invariant-loop-i
+    decreases-loop-i
     loop-holds
     (λ c. search rules)
     (λ c. omega arith)

@@ -11,33 +11,33 @@ use borrow.Author.Rules.{rules}
 use Rattle.numbers.proofs.scan.falls.Statement.{statement}
 use Rattle.numbers.proofs.scan.falls.Tie as tie
 
-abbrev invariant-loop : tie.invariant-loop
-invariant-loop list found₀ i₀ found i = (0 < i) × (falls list ≡ (found || falls (drop (i - 1) list)))
+abbrev invariant-loop-i : tie.invariant-loop-i
+invariant-loop-i list found₀ i₀ found i = (0 < i) × (falls list ≡ (found || falls (drop (i - 1) list)))
 
-abbrev decreases-loop : tie.decreases-loop
-decreases-loop list found₀ i₀ found i = length list - i
+abbrev decreases-loop-i : tie.decreases-loop-i
+decreases-loop-i list found₀ i₀ found i = length list - i
 
-loop-holds : tie.Need-loop-init invariant-loop decreases-loop
+loop-holds : tie.Need-loop-i-init invariant-loop-i decreases-loop-i
 loop-holds c = (omega arith, refl)
 
-loop-again : tie.Need-loop-preserved invariant-loop decreases-loop
+loop-again : tie.Need-loop-i-preserved invariant-loop-i decreases-loop-i
 loop-again c =
     let a = c.before.before.before.before.before.args in
-    let l = c.before.before.before.before.loop in
+    let l = c.before.before.before.before.loop-i in
     ⊎_elim
-    (λ w. (omega arith, went_hit _ _ l.found l.invariant.1 c.if1.found _ w.1 (falls_found a.list.now l.i l.invariant.0 (omega arith) w.0.taken)))
-    (λ w. (omega arith, went_miss _ _ l.found l.invariant.1 c.if1.found _ w.1 (falls_passed a.list.now l.i l.invariant.0 (omega arith) w.0.left)))
-    c.if1.branch
+    (λ w. (omega arith, went_hit _ _ l.found l.invariant.1 c.if-list-i.found _ w.found-is (falls_found a.list.now l.i l.invariant.0 (omega arith) w.if-list-i.true)))
+    (λ w. (omega arith, went_miss _ _ l.found l.invariant.1 c.if-list-i.found _ w.found-is (falls_passed a.list.now l.i l.invariant.0 (omega arith) w.if-list-i.false)))
+    c.if-list-i.branch-raw
 
-returns : tie.Need-returns invariant-loop decreases-loop
-returns c = let l = c.before.loop in went_end _ _ l.found l.invariant.1 (falls_end c.before.before.args.list.now l.i l.invariant.0 (omega arith))
+returns : tie.Need-returns invariant-loop-i decreases-loop-i
+returns c = let l = c.before.loop-i in went_end _ _ l.found l.invariant.1 (falls_end c.before.before.args.list.now l.i l.invariant.0 (omega arith))
 
-pub falls-spec : {M : Type 1} → statement M
-falls-spec =
+pub falls_spec : {M : Type 1} → statement M
+falls_spec =
     tie.close
     (tie.spec
-    invariant-loop
-    decreases-loop
+    invariant-loop-i
+    decreases-loop-i
     loop-holds
     (λ c. search rules)
     (λ c. search rules)

@@ -9,29 +9,29 @@ use borrow.Author.Rules.{rules}
 use Rattle.numbers.proofs.scan.largest.Statement.{statement}
 use Rattle.numbers.proofs.scan.largest.Tie as tie
 
-abbrev invariant-loop : tie.invariant-loop
-invariant-loop list top₀ i₀ top i = (i ≤ length list) × (top ≡ largest (take i list))
+abbrev invariant-loop-i : tie.invariant-loop-i
+invariant-loop-i list top₀ i₀ top i = (i ≤ length list) × (top ≡ largest (take i list))
 
-abbrev decreases-loop : tie.decreases-loop
-decreases-loop list top₀ i₀ top i = length list - i
+abbrev decreases-loop-i : tie.decreases-loop-i
+decreases-loop-i list top₀ i₀ top i = length list - i
 
-loop-holds : tie.Need-loop-init invariant-loop decreases-loop
+loop-holds : tie.Need-loop-i-init invariant-loop-i decreases-loop-i
 loop-holds c = (omega arith, largest_none c.before.args.list.now)
 
-loop-again : tie.Need-loop-preserved invariant-loop decreases-loop
+loop-again : tie.Need-loop-i-preserved invariant-loop-i decreases-loop-i
 loop-again c =
-    let l = c.before.before.before.before.loop in
-    (omega arith, largest_more c.before.before.before.before.before.before.args.list.now l.i l.top l.invariant.1 c.before.magnitude.result _ (omega arith) c.before.magnitude.ensures c.larger.ensures)
+    let l = c.before.before.before.before.loop-i in
+    (omega arith, largest_more c.before.before.before.before.before.before.args.list.now l.i l.top l.invariant.1 c.before.magnitude.result _ (omega arith) c.before.magnitude.ensures c.larger-top.ensures)
 
-returns : tie.Need-returns invariant-loop decreases-loop
-returns c = let l = c.before.loop in largest_all c.before.before.before.args.list.now l.i l.top l.invariant.1 (omega arith)
+returns : tie.Need-returns invariant-loop-i decreases-loop-i
+returns c = let l = c.before.loop-i in largest_all c.before.before.before.args.list.now l.i l.top l.invariant.1 (omega arith)
 
-pub largest-spec : {M : Type 1} → statement M
-largest-spec =
+pub largest_spec : {M : Type 1} → statement M
+largest_spec =
     tie.close
     (tie.spec
-    invariant-loop
-    decreases-loop
+    invariant-loop-i
+    decreases-loop-i
     loop-holds
     (λ c. search rules)
     (λ c. search rules)

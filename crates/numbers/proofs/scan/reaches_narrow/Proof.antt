@@ -13,36 +13,36 @@ use borrow.Author.Rules.{rules}
 use Rattle.numbers.proofs.scan.reaches_narrow.Statement.{statement}
 use Rattle.numbers.proofs.scan.reaches_narrow.Tie as tie
 
-abbrev invariant-loop : tie.invariant-loop
-invariant-loop list top found₀ i₀ found i = (i ≤ length list) × (any (leb top) list ≡ (found || any (leb top) (drop i list)))
+abbrev invariant-loop-i : tie.invariant-loop-i
+invariant-loop-i list top found₀ i₀ found i = (i ≤ length list) × (any (leb top) list ≡ (found || any (leb top) (drop i list)))
 
-abbrev decreases-loop : tie.decreases-loop
-decreases-loop list top found₀ i₀ found i = length list - i
+abbrev decreases-loop-i : tie.decreases-loop-i
+decreases-loop-i list top found₀ i₀ found i = length list - i
 
-loop-holds : tie.Need-loop-init invariant-loop decreases-loop
+loop-holds : tie.Need-loop-i-init invariant-loop-i decreases-loop-i
 loop-holds c = (omega arith, refl)
 
-loop-again : tie.Need-loop-preserved invariant-loop decreases-loop
+loop-again : tie.Need-loop-i-preserved invariant-loop-i decreases-loop-i
 loop-again c =
     let a = c.before.before.before.before.args in
-    let l = c.before.before.before.loop in
+    let l = c.before.before.before.loop-i in
     ⊎_elim
-    (λ w. (omega arith, scan_hit (leb a.top) a.list.now l.i l.found l.invariant.1 0 (omega arith) c.if1.found w.1 (le-leb _ _ w.0.taken)))
-    (λ w. (omega arith, scan_miss (leb a.top) a.list.now l.i l.found l.invariant.1 0 (omega arith) c.if1.found w.1 (lt-leb _ _ w.0.left)))
-    c.if1.branch
+    (λ w. (omega arith, scan_hit (leb a.top) a.list.now l.i l.found l.invariant.1 0 (omega arith) c.if-top-list.found w.found-is (le-leb _ _ w.if-top-list.true)))
+    (λ w. (omega arith, scan_miss (leb a.top) a.list.now l.i l.found l.invariant.1 0 (omega arith) c.if-top-list.found w.found-is (lt-leb _ _ w.if-top-list.false)))
+    c.if-top-list.branch-raw
 
-returns : tie.Need-returns invariant-loop decreases-loop
+returns : tie.Need-returns invariant-loop-i decreases-loop-i
 returns c =
     let a = c.before.before.args in
-    let l = c.before.loop in
+    let l = c.before.loop-i in
     scan_end (leb a.top) a.list.now l.i l.found l.invariant.1 (omega arith)
 
-pub reaches-narrow-spec : {M : Type 1} → statement M
-reaches-narrow-spec =
+pub reaches_narrow_spec : {M : Type 1} → statement M
+reaches_narrow_spec =
     tie.close
     (tie.spec
-    invariant-loop
-    decreases-loop
+    invariant-loop-i
+    decreases-loop-i
     loop-holds
     (λ c. search rules)
     (λ c. search rules)
