@@ -44,7 +44,7 @@ def turned(text, of, name):
     steps = {}
     for place in of["places"]:
         old, new = place[2]
-        if old != new:
+        if old:
             if steps.get(old, new) != new:
                 print("two steps of one name: %s: %s, %s" % (old, steps[old], new), file=sys.stderr)
             steps[old] = new
@@ -61,13 +61,12 @@ def turned(text, of, name):
         if kind:
             marks["Need-%s-%s" % ("nonzero" if kind[1] in ("div", "rem") else "overflow", old)] = "Need-" + new
     plain = {k.replace("_", "-"): v for k, v in marks.items()}
-    text = placed(text, of)
 
     def tie(m):
         w = m[1]
-        return "tie." + marks.get(w, loops.get(w, plain.get(w.replace("_", "-"), w)))
+        return m[0][: -len(w)] + marks.get(w, loops.get(w, plain.get(w.replace("_", "-"), w)))
 
-    text = re.sub(r"\btie\.(" + W + ")", tie, text)
+    text = re.sub(r"\b(?:tie|lts)\.(" + W + ")", tie, text)
 
     def field(m):
         return "." + steps.get(m[1], m[1])
@@ -84,6 +83,9 @@ def turned(text, of, name):
         else:
             out.append(re.sub(r"(?<![.\w'-])(invariant|decreases)-(" + W + ")", lambda m: names.get(m[0], m[0]), line))
     text = "\n".join(out)
+    # a place shows the steps before it as its own
+    text = re.sub(r"((?:\.before)+)(?=\.(?!before\b))", "", text)
+    text = placed(text, of)
     dashed = name.lstrip("+").replace("_", "-")
     for spec in ("%s-spec" % dashed, "+%s-spec" % dashed):
         good = spec[: -len("-spec")].replace("-", "_") + "_spec"

@@ -7,11 +7,11 @@ use Rattle.numbers.proofs.above.Tie as tie
 
 returns : tie.Need-returns-then-finite
 unfolding above
-returns c = rw (sym c.before.finite.ensures ∙ c.if-finite.true)
+returns c = rw (sym c.finite.ensures ∙ c.if-finite.true)
 
 returns-2 : tie.Need-returns-else-finite
 unfolding above
-returns-2 c = rw (sym c.before.finite.ensures ∙ c.if-finite.false)
+returns-2 c = rw (sym c.finite.ensures ∙ c.if-finite.false)
 
 pub above_spec : {M : Type 1} → statement M
 above_spec = tie.close (tie.spec (λ c κs. search rules) returns returns-2)

@@ -19,13 +19,13 @@ loop-holds : tie.Need-loop-i-init invariant-loop-i decreases-loop-i
 loop-holds c = record { in_target = omega arith; in_source = omega arith; long = refl; front = refl }
 
 loop-again : tie.Need-loop-i-preserved invariant-loop-i decreases-loop-i
-loop-again c = over_next nan c.before.before.before.loop-i.invariant (omega arith) (omega arith)
+loop-again c = over_next nan c.loop-i.invariant (omega arith) (omega arith)
 
 returns : tie.Need-returns-else-i-from invariant-loop-i decreases-loop-i
-returns c = over_source c.before.before.loop-i.invariant (omega arith)
+returns c = over_source c.loop-i.invariant (omega arith)
 
-returns-2 : tie.Need-returns-else-i-from invariant-loop-i decreases-loop-i
-returns-2 c = over_target c.before.loop-i.invariant (omega arith)
+returns-2 : tie.Need-returns invariant-loop-i decreases-loop-i
+returns-2 c = over_target c.loop-i.invariant (omega arith)
 
 pub copy_floats_spec : {M : Type 1} → statement M
 copy_floats_spec =

@@ -21,11 +21,11 @@ not_below (fin s m d) e = sym e
 
 returns : tie.Need-returns-then-x-top
 unfolding div of_bits
-returns c = below c.before.args.x c.if-x-top.true
+returns c = below c.args.x c.if-x-top.true
 
 returns-2 : tie.Need-returns-else-x-top
 unfolding div of_bits
-returns-2 c = not_below c.before.args.x c.if-x-top.false
+returns-2 c = not_below c.args.x c.if-x-top.false
 
 pub finite_spec : {M : Type 1} → statement M
 finite_spec = tie.close (tie.spec returns returns-2)

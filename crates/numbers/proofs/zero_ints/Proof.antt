@@ -18,10 +18,10 @@ loop-holds : tie.Need-loop-i-init invariant-loop-i decreases-loop-i
 loop-holds c = record { within = omega arith; long = refl; front = refl }
 
 loop-again : tie.Need-loop-i-preserved invariant-loop-i decreases-loop-i
-loop-again c = filled_more c.before.loop-i.invariant (omega arith)
+loop-again c = filled_more c.loop-i.invariant (omega arith)
 
 returns : tie.Need-returns invariant-loop-i decreases-loop-i
-returns c = filled c.before.loop-i.invariant (omega arith)
+returns c = filled c.loop-i.invariant (omega arith)
 
 pub zero_ints_spec : {M : Type 1} → statement M
 zero_ints_spec =

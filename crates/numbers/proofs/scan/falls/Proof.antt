@@ -22,15 +22,15 @@ loop-holds c = (omega arith, refl)
 
 loop-again : tie.Need-loop-i-preserved invariant-loop-i decreases-loop-i
 loop-again c =
-    let a = c.before.before.before.before.before.args in
-    let l = c.before.before.before.before.loop-i in
+    let a = c.args in
+    let l = c.loop-i in
     ⊎_elim
     (λ w. (omega arith, went_hit _ _ l.found l.invariant.1 c.if-list-i.found _ w.found-is (falls_found a.list.now l.i l.invariant.0 (omega arith) w.if-list-i.true)))
     (λ w. (omega arith, went_miss _ _ l.found l.invariant.1 c.if-list-i.found _ w.found-is (falls_passed a.list.now l.i l.invariant.0 (omega arith) w.if-list-i.false)))
     c.if-list-i.branch-raw
 
 returns : tie.Need-returns invariant-loop-i decreases-loop-i
-returns c = let l = c.before.loop-i in went_end _ _ l.found l.invariant.1 (falls_end c.before.before.args.list.now l.i l.invariant.0 (omega arith))
+returns c = let l = c.loop-i in went_end _ _ l.found l.invariant.1 (falls_end c.args.list.now l.i l.invariant.0 (omega arith))
 
 pub falls_spec : {M : Type 1} → statement M
 falls_spec =

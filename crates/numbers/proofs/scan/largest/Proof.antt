@@ -16,15 +16,15 @@ abbrev decreases-loop-i : tie.decreases-loop-i
 decreases-loop-i list top₀ i₀ top i = length list - i
 
 loop-holds : tie.Need-loop-i-init invariant-loop-i decreases-loop-i
-loop-holds c = (omega arith, largest_none c.before.args.list.now)
+loop-holds c = (omega arith, largest_none c.args.list.now)
 
 loop-again : tie.Need-loop-i-preserved invariant-loop-i decreases-loop-i
 loop-again c =
-    let l = c.before.before.before.before.loop-i in
-    (omega arith, largest_more c.before.before.before.before.before.before.args.list.now l.i l.top l.invariant.1 c.before.magnitude.result _ (omega arith) c.before.magnitude.ensures c.larger-top.ensures)
+    let l = c.loop-i in
+    (omega arith, largest_more c.args.list.now l.i l.top l.invariant.1 c.magnitude.result _ (omega arith) c.magnitude.ensures c.larger-top.ensures)
 
 returns : tie.Need-returns invariant-loop-i decreases-loop-i
-returns c = let l = c.before.loop-i in largest_all c.before.before.before.args.list.now l.i l.top l.invariant.1 (omega arith)
+returns c = let l = c.loop-i in largest_all c.args.list.now l.i l.top l.invariant.1 (omega arith)
 
 pub largest_spec : {M : Type 1} → statement M
 largest_spec =

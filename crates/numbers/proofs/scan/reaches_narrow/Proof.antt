@@ -24,8 +24,8 @@ loop-holds c = (omega arith, refl)
 
 loop-again : tie.Need-loop-i-preserved invariant-loop-i decreases-loop-i
 loop-again c =
-    let a = c.before.before.before.before.args in
-    let l = c.before.before.before.loop-i in
+    let a = c.args in
+    let l = c.loop-i in
     ⊎_elim
     (λ w. (omega arith, scan_hit (leb a.top) a.list.now l.i l.found l.invariant.1 0 (omega arith) c.if-top-list.found w.found-is (le-leb _ _ w.if-top-list.true)))
     (λ w. (omega arith, scan_miss (leb a.top) a.list.now l.i l.found l.invariant.1 0 (omega arith) c.if-top-list.found w.found-is (lt-leb _ _ w.if-top-list.false)))
@@ -33,8 +33,8 @@ loop-again c =
 
 returns : tie.Need-returns invariant-loop-i decreases-loop-i
 returns c =
-    let a = c.before.before.args in
-    let l = c.before.loop-i in
+    let a = c.args in
+    let l = c.loop-i in
     scan_end (leb a.top) a.list.now l.i l.found l.invariant.1 (omega arith)
 
 pub reaches_narrow_spec : {M : Type 1} → statement M
