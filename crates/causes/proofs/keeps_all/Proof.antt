@@ -5,11 +5,11 @@ use borrow.Author.Rules.{rules}
 use Rattle.causes.proofs.keeps_all.Statement.{statement}
 use Rattle.causes.proofs.keeps_all.Tie as tie
 
-returns : tie.Need-returns
-returns c = low_keeps c.before.before.args.cause c.before.number_of_lem.result c.before.number_of_lem.ensures (omega arith)
+returns : tie.Need-returns-then-number-lt14
+returns c = low_keeps c.args.cause c.number_of-number.result c.number_of-number.ensures (omega arith)
 
-returns-2 : tie.Need-returns-2
-returns-2 c = high_keeps c.before.before.args.cause c.before.number_of_lem.result c.before.number_of_lem.ensures (omega arith)
+returns-2 : tie.Need-returns
+returns-2 c = high_keeps c.args.cause c.number_of-number.result c.number_of-number.ensures (omega arith)
 
-pub keeps-all-spec : {M : Type 1} → statement M
-keeps-all-spec = tie.close (tie.spec (λ c κs. search rules) returns returns-2)
+pub keeps_all_spec : {M : Type 1} → statement M
+keeps_all_spec = tie.close (tie.spec (λ c κs. search rules) returns returns-2)

@@ -8,7 +8,7 @@ use Rattle.causes.proofs.number_of.Tie as tie
 
 returns : tie.Need-returns
 unfolding told_of
-returns c = ap (λ (x : Row). x.number) c.told.ensures
+returns c = ap (λ (x : Row). x.number) c.told-row.ensures
 
-pub number-of-spec : {M : Type 1} → statement M
-number-of-spec = tie.close (tie.spec (λ c κs. search rules) returns)
+pub number_of_spec : {M : Type 1} → statement M
+number_of_spec = tie.close (tie.spec (λ c κs. search rules) returns)

@@ -13,84 +13,80 @@ use borrow.Author.Rules.{rules}
 use Rattle.csr32.proofs.fill_diagonal.Statement.{statement}
 use Rattle.csr32.proofs.fill_diagonal.Tie as tie
 
-abbrev invariant-loop : tie.invariant-loop
-invariant-loop rows row-ptr col-idx values diagonal₀ i₀ diagonal i =
+abbrev invariant-loop-i : tie.invariant-loop-i
+invariant-loop-i rows row-ptr col-idx values diagonal₀ i₀ diagonal i =
     (i ≤ rows) × (length diagonal ≡ length diagonal₀) × (diagonal_from (csr rows rows row-ptr col-idx values) (rows - i) i (take i diagonal) ≡ diagonal_of (csr rows rows row-ptr col-idx values))
 
-abbrev decreases-loop : tie.decreases-loop
-decreases-loop rows row-ptr col-idx values diagonal₀ i₀ diagonal i = rows - i
+abbrev decreases-loop-i : tie.decreases-loop-i
+decreases-loop-i rows row-ptr col-idx values diagonal₀ i₀ diagonal i = rows - i
 
-loop-holds : tie.Need-loop-init invariant-loop decreases-loop
-loop-holds c = let a = c.before.before.before.before.args in (omega arith, refl, fill_none (csr a.rows a.rows a.row-ptr.now a.col-idx.now a.values.now) a.diagonal.now)
+loop-holds : tie.Need-loop-i-init invariant-loop-i decreases-loop-i
+loop-holds c = let a = c.args in (omega arith, refl, fill_none (csr a.rows a.rows a.row_ptr.now a.col_idx.now a.values.now) a.diagonal.now)
 
-shared-slice-read-wide : tie.Need-shared-slice-read-wide invariant-loop decreases-loop
-shared-slice-read-wide c = omega (arith, c.before.before.before.before.before.before.before.requires.0.long)
+shared-slice-read-wide : tie.Need-bounds-row_ptr-i invariant-loop-i decreases-loop-i
+shared-slice-read-wide c = omega (arith, c.requires.0.long)
 
-shared-slice-read-wide-2 : tie.Need-shared-slice-read-wide-2 invariant-loop decreases-loop
-shared-slice-read-wide-2 c = omega (arith, c.before.before.before.before.before.before.before.before.before.requires.0.long)
+shared-slice-read-wide-2 : tie.Need-bounds-row_ptr-i-in-loop-i invariant-loop-i decreases-loop-i
+shared-slice-read-wide-2 c = omega (arith, c.requires.0.long)
 
-sum-at-requires : tie.Need-sum-at-requires invariant-loop decreases-loop
+sum-at-requires : tie.Need-sum_at-found-requires invariant-loop-i decreases-loop-i
 sum-at-requires c κs =
-    let s = c.before.before.before.before.before.before.before.before.before.before in
-    let a = s.args in
-    let f = row_fits (csr a.rows a.rows a.row-ptr.now a.col-idx.now a.values.now) s.requires.0 c.before.before.before.before.before.loop.i c.before.before.wide.result c.wide2.result
-    c.before.before.before.before.loop-test.true c.before.before.wide.ensures c.wide2.ensures in
-    (f, (omega (arith, f.1, s.requires.0.few_entries), omega (arith, s.requires.0.few_rows)))
+    let a = c.args in
+    let f = row_fits (csr a.rows a.rows a.row_ptr.now a.col_idx.now a.values.now) c.requires.0 c.loop-i.i c.wide-from.result c.wide-to.result
+    c.loop-i-test.true c.wide-from.ensures c.wide-to.ensures in
+    (f, (omega (arith, f.1, c.requires.0.few_entries), omega (arith, c.requires.0.few_rows)))
 
-slice-write-diagonal : tie.Need-slice-write-diagonal invariant-loop decreases-loop
-slice-write-diagonal c = omega (arith, c.before.before.before.before.before.before.before.before.before.before.before.before.requires.1)
+slice-write-diagonal : tie.Need-bounds-diagonal-i invariant-loop-i decreases-loop-i
+slice-write-diagonal c = omega (arith, c.requires.1)
 
-loop-again : tie.Need-loop-preserved invariant-loop decreases-loop
+loop-again : tie.Need-loop-i-preserved invariant-loop-i decreases-loop-i
 loop-again c =
-    let s = c.before.before.before.before.before.before.before.before.before.before.before.before in
-    let a = s.args in
-    let l = c.before.before.before.before.before.before.before.loop in (
+    let a = c.args in
+    let l = c.loop-i in (
       omega arith,
       simp length-set l.invariant.1,
-      fill_more (csr a.rows a.rows a.row-ptr.now a.col-idx.now a.values.now) l.i c.before.before.before.before.wide.result c.before.before.wide2.result (omega arith)
-          c.before.before.before.before.wide.ensures c.before.before.wide2.ensures _ c.before.sum_at_lem.ensures.0 l.diagonal l.invariant.2 _ (omega arith) c.before.sum_at_lem.ensures.1 c.if1.true,
+      fill_more (csr a.rows a.rows a.row_ptr.now a.col_idx.now a.values.now) l.i c.wide-from.result c.wide-to.result (omega arith)
+          c.wide-from.ensures c.wide-to.ensures _ c.sum_at-found.ensures.0 l.diagonal l.invariant.2 _ (omega arith) c.sum_at-found.ensures.1 c.if-stored.true,
     )
 
-same_length : tie.Need-same-length invariant-loop decreases-loop
-same_length c = let l = c.before.before.before.before.before.before.before.before.before.before.before.loop in omega (arith, c.before.before.zero-floats.auto.0, l.invariant.1)
+same_length : tie.Need-shape_of-diagonal-else-stored invariant-loop-i decreases-loop-i
+same_length c = let l = c.loop-i in omega (arith, c.zero_floats.auto.s, l.invariant.1)
 
-returns : tie.Need-returns invariant-loop decreases-loop
+returns : tie.Need-returns-else-stored invariant-loop-i decreases-loop-i
 unfolding answer_of
 returns c =
-    let s = c.before.before.before.before.before.before.before.before.before.before.before.before.before.before.before.before in
-    let a = s.args in
-    let l = c.before.before.before.before.before.before.before.before.before.before.before.loop in
-    let m = csr a.rows a.rows a.row-ptr.now a.col-idx.now a.values.now in
-    let d = c.before.before.before.before.before in
-    let w = d.before.before.before.wide in
-    let w2 = d.before.wide2 in
-    let e = fill_missing m l.i w.result w2.result (omega arith) w.ensures w2.ensures _ d.sum_at_lem.ensures.0 l.diagonal l.invariant.2 c.before.before.before.before.if1.false in
-    (rw (e, answer_of), left_missing (diagonal_of m) l.i l.diagonal a.diagonal.now _ e l.invariant.1 c.before.before.zero-floats.ensures)
+    let a = c.args in
+    let l = c.loop-i in
+    let m = csr a.rows a.rows a.row_ptr.now a.col_idx.now a.values.now in
+    let w = c.wide-from in
+    let w2 = c.wide-to in
+    let e = fill_missing m l.i w.result w2.result (omega arith) w.ensures w2.ensures _ c.sum_at-found.ensures.0 l.diagonal l.invariant.2 c.if-stored.false in
+    (rw (e, answer_of), left_missing (diagonal_of m) l.i l.diagonal a.diagonal.now _ e l.invariant.1 c.zero_floats.ensures)
 
-part-zero-floats-start : tie.Need-slice-bounds-zero-floats-start invariant-loop decreases-loop
-part-zero-floats-start c = omega (arith, c.before.before.before.before.before.before.requires.1)
+part-zero-floats-start : tie.Need-slice_bounds-zero_floats-start invariant-loop-i decreases-loop-i
+part-zero-floats-start c = omega (arith, c.requires.1)
 
-same-length-2 : tie.Need-same-length-2 invariant-loop decreases-loop
+same-length-2 : tie.Need-shape_of-diagonal invariant-loop-i decreases-loop-i
 same-length-2 c =
-    let a = c.before.before.before.before.before.before.before.before.before.before.args in
-    let l = c.before.before.before.before.before.loop in
-    left_length a.rows l.diagonal a.diagonal.now _ c.before.before.before.before.before.before.before.before.before.before.requires.1 l.invariant.1 c.before.before.zero-floats2.ensures
+    let a = c.args in
+    let l = c.loop-i in
+    left_length a.rows l.diagonal a.diagonal.now _ c.requires.1 l.invariant.1 c.zero_floats-2.ensures
 
-returns-2 : tie.Need-returns-2 invariant-loop decreases-loop
+returns-2 : tie.Need-returns invariant-loop-i decreases-loop-i
 unfolding answer_of
 returns-2 c =
-    let a = c.before.before.before.before.before.before.before.before.before.before.args in
-    let l = c.before.before.before.before.before.loop in
-    let m = csr a.rows a.rows a.row-ptr.now a.col-idx.now a.values.now in
+    let a = c.args in
+    let l = c.loop-i in
+    let m = csr a.rows a.rows a.row_ptr.now a.col_idx.now a.values.now in
     let e = fill_all m l.i l.diagonal (omega arith) l.invariant.2 in
-    (rw (e, answer_of), left_done a.rows l.diagonal a.diagonal.now _ c.before.before.before.before.before.before.before.before.before.before.requires.1 l.invariant.1 c.before.before.zero-floats2.ensures (diagonal_of m) e)
+    (rw (e, answer_of), left_done a.rows l.diagonal a.diagonal.now _ c.requires.1 l.invariant.1 c.zero_floats-2.ensures (diagonal_of m) e)
 
-pub fill-diagonal-spec : {M : Type 1} → statement M
-fill-diagonal-spec =
+pub fill_diagonal_spec : {M : Type 1} → statement M
+fill_diagonal_spec =
     tie.close
     (tie.spec
-    invariant-loop
-    decreases-loop
+    invariant-loop-i
+    decreases-loop-i
     loop-holds
     (λ c. search rules)
     shared-slice-read-wide

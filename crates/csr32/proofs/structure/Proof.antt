@@ -5,30 +5,30 @@ use borrow.Author.Rules.{rules}
 use Rattle.csr32.proofs.structure.Statement.{statement}
 use Rattle.csr32.proofs.structure.Tie as tie
 
-returns-8 : tie.Need-returns-8
+returns-8 : tie.Need-returns-then-falls
 returns-8 c =
-    let a = c.before.before.before.before.before.before.before.before.before.before.before.before.before.before.before.args in
-    shape_passed (csr a.rows a.cols a.row-ptr.now a.col-idx.now a.values.now) _ c.before.before.before.wide.result
-    c.before.before.before.before.before.before.before.before.before.before.before.if1.false c.before.before.before.before.before.before.before.before.before.before.if2.false c.before.before.before.before.before.before.before.before.before.if3.false c.before.before.before.before.before.before.before.before.if4.false c.before.before.before.before.before.before.before.if5.false c.before.before.before.before.before.if6.false c.before.before.before.wide.ensures c.before.before.if7.false
+    let a = c.args in
+    shape_passed (csr a.rows a.cols a.row_ptr.now a.col_idx.now a.values.now) _ c.wide.result
+    c.if-rows-gt-MAX_ROWS.false c.if-cols-gt-MAX_ROWS.false c.if-values-gt-MAX_ENTRIES.false c.if-row_ptr-rows.false c.if-col_idx-values.false c.if-row_ptr-ne0.false c.wide.ensures c.if-wide-values.false
     (search causes depth 14)
 
-returns-9 : tie.Need-returns-9
+returns-9 : tie.Need-returns-then-reaches
 returns-9 c =
-    let a = c.before.before.before.before.before.before.before.before.before.before.before.before.before.before.before.before.before.args in
-    shape_passed (csr a.rows a.cols a.row-ptr.now a.col-idx.now a.values.now) _ c.before.before.before.before.before.wide.result
-    c.before.before.before.before.before.before.before.before.before.before.before.before.before.if1.false c.before.before.before.before.before.before.before.before.before.before.before.before.if2.false c.before.before.before.before.before.before.before.before.before.before.before.if3.false c.before.before.before.before.before.before.before.before.before.before.if4.false c.before.before.before.before.before.before.before.before.before.if5.false c.before.before.before.before.before.before.before.if6.false c.before.before.before.before.before.wide.ensures c.before.before.before.before.if7.false
+    let a = c.args in
+    shape_passed (csr a.rows a.cols a.row_ptr.now a.col_idx.now a.values.now) _ c.wide.result
+    c.if-rows-gt-MAX_ROWS.false c.if-cols-gt-MAX_ROWS.false c.if-values-gt-MAX_ENTRIES.false c.if-row_ptr-rows.false c.if-col_idx-values.false c.if-row_ptr-ne0.false c.wide.ensures c.if-wide-values.false
     (search causes depth 14)
 
-returns-10 : tie.Need-returns-10
+returns-10 : tie.Need-returns
 returns-10 c =
-    let a = c.before.before.before.before.before.before.before.before.before.before.before.before.before.before.before.before.before.args in
-    shape_passed (csr a.rows a.cols a.row-ptr.now a.col-idx.now a.values.now) _ c.before.before.before.before.before.wide.result
-    c.before.before.before.before.before.before.before.before.before.before.before.before.before.if1.false c.before.before.before.before.before.before.before.before.before.before.before.before.if2.false c.before.before.before.before.before.before.before.before.before.before.before.if3.false c.before.before.before.before.before.before.before.before.before.before.if4.false c.before.before.before.before.before.before.before.before.before.if5.false c.before.before.before.before.before.before.before.if6.false c.before.before.before.before.before.wide.ensures c.before.before.before.before.if7.false
+    let a = c.args in
+    shape_passed (csr a.rows a.cols a.row_ptr.now a.col_idx.now a.values.now) _ c.wide.result
+    c.if-rows-gt-MAX_ROWS.false c.if-cols-gt-MAX_ROWS.false c.if-values-gt-MAX_ENTRIES.false c.if-row_ptr-rows.false c.if-col_idx-values.false c.if-row_ptr-ne0.false c.wide.ensures c.if-wide-values.false
     (search causes depth 14)
 
-pub structure-spec : {M : Type 1} → statement M
+pub structure_spec : {M : Type 1} → statement M
 unfolding structure_of
-structure-spec =
+structure_spec =
     tie.close
     (tie.spec
     (λ c. search causes depth 14)

@@ -14,12 +14,12 @@ real nan e = subst T e tt
 real (inf s) e = tt
 real (fin s m d) e = tt
 
-returns : tie.Need-returns
+returns : tie.Need-returns-then-x
 unfolding to_bits
-returns c = rw (differs_from_itself c.before.args.x (subst T (sym c.if1.true) tt))
+returns c = rw (differs_from_itself c.args.x (subst T (sym c.if-x.true) tt))
 
-float-to-bits-result : tie.Need-float-to-bits-result
-float-to-bits-result c = real c.before.args.x c.if1.false
+float-to-bits-result : tie.Need-float_to_bits-result
+float-to-bits-result c = real c.args.x c.if-x.false
 
-pub bits-of-spec : {M : Type 1} → statement M
-bits-of-spec = tie.close (tie.spec returns float-to-bits-result (λ c. search rules))
+pub bits_of_spec : {M : Type 1} → statement M
+bits_of_spec = tie.close (tie.spec returns float-to-bits-result (λ c. search rules))

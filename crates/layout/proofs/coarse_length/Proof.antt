@@ -7,29 +7,29 @@ use borrow.Author.Rules.{rules}
 use Rattle.layout.proofs.coarse_length.Statement.{statement}
 use Rattle.layout.proofs.coarse_length.Tie as tie
 
-mul-result : tie.Need-overflow-mul-result
-mul-result c = omega (arith, square_fits c.before.before.args.c (c.before.before.args.c + 1) (omega arith) (omega arith))
+mul-result : tie.Need-overflow_mul-result
+mul-result c = omega (arith, square_fits c.args.c (c.args.c + 1) (omega arith) (omega arith))
 
-mul-result-2 : tie.Need-overflow-mul-result-2
-mul-result-2 c = omega (arith, square_fits c.before.before.args.c (c.before.before.args.c + 1) (omega arith) (omega arith))
+mul-result-2 : tie.Need-overflow_mul-result-in-FactorSolve
+mul-result-2 c = omega (arith, square_fits c.args.c (c.args.c + 1) (omega arith) (omega arith))
 
-mul-result-3 : tie.Need-overflow-mul-result-3
-mul-result-3 c = omega (arith, whole_fits c.before.before.args.c (omega arith))
+mul-result-3 : tie.Need-overflow_mul-result-in-ExplicitInverse
+mul-result-3 c = omega (arith, whole_fits c.args.c (omega arith))
 
-returns : tie.Need-returns
+returns : tie.Need-returns-in-Auto
 unfolding coarse_length
-returns c = let k = c.before.before.args.c in (rw c.enum_told.given.1, omega (arith, square_fits k (k + 1) (omega arith) (omega arith)))
+returns c = let k = c.args.c in (rw c.in-Auto.is, omega (arith, square_fits k (k + 1) (omega arith) (omega arith)))
 
-returns-2 : tie.Need-returns-2
+returns-2 : tie.Need-returns-in-FactorSolve
 unfolding coarse_length
-returns-2 c = let k = c.before.before.args.c in (rw c.enum-told2.given.1, omega (arith, square_fits k (k + 1) (omega arith) (omega arith)))
+returns-2 c = let k = c.args.c in (rw c.in-FactorSolve.is, omega (arith, square_fits k (k + 1) (omega arith) (omega arith)))
 
-returns-3 : tie.Need-returns-3
+returns-3 : tie.Need-returns-in-ExplicitInverse
 unfolding coarse_length
-returns-3 c = let k = c.before.before.args.c in (rw c.enum-told3.given.1, whole_fits k (omega arith))
+returns-3 c = let k = c.args.c in (rw c.in-ExplicitInverse.is, whole_fits k (omega arith))
 
-pub coarse-length-spec : {M : Type 1} → statement M
-coarse-length-spec =
+pub coarse_length_spec : {M : Type 1} → statement M
+coarse_length_spec =
     tie.close
     (tie.spec
     (λ c. search rules)

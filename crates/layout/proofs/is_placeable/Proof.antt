@@ -6,8 +6,8 @@ use Rattle.layout.proofs.is_placeable.Tie as tie
 
 returns : tie.Need-returns
 unfolding placeable
-returns c = rw (c.both4.ensures, c.before.before.both3.ensures, c.before.before.before.before.both2.ensures, c.before.before.before.before.before.before.both.ensures)
+returns c = rw (c.both.ensures, c.both-counted.ensures, c.both-small.ensures, c.both-few.ensures)
 
-pub is-placeable-spec : {M : Type 1} → statement M
-is-placeable-spec =
+pub is_placeable_spec : {M : Type 1} → statement M
+is_placeable_spec =
     tie.close (tie.spec (λ c κs. search rules) (λ c κs. search rules) (λ c. search rules) (λ c κs. search rules) (λ c κs. search rules) returns)

@@ -5,29 +5,29 @@ use borrow.Author.Rules.{rules}
 use Rattle.layout.proofs.places_within.Statement.{statement}
 use Rattle.layout.proofs.places_within.Tie as tie
 
-coarse-length-requires : tie.Need-coarse-length-requires
-coarse-length-requires c κs = (small_of _ c.before.requires).coarse
+coarse-length-requires : tie.Need-coarse_length-part-requires
+coarse-length-requires c κs = (small_of _ c.requires).coarse
 
-mul-weights : tie.Need-overflow-mul-weights
-mul-weights c = omega (arith, small_of _ c.before.before.before.requires)
+mul-weights : tie.Need-overflow_mul-weights
+mul-weights c = omega (arith, small_of _ c.requires)
 
-add-coarse : tie.Need-overflow-add-coarse
-add-coarse c = omega (arith, small_of _ c.before.before.before.requires)
+add-coarse : tie.Need-overflow_add-coarse
+add-coarse c = omega (arith, small_of _ c.requires)
 
-add-t11 : tie.Need-overflow-add-t11
-add-t11 c = omega (arith, small_of _ c.before.before.before.requires)
+add-t11 : tie.Need-overflow_add-result
+add-t11 c = omega (arith, small_of _ c.requires)
 
-add-t12 : tie.Need-overflow-add-t12
-add-t12 c = omega (arith, small_of _ c.before.before.before.requires)
+add-t12 : tie.Need-overflow_add-result-2
+add-t12 c = omega (arith, small_of _ c.requires)
 
-add-t13 : tie.Need-overflow-add-t13
-add-t13 c = omega (arith, small_of _ c.before.before.before.requires, c.before.coarse-length.ensures.1)
+add-t13 : tie.Need-overflow_add-result-3
+add-t13 c = omega (arith, small_of _ c.requires, c.coarse_length-part.ensures.1)
 
 returns : tie.Need-returns
-returns c = rw (c.before.coarse-length.ensures.0, c.before.before.used-ints.ensures)
+returns c = rw (c.coarse_length-part.ensures.0, c.used_ints-ints.ensures)
 
-pub places-within-spec : {M : Type 1} → statement M
-places-within-spec =
+pub places_within_spec : {M : Type 1} → statement M
+places_within_spec =
     tie.close
     (tie.spec
     (λ c κs. search rules)

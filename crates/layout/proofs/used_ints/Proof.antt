@@ -6,24 +6,24 @@ use borrow.Author.Rules.{rules}
 use Rattle.layout.proofs.used_ints.Statement.{statement}
 use Rattle.layout.proofs.used_ints.Tie as tie
 
-add-result : tie.Need-overflow-add-result
-add-result c = omega (arith, small_of _ c.before.before.before.requires)
+add-result : tie.Need-overflow_add-result
+add-result c = omega (arith, small_of _ c.requires)
 
-add-result-2 : tie.Need-overflow-add-result-2
-add-result-2 c = omega (arith, small_of _ c.before.before.before.requires)
+add-result-2 : tie.Need-overflow_add-result-in-JacobiSmoothed
+add-result-2 c = omega (arith, small_of _ c.requires)
 
-add-result-3 : tie.Need-overflow-add-result-3
-add-result-3 c = omega (arith, small_of _ c.before.before.before.before.requires)
+add-result-3 : tie.Need-overflow_add-result-in-JacobiSmoothed-2
+add-result-3 c = omega (arith, small_of _ c.requires)
 
-returns : tie.Need-returns
+returns : tie.Need-returns-in-PiecewiseConstant
 unfolding used_ints
-returns c = rw c.enum_told.given.1
+returns c = rw c.in-PiecewiseConstant.is
 
-returns-2 : tie.Need-returns-2
+returns-2 : tie.Need-returns-in-JacobiSmoothed
 unfolding used_ints
-returns-2 c = rw c.before.before.enum-told2.given.1
+returns-2 c = rw c.in-JacobiSmoothed.is
 
-pub used-ints-spec : {M : Type 1} → statement M
-used-ints-spec =
+pub used_ints_spec : {M : Type 1} → statement M
+used_ints_spec =
     tie.close
     (tie.spec (λ c. search rules) (λ c. search rules) add-result add-result-2 add-result-3 returns returns-2)

@@ -4,37 +4,37 @@ use Rattle.block_apply.proofs.Places.{last_size}
 use Rattle.block_apply.proofs.blocks.blocks_by_size.Statement.{statement}
 use Rattle.block_apply.proofs.blocks.blocks_by_size.Tie as tie
 
-eight : (c : tie.At-match-rest) → c.before.before.before.before.args.size ≡ 8
+eight : (c : tie.In_default) → c.args.size ≡ 8
 eight c =
-    let p = c.before.before.before.before.requires in
-    let r = c.match.rest in
+    let p = c.requires in
+    let r = c.in_default.rest in
     last_size _ p.wide p.narrow r.0.0.0.0.0.0.1 r.0.0.0.0.0.1 r.0.0.0.0.1 r.0.0.0.1 r.0.0.1 r.0.1 r.1
 
-pub blocks-by-size-spec : {M : Type 1} → statement M
-blocks-by-size-spec =
+pub blocks_by_size_spec : {M : Type 1} → statement M
+blocks_by_size_spec =
     tie.close
     (tie.spec
-    (λ c κs. rw c.before.match.keys1 at c.before.before.before.before.before.requires)
-    (λ c κs. rw c.before.match.keys2 at c.before.before.before.before.before.requires)
-    (λ c κs. rw c.before.match.keys3 at c.before.before.before.before.before.requires)
-    (λ c κs. rw c.before.match.keys4 at c.before.before.before.before.before.requires)
-    (λ c κs. rw c.before.match.keys5 at c.before.before.before.before.before.requires)
-    (λ c κs. rw c.before.match.keys6 at c.before.before.before.before.before.requires)
-    (λ c κs. rw c.before.match.keys7 at c.before.before.before.before.before.requires)
-    (λ c κs. rw (eight c.before) at c.before.before.before.before.before.requires)
-    (λ c. c.before.before.whole-blocks.ensures.long)
-    (λ c. rw c.before.before.before.before.match.keys1 c.before.before.whole-blocks.ensures)
-    (λ c. c.before.before.whole-blocks2.ensures.long)
-    (λ c. rw c.before.before.before.before.match.keys2 c.before.before.whole-blocks2.ensures)
-    (λ c. c.before.before.whole-blocks3.ensures.long)
-    (λ c. rw c.before.before.before.before.match.keys3 c.before.before.whole-blocks3.ensures)
-    (λ c. c.before.before.whole-blocks4.ensures.long)
-    (λ c. rw c.before.before.before.before.match.keys4 c.before.before.whole-blocks4.ensures)
-    (λ c. c.before.before.whole-blocks5.ensures.long)
-    (λ c. rw c.before.before.before.before.match.keys5 c.before.before.whole-blocks5.ensures)
-    (λ c. c.before.before.whole-blocks6.ensures.long)
-    (λ c. rw c.before.before.before.before.match.keys6 c.before.before.whole-blocks6.ensures)
-    (λ c. c.before.before.whole-blocks7.ensures.long)
-    (λ c. rw c.before.before.before.before.match.keys7 c.before.before.whole-blocks7.ensures)
-    (λ c. c.before.before.whole-blocks8.ensures.long)
-    (λ c. rw (eight c.before.before.before.before) c.before.before.whole-blocks8.ensures))
+    (λ c κs. rw c.in-1.is at c.requires)
+    (λ c κs. rw c.in-2.is at c.requires)
+    (λ c κs. rw c.in-3.is at c.requires)
+    (λ c κs. rw c.in-4.is at c.requires)
+    (λ c κs. rw c.in-5.is at c.requires)
+    (λ c κs. rw c.in-6.is at c.requires)
+    (λ c κs. rw c.in-7.is at c.requires)
+    (λ c κs. rw (eight c.before) at c.requires)
+    (λ c. c.whole_blocks.ensures.long)
+    (λ c. rw c.in-1.is c.whole_blocks.ensures)
+    (λ c. c.whole_blocks-in-2.ensures.long)
+    (λ c. rw c.in-2.is c.whole_blocks-in-2.ensures)
+    (λ c. c.whole_blocks-in-3.ensures.long)
+    (λ c. rw c.in-3.is c.whole_blocks-in-3.ensures)
+    (λ c. c.whole_blocks-in-4.ensures.long)
+    (λ c. rw c.in-4.is c.whole_blocks-in-4.ensures)
+    (λ c. c.whole_blocks-in-5.ensures.long)
+    (λ c. rw c.in-5.is c.whole_blocks-in-5.ensures)
+    (λ c. c.whole_blocks-in-6.ensures.long)
+    (λ c. rw c.in-6.is c.whole_blocks-in-6.ensures)
+    (λ c. c.whole_blocks-in-7.ensures.long)
+    (λ c. rw c.in-7.is c.whole_blocks-in-7.ensures)
+    (λ c. c.whole_blocks-in_default.ensures.long)
+    (λ c. rw (eight c.before.before.before.before) c.whole_blocks-in_default.ensures))

@@ -8,48 +8,48 @@ use borrow.Author.Rules.{rules}
 use Rattle.block_apply.proofs.solve.column_rest.Statement.{statement}
 use Rattle.block_apply.proofs.solve.column_rest.Tie as tie
 
-abbrev invariant-loop : tie.invariant-loop
-invariant-loop l w z x i sum₀ m₀ sum m = (suc i ≤ m) × (m ≤ w) × (sum ≡ reduced x (tab (column_term l w z i) (m - suc i)))
+abbrev invariant-loop-m : tie.invariant-loop-m
+invariant-loop-m l w z x i sum₀ m₀ sum m = (suc i ≤ m) × (m ≤ w) × (sum ≡ reduced x (tab (column_term l w z i) (m - suc i)))
 
-abbrev decreases-loop : tie.decreases-loop
-decreases-loop l w z x i sum₀ m₀ sum m = w - m
+abbrev decreases-loop-m : tie.decreases-loop-m
+decreases-loop-m l w z x i sum₀ m₀ sum m = w - m
 
 -- rows i and m lie within the factor
-inside : (c : tie.In-loop invariant-loop decreases-loop) → (c.before.before.args.i * c.before.before.args.w + c.before.before.args.w ≤ c.before.before.args.w * c.before.before.args.w) × (c.before.loop.m * c.before.before.args.w + c.before.before.args.w ≤ c.before.before.args.w * c.before.before.args.w) × (c.before.before.args.w * c.before.before.args.w ≤ 64)
+inside : (c : tie.In-loop-m invariant-loop-m decreases-loop-m) → (c.args.i * c.args.w + c.args.w ≤ c.args.w * c.args.w) × (c.loop-m.m * c.args.w + c.args.w ≤ c.args.w * c.args.w) × (c.args.w * c.args.w ≤ 64)
 inside c =
-    let a = c.before.before.args in
-    (row_inside a.i a.w c.before.before.requires.0, row_inside c.before.loop.m a.w (omega arith), square_small a.w c.before.before.requires.3)
+    let a = c.args in
+    (row_inside a.i a.w c.requires.0, row_inside c.loop-m.m a.w (omega arith), square_small a.w c.requires.3)
 
-loop-holds : tie.Need-loop-init invariant-loop decreases-loop
+loop-holds : tie.Need-loop-m-init invariant-loop-m decreases-loop-m
 loop-holds c = let a = c.args in (omega arith, omega arith, column_none a.l.now a.w a.z.now a.x a.i)
 
-mul-sum : tie.Need-overflow-mul-sum invariant-loop decreases-loop
+mul-sum : tie.Need-overflow_mul-sum invariant-loop-m decreases-loop-m
 mul-sum c = omega (arith, inside c)
 
-add-sum : tie.Need-overflow-add-sum invariant-loop decreases-loop
+add-sum : tie.Need-overflow_add-sum invariant-loop-m decreases-loop-m
 add-sum c = omega (arith, inside c)
 
-mul-sum-2 : tie.Need-overflow-mul-sum-2 invariant-loop decreases-loop
+mul-sum-2 : tie.Need-offset_bounds-l-m invariant-loop-m decreases-loop-m
 mul-sum-2 c = omega (arith, inside c)
 
-shared-slice-read-sum : tie.Need-shared-slice-read-sum invariant-loop decreases-loop
-shared-slice-read-sum c = omega (arith, inside c.before, c.before.before.before.requires.1)
+shared-slice-read-sum : tie.Need-bounds-l-m invariant-loop-m decreases-loop-m
+shared-slice-read-sum c = omega (arith, inside c.before, c.requires.1)
 
-loop-again : tie.Need-loop-preserved invariant-loop decreases-loop
+loop-again : tie.Need-loop-m-preserved invariant-loop-m decreases-loop-m
 loop-again c =
-    let a = c.before.before.before.before.args in
-    let o = c.before.before.before.loop in
+    let a = c.args in
+    let o = c.loop-m in
     (omega arith, omega arith, column_step a.l.now a.w a.z.now a.x a.i o.m o.sum o.invariant.0 o.invariant.2)
 
-returns : tie.Need-returns invariant-loop decreases-loop
-returns c = let e : c.before.loop.m ≡ c.before.before.args.w = omega arith in rw e at c.before.loop.invariant.2
+returns : tie.Need-returns invariant-loop-m decreases-loop-m
+returns c = let e : c.loop-m.m ≡ c.args.w = omega arith in rw e at c.loop-m.invariant.2
 
-pub column-rest-spec : {M : Type 1} → statement M
-column-rest-spec =
+pub column_rest_spec : {M : Type 1} → statement M
+column_rest_spec =
     tie.close
     (tie.spec
-    invariant-loop
-    decreases-loop
+    invariant-loop-m
+    decreases-loop-m
     (λ c. search rules)
     loop-holds
     mul-sum
