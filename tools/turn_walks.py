@@ -224,7 +224,8 @@ class Walk:
                     step = parts[befores]
                     if step.endswith("_lem") and step[:-4] in self.steps:
                         step = step[:-4]
-                    step = self.steps.get(step, step)
+                    bare = re.sub(r"\d+$", "", step)
+                    step = self.steps.get(step, self.steps.get(bare, step) if step not in self.steps.values() and bare != step else step)
                     parts = [step] + parts[befores + 1 :]
                     root = alias.get(root, root)
             parts = [self.words.get(p, p) if "-" in p else p for p in parts]
@@ -260,6 +261,7 @@ class Walk:
             for field, step, at in arm[2] if arm else []:
                 if at and step in self.steps:
                     b = re.sub(r"\.%s%s(?![\w'-])" % (re.escape(self.steps[step]), "".join(r"\." + re.escape(x) for x in at)), ".%s.%s" % (arm[0], field), b)
+        b = re.sub(r"\.(in_default\S*?)\.rest(?![\w'-])", r".\1.\1-own.rest", b)
         return self.last(b)
 
     def last(self, b):

@@ -17,7 +17,7 @@ abbrev pub again : ℤ → ℤ
 again z = to_z w32 (of_z w32 z)
 
 pub again_is : (z : ℤ) → mag z < 4096 → again z ≡ z
-again_is z h = to_z-of_z (record { sfits = lt_of_lt_of_le h (lit≤ {m = 4096} {n = 2 ^ 31} tt) })
+again_is z h = to_z-of_z {w = w32} (record { sfits = lt_of_lt_of_le h (lit≤ {m = 4096} {n = 2 ^ 31} tt) })
 
 pub fit : (z y : ℤ) → z ≡ y → mag y < 4096 → SFits w32 z
 fit z y e h = subst (λ (x : ℤ). SFits w32 x) (sym e) (record { sfits = lt_of_lt_of_le h (lit≤ {m = 4096} {n = 2 ^ 31} tt) })

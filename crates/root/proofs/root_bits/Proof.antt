@@ -32,44 +32,43 @@ half_own b m e h S g =
 range : (a c r q : ℕ) → Evened a → Rest (a * 2 ^ 52) c r → q ≡ closer c r → (2 ^ 52 ≤ q) × (q < 2 ^ 53)
 range a c r q E R e = (subst (λ (x : ℕ). 2 ^ 52 ≤ x) (sym e) (closer_least a c r E R), subst (λ (x : ℕ). x < 2 ^ 53) (sym e) (closer_most a c r E R))
 
-with-rest-requires : tie.Need-with-rest-requires
+with-rest-requires : tie.Need-with_rest-r-requires
 with-rest-requires c κs =
-    let s = c.before.before.split in
-    let E = wide c.before.before.before.args.b s.result.m s.result.e c.evened.result s.ensures c.evened.ensures in
+    let s = c.split-s in
+    let E = wide c.args.b s.result.m s.result.e c.evened.result s.ensures c.evened.ensures in
     let g = E.most in
     (E.least, omega arith)
 
 nearest-requires : tie.Need-nearest-requires
 nearest-requires c κs =
-    let s = c.before.before.before.before.before.split in
-    let a = c.before.before.before.evened in
-    let r = c.before.before.with_rest in
-    root_small a.result r.result.root r.result.rest (wide c.before.before.before.before.before.before.args.b s.result.m s.result.e a.result s.ensures a.ensures) r.ensures
+    let s = c.split-s in
+    let a = c.evened in
+    let r = c.with_rest-r in
+    root_small a.result r.result.root r.result.rest (wide c.args.b s.result.m s.result.e a.result s.ensures a.ensures) r.ensures
 
 rebuilt-requires : tie.Need-rebuilt-requires
 rebuilt-requires c κs =
-    let s = c.before.before.before.before.before.before.split in
-    let a = c.before.before.before.before.evened in
-    let r = c.before.before.before.with_rest in
-    let h = c.before.halved in
-    let E = wide c.before.before.before.before.before.before.before.args.b s.result.m s.result.e a.result s.ensures a.ensures in
+    let s = c.split-s in
+    let a = c.evened in
+    let r = c.with_rest-r in
+    let h = c.halved in
+    let E = wide c.args.b s.result.m s.result.e a.result s.ensures a.ensures in
     let q = range a.result r.result.root r.result.rest c.nearest.result E r.ensures c.nearest.ensures in
-    (subst (λ (y : ℤ). mag y < 600) (sym (half_own c.before.before.before.before.before.before.before.args.b s.result.m s.result.e h.result s.ensures h.ensures)) (half_small s.result.e s.ensures.near), q.0, q.1)
+    (subst (λ (y : ℤ). mag y < 600) (sym (half_own c.args.b s.result.m s.result.e h.result s.ensures h.ensures)) (half_small s.result.e s.ensures.near), q.0, q.1)
 
 returns : tie.Need-returns
 returns c =
-    let b = c.before.before.before.before.before.before.before.before in
-    let s = c.before.before.before.before.before.before.before.split in
-    let a = c.before.before.before.before.before.evened in
-    let r = c.before.before.before.before.with_rest in
-    let h = c.before.before.halved in
-    let q = c.before.nearest in
-    assembled b.args.b s.result.m s.result.e a.result r.result.root r.result.rest c.rebuilt.result b.requires.0 b.requires.1 s.ensures
-    (bit b.args.b s.result.m s.result.e a.result s.ensures a.ensures) r.ensures
-    (c.rebuilt.ensures ∙ ap₂ (λ (y : ℤ) (x : ℕ). raised 1022 y * 2 ^ 52 + x) (half_own b.args.b s.result.m s.result.e h.result s.ensures h.ensures) q.ensures)
+    let s = c.split-s in
+    let a = c.evened in
+    let r = c.with_rest-r in
+    let h = c.halved in
+    let q = c.nearest in
+    assembled c.args.b s.result.m s.result.e a.result r.result.root r.result.rest c.rebuilt.result c.requires.0 c.requires.1 s.ensures
+    (bit c.args.b s.result.m s.result.e a.result s.ensures a.ensures) r.ensures
+    (c.rebuilt.ensures ∙ ap₂ (λ (y : ℤ) (x : ℕ). raised 1022 y * 2 ^ 52 + x) (half_own c.args.b s.result.m s.result.e h.result s.ensures h.ensures) q.ensures)
 
-pub root-bits-spec : {M : Type 1} → statement M
-root-bits-spec =
+pub root_bits_spec : {M : Type 1} → statement M
+root_bits_spec =
     tie.close
     (tie.spec
     (λ c κs. search rules)

@@ -7,7 +7,7 @@ use Rattle.block_apply.proofs.blocks.blocks_by_size.Tie as tie
 eight : (c : tie.In_default) → c.args.size ≡ 8
 eight c =
     let p = c.requires in
-    let r = c.in_default.rest in
+    let r = c.in_default.in_default-own.rest in
     last_size _ p.wide p.narrow r.0.0.0.0.0.0.1 r.0.0.0.0.0.1 r.0.0.0.0.1 r.0.0.0.1 r.0.0.1 r.0.1 r.1
 
 pub blocks_by_size_spec : {M : Type 1} → statement M

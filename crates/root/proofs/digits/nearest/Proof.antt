@@ -24,11 +24,11 @@ stay c r h = go (ltb c r) (ltb→lt c r)
     go true k = let x = k tt in omega arith
     go false k = refl
 
-returns : tie.Need-returns
-returns c = up c.before.args.root c.before.args.rest (search rules)
+returns : tie.Need-returns-then-rest-root
+returns c = up c.args.root c.args.rest (search rules)
 
-returns-2 : tie.Need-returns-2
-returns-2 c = stay c.before.args.root c.before.args.rest (search rules)
+returns-2 : tie.Need-returns-else-rest-root
+returns-2 c = stay c.args.root c.args.rest (search rules)
 
-pub nearest-spec : {M : Type 1} → statement M
-nearest-spec = tie.close (tie.spec (λ c. search rules) returns returns-2)
+pub nearest_spec : {M : Type 1} → statement M
+nearest_spec = tie.close (tie.spec (λ c. search rules) returns returns-2)

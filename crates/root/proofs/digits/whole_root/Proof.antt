@@ -8,60 +8,60 @@ use Rattle.root.proofs.Bounds.{root_small, square_fits, square_pos}
 use Rattle.root.proofs.digits.whole_root.Statement.{statement}
 use Rattle.root.proofs.digits.whole_root.Tie as tie
 
-abbrev invariant-loop : tie.invariant-loop
-invariant-loop a near s₀ s = s < 2 ^ 30
+abbrev invariant-loop-s : tie.invariant-loop-s
+invariant-loop-s a near s₀ s = s < 2 ^ 30
 
-abbrev decreases-loop : tie.decreases-loop
-decreases-loop a near s₀ s = 2 ^ 30 - s
+abbrev decreases-loop-s : tie.decreases-loop-s
+decreases-loop-s a near s₀ s = 2 ^ 30 - s
 
-abbrev invariant-loop2 : tie.invariant-loop2
-invariant-loop2 a near s₀ s = (s < 2 ^ 30) × (a < (s + 1) * (s + 1))
+abbrev invariant-loop-s-2 : tie.invariant-loop-s-2
+invariant-loop-s-2 a near s₀ s = (s < 2 ^ 30) × (a < (s + 1) * (s + 1))
 
-abbrev decreases-loop2 : tie.decreases-loop2
-decreases-loop2 a near s₀ s = s
+abbrev decreases-loop-s-2 : tie.decreases-loop-s-2
+decreases-loop-s-2 a near s₀ s = s
 
-mul-loop : tie.Need-overflow-mul-loop invariant-loop decreases-loop invariant-loop2 decreases-loop2
-mul-loop c = record { fits = square_fits (c.loop.s + 1) (omega arith) }
+mul-loop : tie.Need-overflow_mul-s invariant-loop-s decreases-loop-s invariant-loop-s-2 decreases-loop-s-2
+mul-loop c = record { fits = square_fits (c.loop-s.s + 1) (omega arith) }
 
-loop-again : tie.Need-loop-preserved invariant-loop decreases-loop invariant-loop2 decreases-loop2
+loop-again : tie.Need-loop-s-preserved invariant-loop-s decreases-loop-s invariant-loop-s-2 decreases-loop-s-2
 loop-again c =
-    let s = c.before.loop.s in
-    let g = root_small c.before.before.args.a (s + 1) (omega arith) c.loop-test.true in
+    let s = c.loop-s.s in
+    let g = root_small c.args.a (s + 1) (omega arith) c.loop-s-test.true in
     omega arith
 
-mul-loop2 : tie.Need-overflow-mul-loop2 invariant-loop decreases-loop invariant-loop2 decreases-loop2
-mul-loop2 c = record { fits = square_fits c.loop2.s (omega arith) }
+mul-loop2 : tie.Need-overflow_mul-s-in-loop-s-2 invariant-loop-s decreases-loop-s invariant-loop-s-2 decreases-loop-s-2
+mul-loop2 c = record { fits = square_fits c.loop-s-2.s (omega arith) }
 
-sub-s : tie.Need-overflow-sub-s invariant-loop decreases-loop invariant-loop2 decreases-loop2
-sub-s c = square_pos c.before.loop2.s c.loop2-test.true
+sub-s : tie.Need-overflow_sub-s invariant-loop-s decreases-loop-s invariant-loop-s-2 decreases-loop-s-2
+sub-s c = square_pos c.loop-s-2.s c.loop-s-2-test.true
 
-loop2-less : tie.Need-loop2-smaller invariant-loop decreases-loop invariant-loop2 decreases-loop2
+loop2-less : tie.Need-loop-s-2-smaller invariant-loop-s decreases-loop-s invariant-loop-s-2 decreases-loop-s-2
 loop2-less c = let p = sub-s c in omega arith
 
-loop2-again : tie.Need-loop2-preserved invariant-loop decreases-loop invariant-loop2 decreases-loop2
+loop2-again : tie.Need-loop-s-2-preserved invariant-loop-s decreases-loop-s invariant-loop-s-2 decreases-loop-s-2
 loop2-again c =
-    let a = c.before.before.before.before.args.a in
-    let s = c.before.loop2.s in
+    let a = c.args.a in
+    let s = c.loop-s-2.s in
     let p = sub-s c in
     let e : s ≡ s - 1 + 1 = omega arith in
     let h : a < s * s = search rules in
     (omega arith, subst (λ (x : ℕ). a < x * x) e h)
 
-returns : tie.Need-returns invariant-loop decreases-loop invariant-loop2 decreases-loop2
+returns : tie.Need-returns invariant-loop-s decreases-loop-s invariant-loop-s-2 decreases-loop-s-2
 returns c =
-    let a = c.before.before.before.before.args.a in
-    let s = c.before.loop2.s in
+    let a = c.args.a in
+    let s = c.loop-s-2.s in
     let h : a < (s + 1) * (s + 1) = search rules in
     (search rules, subst (λ (x : ℕ). a < x * x) (add-one s) h)
 
-pub whole-root-spec : {M : Type 1} → statement M
-whole-root-spec =
+pub whole_root_spec : {M : Type 1} → statement M
+whole_root_spec =
     tie.close
     (tie.spec
-    invariant-loop
-    decreases-loop
-    invariant-loop2
-    decreases-loop2
+    invariant-loop-s
+    decreases-loop-s
+    invariant-loop-s-2
+    decreases-loop-s-2
     (λ c. search rules)
     (λ c. omega arith)
     (λ c. omega arith)

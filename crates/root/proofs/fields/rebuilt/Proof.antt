@@ -32,10 +32,10 @@ joined h q l a b =
     sum : (k q : ℕ) → 2 ^ 52 ≤ q → q < 2 ^ 53 → suc k * 4503599627370496 + q % 4503599627370496 ≡ k * 4503599627370496 + q
     sum k q u v = omega arith
 
-add-result : tie.Need-overflow-add-result
+add-result : tie.Need-overflow_add-result
 add-result c = fit (again c.args.h +ℤ pos 1023) (pos (suc (raised 1022 c.args.h))) (field_is c.args.h c.requires.0) (lt_of_lt_of_le (field_small c.args.h c.requires.0) (lit≤ tt))
 
-cast-result : tie.Need-overflow-cast-result
+cast-result : tie.Need-overflow_cast-result
 cast-result c =
     let e = sym (read c.args.h c.requires.0) in
     (subst (λ (y : ℤ). T (non_neg y)) e tt, subst (λ (y : ℤ). Fits w64 (nat_abs y)) e (record { fits = lt_of_lt_of_le (field_small c.args.h c.requires.0) (lit≤ tt) }))
@@ -43,5 +43,5 @@ cast-result c =
 returns : tie.Need-returns
 returns c = joined c.args.h c.args.q c.requires.0 c.requires.1 c.requires.2
 
-pub rebuilt-spec : {M : Type 1} → statement M
-rebuilt-spec = tie.close (tie.spec add-result cast-result returns)
+pub rebuilt_spec : {M : Type 1} → statement M
+rebuilt_spec = tie.close (tie.spec add-result cast-result returns)

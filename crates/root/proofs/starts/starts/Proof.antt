@@ -9,5 +9,5 @@ returns : tie.Need-returns
 unfolding whole_roots isqrt
 returns c = refl
 
-pub starts-spec : {M : Type 1} → statement M
-starts-spec = tie.close (tie.spec returns)
+pub starts_spec : {M : Type 1} → statement M
+starts_spec = tie.close (tie.spec returns)
