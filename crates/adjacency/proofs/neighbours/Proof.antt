@@ -5,56 +5,56 @@ use borrow.Author.Rules.{rules}
 use Rattle.adjacency.proofs.neighbours.Statement.{statement}
 use Rattle.adjacency.proofs.neighbours.Tie as tie
 
-fits-requires : tie.Need-fits-requires
+fits-requires : tie.Need-fits-fit-requires
 fits-requires c κs =
-    let b = c.before.before.before.before.before.before.before.before.args in
-    let v = c.before.before.readable in
-    small b.aggregation b.rows b.cols b.row-ptr.now b.col-idx.now b.values.now b.block_size b.base b.work-ints.now b.work-floats.now v.result v.ensures c.enum_told.given.1
+    let b = c.args in
+    let v = c.readable-valid in
+    small b.aggregation b.rows b.cols b.row_ptr.now b.col_idx.now b.values.now b.block_size b.base b.work_ints.now b.work_floats.now v.result v.ensures c.in-Accepted.is
 
-div-build : tie.Need-nonzero-div-build
+div-build : tie.Need-nonzero_div-rows
 div-build c =
-    let b = c.before.before.before.before.before.before.before.before.before.before.before.args in
-    let v = c.before.before.before.before.before.readable in
-    let f = c.before.before.fits2 in
-    omega (arith, size_low b.aggregation b.rows b.cols b.row-ptr.now b.col-idx.now b.values.now b.block_size b.base b.work-ints.now b.work-floats.now v.result v.ensures c.before.before.before.enum_told.given.1 f.result f.ensures c.enum-told2.given.1)
+    let b = c.args in
+    let v = c.readable-valid in
+    let f = c.fits-fit in
+    omega (arith, size_low b.aggregation b.rows b.cols b.row_ptr.now b.col_idx.now b.values.now b.block_size b.base b.work_ints.now b.work_floats.now v.result v.ensures c.in-Accepted.is f.result f.ensures c.in-Accepted-fit.is)
 
 build-requires : tie.Need-build-requires
 build-requires c κs =
-    let b = c.before.before.before.before.before.before.before.before.before.before.before.before.before.args in
-    let v = c.before.before.before.before.before.before.before.readable in
-    let f = c.before.before.before.before.fits2 in
-    let e = c.before.before.before.before.before.enum_told.given.1 in
-    let z = c.before.before.enum-told2.given.1 in (
-      formed b.aggregation b.rows b.cols b.row-ptr.now b.col-idx.now b.values.now b.block_size b.base b.work-ints.now b.work-floats.now v.result v.ensures e f.result f.ensures z,
+    let b = c.args in
+    let v = c.readable-valid in
+    let f = c.fits-fit in
+    let e = c.in-Accepted.is in
+    let z = c.in-Accepted-fit.is in (
+      formed b.aggregation b.rows b.cols b.row_ptr.now b.col_idx.now b.values.now b.block_size b.base b.work_ints.now b.work_floats.now v.result v.ensures e f.result f.ensures z,
       (
-        rooms b.aggregation b.rows b.cols b.row-ptr.now b.col-idx.now b.values.now b.block_size b.base b.work-ints.now b.work-floats.now v.result v.ensures e f.result f.ensures z,
-        size_high b.aggregation b.rows b.cols b.row-ptr.now b.col-idx.now b.values.now b.block_size b.base b.work-ints.now b.work-floats.now v.result v.ensures e f.result f.ensures z,
+        rooms b.aggregation b.rows b.cols b.row_ptr.now b.col_idx.now b.values.now b.block_size b.base b.work_ints.now b.work_floats.now v.result v.ensures e f.result f.ensures z,
+        size_high b.aggregation b.rows b.cols b.row_ptr.now b.col_idx.now b.values.now b.block_size b.base b.work_ints.now b.work_floats.now v.result v.ensures e f.result f.ensures z,
       ),
     )
 
-returns : tie.Need-returns
+returns : tie.Need-returns-in-Refused
 returns c =
-    let b = c.before.before.before.before.before.before.before.before.before.args in
-    let v = c.before.before.before.readable in
-    not_valid b.aggregation b.rows b.cols b.row-ptr.now b.col-idx.now b.values.now b.block_size b.base b.work-ints.now b.work-floats.now v.result v.ensures _ c.before.valid.given.1
+    let b = c.args in
+    let v = c.readable-valid in
+    not_valid b.aggregation b.rows b.cols b.row_ptr.now b.col_idx.now b.values.now b.block_size b.base b.work_ints.now b.work_floats.now v.result v.ensures _ c.in-Refused.is
 
-returns-2 : tie.Need-returns-2
+returns-2 : tie.Need-returns-in-Refused-fit
 returns-2 c =
-    let b = c.before.before.before.before.before.before.before.before.before.before.before.before.args in
-    let v = c.before.before.before.before.before.before.readable in
-    let f = c.before.before.before.fits2 in
-    not_fitting b.aggregation b.rows b.cols b.row-ptr.now b.col-idx.now b.values.now b.block_size b.base b.work-ints.now b.work-floats.now v.result v.ensures c.before.before.before.before.enum_told.given.1 f.result f.ensures _ c.before.fit.given.1
+    let b = c.args in
+    let v = c.readable-valid in
+    let f = c.fits-fit in
+    not_fitting b.aggregation b.rows b.cols b.row_ptr.now b.col_idx.now b.values.now b.block_size b.base b.work_ints.now b.work_floats.now v.result v.ensures c.in-Accepted.is f.result f.ensures _ c.in-Refused-fit.is
 
-returns-3 : tie.Need-returns-3
+returns-3 : tie.Need-returns-in-Accepted-fit
 returns-3 c =
-    let b = c.before.before.before.before.before.before.before.before.before.before.before.before.before.before.before.before.before.before.args in
-    let v = c.before.before.before.before.before.before.before.before.before.before.before.before.readable in
-    let f = c.before.before.before.before.before.before.before.before.before.fits2 in
-    let k = c.before.before.before.before.build in
-    built b.aggregation b.rows b.cols b.row-ptr.now b.col-idx.now b.values.now b.block_size b.base b.work-ints.now b.work-floats.now v.result v.ensures c.before.before.before.before.before.before.before.before.before.before.enum_told.given.1 f.result f.ensures c.before.before.before.before.before.before.before.enum-told2.given.1 k.new.1.1.1.1.1.1.1.0 k.new.1.1.1.1.1.1.1.1.0 k.ensures.0 k.ensures.1
+    let b = c.args in
+    let v = c.readable-valid in
+    let f = c.fits-fit in
+    let k = c.build in
+    built b.aggregation b.rows b.cols b.row_ptr.now b.col_idx.now b.values.now b.block_size b.base b.work_ints.now b.work_floats.now v.result v.ensures c.in-Accepted.is f.result f.ensures c.in-Accepted-fit.is k.new.work_ints k.new.work_floats k.ensures.0 k.ensures.1
 
-pub neighbours-spec : {M : Type 1} → statement M
-neighbours-spec =
+pub neighbours_spec : {M : Type 1} → statement M
+neighbours_spec =
     tie.close
     (tie.spec
     (λ c κs. search rules)

@@ -4,20 +4,20 @@ use Rattle.adjacency.specs.Within.{read_of}
 use Rattle.adjacency.proofs.readable.Statement.{statement}
 use Rattle.adjacency.proofs.readable.Tie as tie
 
-returns : tie.Need-returns
+returns : tie.Need-returns-in-Contiguous
 unfolding read_of
-returns c = rw c.before.enum_told.given.1 c.structure.ensures
+returns c = rw c.in-Contiguous.is c.structure.ensures
 
-returns-2 : tie.Need-returns-2
+returns-2 : tie.Need-returns-in-Graph
 unfolding read_of
-returns-2 c = rw c.before.enum-told2.given.1 c.structure2.ensures
+returns-2 c = rw c.in-Graph.is c.structure-in-Graph.ensures
 
-returns-3 : tie.Need-returns-3
+returns-3 : tie.Need-returns-in-StrongGraph
 unfolding read_of
-returns-3 c = rw c.before.enum-told3.given.1 c.validate.ensures
+returns-3 c = rw c.in-StrongGraph.is c.validate.ensures
 
-pub readable-spec : {M : Type 1} → statement M
-readable-spec =
+pub readable_spec : {M : Type 1} → statement M
+readable_spec =
     tie.close
     (tie.spec
     (λ c. search rules)

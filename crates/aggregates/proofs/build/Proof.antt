@@ -4,7 +4,7 @@ use Rattle.aggregates.proofs.build.Statement.{statement}
 use Rattle.aggregates.proofs.build.Tie as tie
 
 returns : tie.Need-returns
-returns c = let b = c.before.before.before.before.build-log.ensures in (b.number, (b.ids, b.long))
+returns c = let b = c.build_log-counts.ensures in (b.number, (b.ids, b.long))
 
-pub build-spec : {M : Type 1} → statement M
-build-spec = tie.close (tie.spec (λ c. search rules) (λ c κs. search rules) (λ c. search rules) (λ c. search rules) returns)
+pub build_spec : {M : Type 1} → statement M
+build_spec = tie.close (tie.spec (λ c. search rules) (λ c κs. search rules) (λ c. search rules) (λ c. search rules) returns)

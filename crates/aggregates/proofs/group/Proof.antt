@@ -18,57 +18,57 @@ use Rattle.aggregates.proofs.group.Statement.{statement}
 use Rattle.aggregates.proofs.group.Tie as tie
 
 -- the call is accepted
-accepted : (c : tie.After-enum-told) → Accepted ≡ answer_of (grouping_call c.before.before.before.before.before.before.before.args.nodes c.before.before.before.before.before.before.before.args.size c.before.before.before.before.before.before.before.args.offsets.now c.before.before.before.before.before.before.before.args.neighbours.now (length c.before.before.before.before.before.before.before.args.ids.now) (length c.before.before.before.before.before.before.before.args.work.now))
-accepted c = sym c.enum_told.given.1 ∙ c.before.before.check.ensures
+accepted : (c : tie.In-Accepted) → Accepted ≡ answer_of (grouping_call c.args.nodes c.args.size c.args.offsets.now c.args.neighbours.now (length c.args.ids.now) (length c.args.work.now))
+accepted c = sym c.in-Accepted.is ∙ c.check-answer.ensures
 
 -- what its lists and its room are
-sizes : (c : tie.After-enum-told) → (0 < c.before.before.before.before.before.before.before.args.nodes) × (8 * c.before.before.before.before.before.before.before.args.nodes + 4 * length c.before.before.before.before.before.before.before.args.neighbours.now + 16 ≤ length c.before.before.before.before.before.before.before.args.work.now)
-sizes c = let a = c.before.before.before.before.before.before.before.args in (accepted_some a.nodes a.size a.offsets.now a.neighbours.now (accepted_listed a.nodes a.size a.offsets.now a.neighbours.now (length a.ids.now) (length a.work.now) (accepted c)), (accepted_room a.nodes a.size a.offsets.now a.neighbours.now (length a.ids.now) (length a.work.now) (accepted c)).1)
+sizes : (c : tie.In-Accepted) → (0 < c.args.nodes) × (8 * c.args.nodes + 4 * length c.args.neighbours.now + 16 ≤ length c.args.work.now)
+sizes c = let a = c.args in (accepted_some a.nodes a.size a.offsets.now a.neighbours.now (accepted_listed a.nodes a.size a.offsets.now a.neighbours.now (length a.ids.now) (length a.work.now) (accepted c)), (accepted_room a.nodes a.size a.offsets.now a.neighbours.now (length a.ids.now) (length a.work.now) (accepted c)).1)
 
-room-for-requires : tie.Need-room-for-requires
-room-for-requires c κs = let a = c.before.before.before.before.before.before.before.args in accepted_few a.nodes a.size a.offsets.now a.neighbours.now (accepted_listed a.nodes a.size a.offsets.now a.neighbours.now (length a.ids.now) (length a.work.now) (accepted c))
+room-for-requires : tie.Need-room_for-base-requires
+room-for-requires c κs = let a = c.args in accepted_few a.nodes a.size a.offsets.now a.neighbours.now (accepted_listed a.nodes a.size a.offsets.now a.neighbours.now (length a.ids.now) (length a.work.now) (accepted c))
 
 place-requires : tie.Need-place-requires
 place-requires c κs =
-    let a = c.before.before.before.before.before.before.before.before.before.args in
-    (accepted_lists a.nodes a.size a.offsets.now a.neighbours.now (accepted_listed a.nodes a.size a.offsets.now a.neighbours.now (length a.ids.now) (length a.work.now) (accepted c.before.before)), omega (arith, c.before.room_for_lem.ensures, sizes c.before.before))
+    let a = c.args in
+    (accepted_lists a.nodes a.size a.offsets.now a.neighbours.now (accepted_listed a.nodes a.size a.offsets.now a.neighbours.now (length a.ids.now) (length a.work.now) (accepted c.before.before)), omega (arith, c.room_for-base.ensures, sizes c.before.before))
 
-build-requires : tie.Need-build-requires
+build-requires : tie.Need-build-count-requires
 build-requires c κs =
-    let a = c.before.before.before.before.before.before.before.before.before.before.before.before.before.args in
-    let p = c.before.before.before.place in
-    let base = c.before.before.before.before.before.room_for_lem.result in
-    let w = p.new.1.1.1.1.0 in
+    let a = c.args in
+    let p = c.place in
+    let base = c.room_for-base.result in
+    let w = p.new.work in
     lists_as (offsets_at base a.nodes w) a.offsets.now (neighbours_at base a.nodes w) a.neighbours.now p.ensures.0 p.ensures.1 (λ o n. Accepts a.nodes a.size base o n)
-    (accepted_fits a.nodes a.size a.offsets.now a.neighbours.now (accepted_listed a.nodes a.size a.offsets.now a.neighbours.now (length a.ids.now) (length a.work.now) (accepted c.before.before.before.before.before.before)) base (omega (arith, c.before.before.before.before.before.room_for_lem.ensures)))
+    (accepted_fits a.nodes a.size a.offsets.now a.neighbours.now (accepted_listed a.nodes a.size a.offsets.now a.neighbours.now (length a.ids.now) (length a.work.now) (accepted c.before.before.before.before.before.before)) base (omega (arith, c.room_for-base.ensures)))
 
-hand-over-requires : tie.Need-hand-over-requires
+hand-over-requires : tie.Need-hand_over-requires
 hand-over-requires c κs =
-    let a = c.before.before.before.before.before.before.before.before.before.before.before.before.before.before.before.before.before.before.args in
-    let f = c.before.before.before.before.build in
-    let same : length f.new.1.1.1.0 ≡ length a.work.now = f.auto.1.1.1.0 ∙ c.before.before.before.before.before.before.before.before.place.auto.1.1.1.1.0 in (
+    let a = c.args in
+    let f = c.build-count in
+    let same : length f.new.w ≡ length a.work.now = f.auto.w ∙ c.place.auto.work in (
       rw same (omega (arith, sizes c.before.before.before.before.before.before.before.before.before.before.before)),
       (accepted_room a.nodes a.size a.offsets.now a.neighbours.now (length a.ids.now) (length a.work.now) (accepted c.before.before.before.before.before.before.before.before.before.before.before)).0,
-      padded_back a.nodes _ _ f.new.1.1.1.0 f.ensures.1.1 f.auto.1.1.1.0 f.ensures.1.0,
+      padded_back a.nodes _ _ f.new.w f.ensures.1.1 f.auto.w f.ensures.1.0,
     )
 
-returns : tie.Need-returns
+returns : tie.Need-returns-in-Refused
 returns c =
-    let a = c.before.before.before.before.before.before.before.before.args in
-    let k = c.before.before.before.check in
-    let r = c.before.answer.given.0.0 in
-    let e = c.before.answer.given.1 in
+    let a = c.args in
+    let k = c.check-answer in
+    let r = c.in-Refused.cause in
+    let e = c.in-Refused.is in
     (refused_answer (grouping_call a.nodes a.size a.offsets.now a.neighbours.now (length a.ids.now) (length a.work.now)) k.result r k.ensures e, (refused_left (grouping_call a.nodes a.size a.offsets.now a.neighbours.now (length a.ids.now) (length a.work.now)) k.result r k.ensures e a.ids.now, refused_work (grouping_call a.nodes a.size a.offsets.now a.neighbours.now (length a.ids.now) (length a.work.now)) k.result r k.ensures e a.work.now))
 
-returns-2 : tie.Need-returns-2
+returns-2 : tie.Need-returns-in-Accepted
 returns-2 c =
-    let a = c.before.before.before.before.before.before.before.before.before.before.before.before.before.before.before.before.before.before.before.before.before.before.before.args in
-    let p = c.before.before.before.before.before.before.before.before.before.before.before.before.before.place in
-    let base = c.before.before.before.before.before.before.before.before.before.before.before.before.before.before.before.room_for_lem.result in
-    let w = p.new.1.1.1.1.0 in
-    let f = c.before.before.before.before.before.before.before.before.before.build in
-    let u = f.new.1.1.1.0 in
-    let h = c.before.before.before.before.hand-over in
+    let a = c.args in
+    let p = c.place in
+    let base = c.room_for-base.result in
+    let w = p.new.work in
+    let f = c.build-count in
+    let u = f.new.w in
+    let h = c.hand_over in
     let call = accepted_call a.nodes a.size a.offsets.now a.neighbours.now (length a.ids.now) (length a.work.now) (accepted c.before.before.before.before.before.before.before.before.before.before.before.before.before.before.before.before) in
     let g = graph_grouping (listed a.offsets.now a.neighbours.now) no_anchor a.nodes a.size in
     let built = lists_as a.offsets.now (offsets_at base a.nodes w) a.neighbours.now (neighbours_at base a.nodes w) (sym p.ensures.0) (sym p.ensures.1)
@@ -77,13 +77,13 @@ returns-2 c =
     let front = padded_front a.nodes (length w) g.ids u built.1.1 built.1.0 in (
       accepted_answer (grouping_call a.nodes a.size a.offsets.now a.neighbours.now (length a.ids.now) (length a.work.now)) g call f.result built.0,
       (
-        accepted_left (grouping_call a.nodes a.size a.offsets.now a.neighbours.now (length a.ids.now) (length a.work.now)) g call a.ids.now h.new.1.0 (h.ensures.0 ∙ ap (λ l. padded 0 (length a.ids.now) l) front),
-        accepted_work (grouping_call a.nodes a.size a.offsets.now a.neighbours.now (length a.ids.now) (length a.work.now)) g call a.work.now h.new.0 (h.ensures.1 ∙ ap (λ n. replicate n 0) (f.auto.1.1.1.0 ∙ p.auto.1.1.1.1.0)),
+        accepted_left (grouping_call a.nodes a.size a.offsets.now a.neighbours.now (length a.ids.now) (length a.work.now)) g call a.ids.now h.new.ids (h.ensures.0 ∙ ap (λ l. padded 0 (length a.ids.now) l) front),
+        accepted_work (grouping_call a.nodes a.size a.offsets.now a.neighbours.now (length a.ids.now) (length a.work.now)) g call a.work.now h.new.work (h.ensures.1 ∙ ap (λ n. replicate n 0) (f.auto.w ∙ p.auto.work)),
       ),
     )
 
-pub group-spec : {M : Type 1} → statement M
-group-spec =
+pub group_spec : {M : Type 1} → statement M
+group_spec =
     tie.close
     (tie.spec
     (λ c κs. search rules)

@@ -9,17 +9,16 @@ use Rattle.aggregates.proofs.hand_over.Tie as tie
 
 returns : tie.Need-returns
 returns c =
-    let s = c.before.before.before.before.before.before.before.before.before.before.before.before.before.before.before.before in
-    let a = s.args in
-    let k = c.before.before.before.before.before.before.before.before.before.before.copy-ints in
-    let z = c.before.before.before.before.before.before.zero-ints in
-    let e = c.before.before.zero-ints2 in
-    let same : length k.new.1.0 ≡ length a.ids.now = k.auto.1.0 in
-    let front = copy_front a.nodes a.work.now a.ids.now k.new.1.0 s.requires.0 s.requires.1 k.ensures in
-    (zeros_behind a.nodes k.new.1.0 z.new.0 (take a.nodes a.work.now) (rw same s.requires.1) front z.ensures ∙ ap (λ m. padded 0 m (take a.nodes a.work.now)) same, all_zero a.nodes a.work.now e.new.0 s.requires.0 e.ensures s.requires.2)
+    let a = c.args in
+    let k = c.copy_ints in
+    let z = c.zero_ints in
+    let e = c.zero_ints-2 in
+    let same : length k.new.to ≡ length a.ids.now = k.auto.to in
+    let front = copy_front a.nodes a.work.now a.ids.now k.new.to c.requires.0 c.requires.1 k.ensures in
+    (zeros_behind a.nodes k.new.to z.new.s (take a.nodes a.work.now) (rw same c.requires.1) front z.ensures ∙ ap (λ m. padded 0 m (take a.nodes a.work.now)) same, all_zero a.nodes a.work.now e.new.s c.requires.0 e.ensures c.requires.2)
 
-pub hand-over-spec : {M : Type 1} → statement M
-hand-over-spec =
+pub hand_over_spec : {M : Type 1} → statement M
+hand_over_spec =
     tie.close
     (tie.spec
     (λ c. search rules)

@@ -13,28 +13,28 @@ use borrow.Author.Rules.{rules}
 use Rattle.averaging.proofs.average.Statement.{statement}
 use Rattle.averaging.proofs.average.Tie as tie
 
-returns : tie.Need-returns
+returns : tie.Need-returns-then-square-m
 returns c =
-    let a = c.before.before.before.before.before.before.before.before.before.before.before.args in
-    let r = c.before.before.before.before.before.before.average-rows in
+    let a = c.args in
+    let r = c.average_rows in
     accept_left zeroᶠ (average_call a.c a.m.now) a.m.now _ (averaged_square a.c (take (a.c * a.c) a.m.now)) (call_done a.c a.m.now (omega arith) (omega arith))
-    (average_on a.c a.m.now r.new.1.0 c.before.before.zero-floats.new.0 (omega arith) r.ensures c.before.before.zero-floats.ensures)
+    (average_on a.c a.m.now r.new.m c.zero_floats.new.s (omega arith) r.ensures c.zero_floats.ensures)
 
-returns-2 : tie.Need-returns-2
+returns-2 : tie.Need-returns-else-square-m
 returns-2 c =
-    let a = c.before.before.before.before.before.before.before.args in
-    refuse_cleared zeroᶠ (average_call a.c a.m.now) a.m.now c.before.before.zero-floats2.new.0 (CoarseListTooShort a.c) (call_short a.c a.m.now (omega arith) (omega arith)) (short_clears a.c) c.before.before.zero-floats2.ensures
+    let a = c.args in
+    refuse_cleared zeroᶠ (average_call a.c a.m.now) a.m.now c.zero_floats-then-c-le-MAX_COARSE.new.s (CoarseListTooShort a.c) (call_short a.c a.m.now (omega arith) (omega arith)) (short_clears a.c) c.zero_floats-then-c-le-MAX_COARSE.ensures
 
-returns-3 : tie.Need-returns-3
+returns-3 : tie.Need-returns-else-c-le-MAX_COARSE
 returns-3 c =
-    let a = c.before.before.before.before.before.before.args in
-    refuse_cleared zeroᶠ (average_call a.c a.m.now) a.m.now c.before.before.zero-floats3.new.0 (CoarseTooLarge a.c) (call_large a.c a.m.now (omega arith)) (large_clears a.c) c.before.before.zero-floats3.ensures
+    let a = c.args in
+    refuse_cleared zeroᶠ (average_call a.c a.m.now) a.m.now c.zero_floats-else-c-le-MAX_COARSE.new.s (CoarseTooLarge a.c) (call_large a.c a.m.now (omega arith)) (large_clears a.c) c.zero_floats-else-c-le-MAX_COARSE.ensures
 
-pub average-spec : {M : Type 1} → statement M
-average-spec =
+pub average_spec : {M : Type 1} → statement M
+average_spec =
     tie.close
     (tie.spec
-    (λ c. omega (arith, square_small c.before.before.args.c (omega arith)))
+    (λ c. omega (arith, square_small c.args.c (omega arith)))
     (λ c κs. search rules)
     (λ c. search rules)
     (λ c. search rules)

@@ -6,25 +6,25 @@ use borrow.Author.Rules.{rules}
 use Rattle.block_factor.proofs.block_into.Statement.{statement}
 use Rattle.block_factor.proofs.block_into.Tie as tie
 
-returns : tie.Need-returns
+returns : tie.Need-returns-in-Refused
 returns c =
-    let x = c.before.before.before.before.before.before.before.before.before.args in
-    let g = c.before.before.before.before.gather in
-    let f = c.before.before.before.factor in
-    let p = c.before.before.before.before.before.before.before.before.before.requires.1 in
-    into_refused (csr x.rows x.rows x.row-ptr.now x.col-idx.now x.values.now) x.first x.w g.result f.result g.ensures.0 g.ensures.1 f.ensures (square_fits x.w p.1) _ x.place.now c.before.answer.given.1
+    let x = c.args in
+    let g = c.gather in
+    let f = c.factor-made in
+    let p = c.requires.1 in
+    into_refused (csr x.rows x.rows x.row_ptr.now x.col_idx.now x.values.now) x.first x.w g.result f.result g.ensures.0 g.ensures.1 f.ensures (square_fits x.w p.1) _ x.place.now c.in-Refused.is
 
-returns-2 : tie.Need-returns-2
+returns-2 : tie.Need-returns-in-Accepted
 returns-2 c =
-    let x = c.before.before.before.before.before.before.before.before.before.before.before.before.before.before.before.args in
-    let g = c.before.before.before.before.before.before.before.before.before.before.gather in
-    let f = c.before.before.before.before.before.before.before.before.before.factor in
-    let p = c.before.before.before.before.before.before.before.before.before.before.before.before.before.before.before.requires.1 in
-    into_accepted (csr x.rows x.rows x.row-ptr.now x.col-idx.now x.values.now) x.first x.w g.result f.result g.ensures.0 g.ensures.1 f.ensures (square_fits x.w p.1) x.place.now _ c.before.before.before.before.before.before.before.enum_told.given.1
-    p.2 c.before.before.copy-floats.ensures
+    let x = c.args in
+    let g = c.gather in
+    let f = c.factor-made in
+    let p = c.requires.1 in
+    into_accepted (csr x.rows x.rows x.row_ptr.now x.col_idx.now x.values.now) x.first x.w g.result f.result g.ensures.0 g.ensures.1 f.ensures (square_fits x.w p.1) x.place.now _ c.in-Accepted.is
+    p.2 c.copy_floats.ensures
 
-pub block-into-spec : {M : Type 1} → statement M
-block-into-spec =
+pub block_into_spec : {M : Type 1} → statement M
+block_into_spec =
     tie.close
     (tie.spec
     (λ c κs. search rules)

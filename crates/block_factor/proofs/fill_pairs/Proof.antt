@@ -13,85 +13,84 @@ use borrow.Rule.Slice.PartMut.{put_mid, same_len_mid}
 use Rattle.block_factor.proofs.fill_pairs.Statement.{statement}
 use Rattle.block_factor.proofs.fill_pairs.Tie as tie
 
-abbrev invariant-loop : tie.invariant-loop
-invariant-loop rows row-ptr col-idx values size factors₀ table k₀ factors k =
+abbrev invariant-loop-k : tie.invariant-loop-k
+invariant-loop-k rows row-ptr col-idx values size factors₀ table k₀ factors k =
     (k * size ≤ rows) × (length factors ≡ length factors₀)
     × (factors_from (csr rows rows row-ptr col-idx values) size (block_count rows size - k) k (take (k * size * size) factors) ≡ factors_of (csr rows rows row-ptr col-idx values) size)
 
-abbrev decreases-loop : tie.decreases-loop
-decreases-loop rows row-ptr col-idx values size factors₀ table k₀ factors k = rows - k
+abbrev decreases-loop-k : tie.decreases-loop-k
+decreases-loop-k rows row-ptr col-idx values size factors₀ table k₀ factors k = rows - k
 
 -- a turn's numbers: where the pair's factors begin and end, within the list, and none of them large
-here : (c : tie.In-loop invariant-loop decreases-loop) → PairTurn c.before.before.before.before.before.before.args.rows c.before.before.before.before.before.before.args.size c.before.loop.k
-here c = pair_turn c.before.before.before.before.before.before.args.rows c.before.before.before.before.before.before.args.size c.before.loop.k c.before.before.before.before.before.before.requires.1.0 c.loop-test.true
+here : (c : tie.In-loop-k invariant-loop-k decreases-loop-k) → PairTurn c.args.rows c.args.size c.loop-k.k
+here c = pair_turn c.args.rows c.args.size c.loop-k.k c.requires.1.0 c.loop-k-test.true
 
-abbrev used : tie.In-loop invariant-loop decreases-loop → ℕ
-used c = c.before.loop.k * c.before.before.before.before.before.before.args.size * c.before.before.before.before.before.before.args.size
+abbrev used : tie.In-loop-k invariant-loop-k decreases-loop-k → ℕ
+used c = c.loop-k.k * c.args.size * c.args.size
 
-abbrev end : tie.In-loop invariant-loop decreases-loop → ℕ
-end c = used c + 2 * (c.before.before.before.before.before.before.args.size * c.before.before.before.before.before.before.args.size)
+abbrev end : tie.In-loop-k invariant-loop-k decreases-loop-k → ℕ
+end c = used c + 2 * (c.args.size * c.args.size)
 
-inside : (c : tie.In-loop invariant-loop decreases-loop) → end c ≤ length c.before.loop.factors
-inside c = omega (arith, (here c).ends, c.before.before.before.before.before.before.requires.1.2, c.before.loop.invariant.1)
+inside : (c : tie.In-loop-k invariant-loop-k decreases-loop-k) → end c ≤ length c.loop-k.factors
+inside c = omega (arith, (here c).ends, c.requires.1.2, c.loop-k.invariant.1)
 
-small : (c : tie.In-loop invariant-loop decreases-loop) → end c ≤ 2 ^ 23
-small c = omega (arith, (here c).ends, mul-le-mul c.before.before.before.before.before.before.requires.0.few_rows c.before.before.before.before.before.before.requires.1.1)
+small : (c : tie.In-loop-k invariant-loop-k decreases-loop-k) → end c ≤ 2 ^ 23
+small c = omega (arith, (here c).ends, mul-le-mul c.requires.0.few_rows c.requires.1.1)
 
 -- a pair written, whatever it is, keeps the list's length
-still : (c : tie.After-pair-into invariant-loop decreases-loop) → length (put_mid (used c.before.before) (end c.before.before - used c.before.before) c.before.before.before.loop.factors c.pair-into.new.1.1.1.1.1.1.0) ≡ length c.before.before.before.before.before.before.before.before.args.factors.now
-still c = same_len_mid (used c.before.before) (end c.before.before - used c.before.before) c.before.before.before.loop.factors c.pair-into.new.1.1.1.1.1.1.0 c.pair-into.auto.1.1.1.1.1.1.0 ∙ c.before.before.before.loop.invariant.1
+still : (c : tie.After-pair_into invariant-loop-k decreases-loop-k) → length (put_mid (used c.before.before) (end c.before.before - used c.before.before) c.loop-k.factors c.pair_into.new.place) ≡ length c.args.factors.now
+still c = same_len_mid (used c.before.before) (end c.before.before - used c.before.before) c.loop-k.factors c.pair_into.new.place c.pair_into.auto.place ∙ c.loop-k.invariant.1
 
-loop-holds : tie.Need-loop-init invariant-loop decreases-loop
+loop-holds : tie.Need-loop-k-init invariant-loop-k decreases-loop-k
 loop-holds c =
-    let x = c.before.before.before.before.args in
-    (omega arith, refl, blocks_none (csr x.rows x.rows x.row-ptr.now x.col-idx.now x.values.now) x.size x.factors.now)
+    let x = c.args in
+    (omega arith, refl, blocks_none (csr x.rows x.rows x.row_ptr.now x.col_idx.now x.values.now) x.size x.factors.now)
 
-add-loop : tie.Need-overflow-add-loop invariant-loop decreases-loop
-add-loop c = omega (arith, le-mul_of_pos_right c.loop.k c.before.before.before.before.before.requires.1.0, c.loop.invariant.0, c.before.before.before.before.before.requires.0.few_rows)
+add-loop : tie.Need-overflow_add-k invariant-loop-k decreases-loop-k
+add-loop c = omega (arith, le-mul_of_pos_right c.loop-k.k c.requires.1.0, c.loop-k.invariant.0, c.requires.0.few_rows)
 
-mul-loop : tie.Need-overflow-mul-loop invariant-loop decreases-loop
-mul-loop c = omega (arith, add-mul c.loop.k 2 c.before.before.before.before.before.args.size, c.loop.invariant.0, c.before.before.before.before.before.requires.0.few_rows, c.before.before.before.before.before.requires.1.1)
+mul-loop : tie.Need-overflow_mul-k invariant-loop-k decreases-loop-k
+mul-loop c = omega (arith, add-mul c.loop-k.k 2 c.args.size, c.loop-k.invariant.0, c.requires.0.few_rows, c.requires.1.1)
 
-pair-into-requires : tie.Need-pair-into-requires invariant-loop decreases-loop
+pair-into-requires : tie.Need-pair_into-requires invariant-loop-k decreases-loop-k
 pair-into-requires c κs =
-    let s = c.before.before.before.before.before.before.before in
-    (s.requires.0, ((here c.before).fits, s.requires.1.1, place_long (used c.before) (end c.before) _ c.before.before.loop.factors (omega arith) (inside c.before)))
+    (c.requires.0, ((here c.before).fits, c.requires.1.1, place_long (used c.before) (end c.before) _ c.loop-k.factors (omega arith) (inside c.before)))
 
-add-k : tie.Need-overflow-add-k invariant-loop decreases-loop
-add-k c = omega (arith, (here c.before.before.before.before.before).few, c.before.before.before.before.before.before.before.before.before.before.before.requires.0.few_rows)
+add-k : tie.Need-overflow_add-k-then-pair_into invariant-loop-k decreases-loop-k
+add-k c = omega (arith, (here c.before.before.before.before.before).few, c.requires.0.few_rows)
 
-loop-less : tie.Need-loop-smaller invariant-loop decreases-loop
+loop-less : tie.Need-loop-k-smaller invariant-loop-k decreases-loop-k
 loop-less c = omega (arith, (here c.before.before.before.before.before).few)
 
-loop-again : tie.Need-loop-preserved invariant-loop decreases-loop
+loop-again : tie.Need-loop-k-preserved invariant-loop-k decreases-loop-k
 loop-again c =
-    let x = c.before.before.before.before.before.before.before.before.before.before.before.args in
-    let l = c.before.before.before.before.before.before.loop in
+    let x = c.args in
+    let l = c.loop-k in
     let t = here c.before.before.before.before.before in
-    let p = c.before.before.before.pair-into in (
+    let p = c.pair_into in (
       omega (arith, t.fits, add-mul l.k 2 x.size),
       still c.before.before.before,
-      rw (← t.next) (pairs_more (csr x.rows x.rows x.row-ptr.now x.col-idx.now x.values.now) x.size l.k (used c.before.before.before.before.before) (end c.before.before.before.before.before) t l.factors _ (omega arith) (inside c.before.before.before.before.before) p.auto.1.1.1.1.1.1.0 l.invariant.2 (p.ensures c.if1.true)),
+      rw (← t.next) (pairs_more (csr x.rows x.rows x.row_ptr.now x.col_idx.now x.values.now) x.size l.k (used c.before.before.before.before.before) (end c.before.before.before.before.before) t l.factors _ (omega arith) (inside c.before.before.before.before.before) p.auto.place l.invariant.2 (p.ensures c.if-pair_into.true)),
     )
 
-returns : tie.Need-returns invariant-loop decreases-loop
+returns : tie.Need-returns-else-pair_into invariant-loop-k decreases-loop-k
 returns c =
-    let l = c.before.before.before.before.before.before.loop in
-    ((l.invariant.0, still c.before.before.before), rw (kept (used c.before.before.before.before.before) (end c.before.before.before.before.before) l.factors _ (omega arith) (inside c.before.before.before.before.before) c.before.before.before.pair-into.auto.1.1.1.1.1.1.0) l.invariant.2)
+    let l = c.loop-k in
+    ((l.invariant.0, still c.before.before.before), rw (kept (used c.before.before.before.before.before) (end c.before.before.before.before.before) l.factors _ (omega arith) (inside c.before.before.before.before.before) c.pair_into.auto.place) l.invariant.2)
 
-returns-2 : tie.Need-returns-2 invariant-loop decreases-loop
-returns-2 c = let l = c.before.loop in ((l.invariant.0, l.invariant.1), l.invariant.2)
+returns-2 : tie.Need-returns invariant-loop-k decreases-loop-k
+returns-2 c = let l = c.loop-k in ((l.invariant.0, l.invariant.1), l.invariant.2)
 
-pub fill-pairs-spec : {M : Type 1} → statement M
-fill-pairs-spec =
+pub fill_pairs_spec : {M : Type 1} → statement M
+fill_pairs_spec =
     tie.close
     (tie.spec
-    invariant-loop
-    decreases-loop
+    invariant-loop-k
+    decreases-loop-k
     loop-holds
     add-loop
     mul-loop
-    (λ c. omega (arith, c.before.loop.invariant.0, c.before.before.before.before.before.before.requires.0.few_rows))
+    (λ c. omega (arith, c.loop-k.invariant.0, c.requires.0.few_rows))
     (λ c. omega (arith, small c))
     (λ c. omega (arith, small c))
     (λ c. omega (arith, small c))

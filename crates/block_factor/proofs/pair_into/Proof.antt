@@ -11,42 +11,41 @@ use borrow.Author.Rules.{rules}
 use Rattle.block_factor.proofs.pair_into.Statement.{statement}
 use Rattle.block_factor.proofs.pair_into.Tie as tie
 
-mul-n : tie.Need-overflow-mul-n
-mul-n c = let s = c.before.before.before.before.before.before.before.before in omega (arith, square_fits s.args.w s.requires.1.1)
+mul-n : tie.Need-overflow_mul-n
+mul-n c = omega (arith, square_fits c.args.w c.requires.1.1)
 
-slice-aggregate-copy-floats : tie.Need-slice-aggregate-copy-floats
-slice-aggregate-copy-floats c = sym (length_factor 0 _ _ _ ((c.before.before.before.before.factor-pair.ensures c.before.before.before.if1.true).0 0))
+slice-aggregate-copy-floats : tie.Need-slice_bounds-copy_floats-end
+slice-aggregate-copy-floats c = sym (length_factor 0 _ _ _ ((c.factor_pair-made.ensures c.if-both.true).0 0))
 
-slice-aggregate-copy-floats-2 : tie.Need-slice-aggregate-copy-floats-2
-slice-aggregate-copy-floats-2 c = let s = c.before.before.before.before.before.before.before.before.before.before.before.before in sym (length-take-le (s.args.w * s.args.w) s.args.place.now (omega (arith, s.requires.1.2)))
+slice-aggregate-copy-floats-2 : tie.Need-slice_bounds-copy_floats-end-then-both-2
+slice-aggregate-copy-floats-2 c = sym (length-take-le (c.args.w * c.args.w) c.args.place.now (omega (arith, c.requires.1.2)))
 
-slice-aggregate-copy-floats-3 : tie.Need-slice-aggregate-copy-floats-3
-slice-aggregate-copy-floats-3 c = sym (length_factor 0 _ _ _ ((c.before.before.before.before.before.before.before.before.before.before.before.factor-pair.ensures c.before.before.before.before.before.before.before.before.before.before.if1.true).1 0))
+slice-aggregate-copy-floats-3 : tie.Need-slice_bounds-copy_floats-end-then-both-3
+slice-aggregate-copy-floats-3 c = sym (length_factor 0 _ _ _ ((c.factor_pair-made.ensures c.if-both.true).1 0))
 
-mul-copy-floats : tie.Need-overflow-mul-copy-floats
-mul-copy-floats c = let s = c.before.before.before.before.before.before.before.before.before.before.before.before.before.before.before.before.before.before in omega (arith, square_fits s.args.w s.requires.1.1)
+mul-copy-floats : tie.Need-offset_bounds-place-n
+mul-copy-floats c = omega (arith, square_fits c.args.w c.requires.1.1)
 
-sub-copy-floats : tie.Need-overflow-sub-copy-floats
-sub-copy-floats c = let s = c.before.before.before.before.before.before.before.before.before.before.before.before.before.before.before.before.before.before in second_there (s.args.w * s.args.w) s.args.place.now c.before.before.before.before.before.copy-floats.new.1.0 s.requires.1.2
+sub-copy-floats : tie.Need-slice_bounds-copy_floats-count
+sub-copy-floats c = second_there (c.args.w * c.args.w) c.args.place.now c.copy_floats.new.to c.requires.1.2
 
-part-copy-floats-start : tie.Need-slice-bounds-copy-floats-start
-part-copy-floats-start c = let s = c.before.before.before.before.before.before.before.before.before.before.before.before.before.before.before.before.before.before in second_there (s.args.w * s.args.w) s.args.place.now c.before.before.before.before.before.copy-floats.new.1.0 s.requires.1.2
+part-copy-floats-start : tie.Need-slice_bounds-copy_floats-start
+part-copy-floats-start c = second_there (c.args.w * c.args.w) c.args.place.now c.copy_floats.new.to c.requires.1.2
 
-returns : tie.Need-returns
+returns : tie.Need-returns-then-both
 returns c = λ e.
-    let s = c.before.before.before.before.before.before.before.before.before.before.before.before.before.before.before.before.before.before.before.before.before.before in
-    let x = s.args in
-    let g = c.before.before.before.before.before.before.before.before.before.before.before.before.before.before.before.before.before.gather in
-    let h = c.before.before.before.before.before.before.before.before.before.before.before.before.before.before.before.before.gather2 in
-    let f = c.before.before.before.before.before.before.before.before.before.before.before.before.before.before.before.factor-pair in
-    pair_placed (csr x.rows x.rows x.row-ptr.now x.col-idx.now x.values.now) x.first x.w g.result h.result f.result.one.a f.result.two.a g.ensures.0 g.ensures.1 h.ensures.0 (f.ensures e)
-    x.place.now c.before.before.before.before.before.before.before.before.before.copy-floats.new.1.0 c.before.before.copy-floats2.new.1.0 s.requires.1.2 (square_fits x.w s.requires.1.1) c.before.before.before.before.before.before.before.before.before.copy-floats.ensures c.before.before.copy-floats2.ensures
+    let x = c.args in
+    let g = c.gather in
+    let h = c.gather-2 in
+    let f = c.factor_pair-made in
+    pair_placed (csr x.rows x.rows x.row_ptr.now x.col_idx.now x.values.now) x.first x.w g.result h.result f.result.one.a f.result.two.a g.ensures.0 g.ensures.1 h.ensures.0 (f.ensures e)
+    x.place.now c.copy_floats.new.to c.copy_floats-then-both.new.to c.requires.1.2 (square_fits x.w c.requires.1.1) c.copy_floats.ensures c.copy_floats-then-both.ensures
 
-returns-2 : tie.Need-returns-2
-returns-2 c = not_both c.before.factor-pair.result.both c.if1.false
+returns-2 : tie.Need-returns-else-both
+returns-2 c = not_both c.factor_pair-made.result.both c.if-both.false
 
-pub pair-into-spec : {M : Type 1} → statement M
-pair-into-spec =
+pub pair_into_spec : {M : Type 1} → statement M
+pair_into_spec =
     tie.close
     (tie.spec
     (λ c. search rules)

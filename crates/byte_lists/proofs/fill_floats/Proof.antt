@@ -10,28 +10,28 @@ use Rattle.byte_lists.proofs.Filling.{Filled, filled_none, filled_more, filled_o
 use Rattle.byte_lists.proofs.fill_floats.Statement.{statement}
 use Rattle.byte_lists.proofs.fill_floats.Tie as tie
 
-abbrev invariant-loop : tie.invariant-loop
-invariant-loop bytes room₀ n k₀ room k = Filled (λ i. of_bits binary64 (word_at 8 bytes i)) (length bytes / 8) room₀ room k
+abbrev invariant-loop-k : tie.invariant-loop-k
+invariant-loop-k bytes room₀ n k₀ room k = Filled (λ i. of_bits binary64 (word_at 8 bytes i)) (length bytes / 8) room₀ room k
 
-abbrev decreases-loop : tie.decreases-loop
-decreases-loop bytes room₀ n k₀ room k = n - k
+abbrev decreases-loop-k : tie.decreases-loop-k
+decreases-loop-k bytes room₀ n k₀ room k = n - k
 
-loop-holds : tie.Need-loop-init invariant-loop decreases-loop
+loop-holds : tie.Need-loop-k-init invariant-loop-k decreases-loop-k
 loop-holds c = filled_none (omega arith)
 
-loop-again : tie.Need-loop-preserved invariant-loop decreases-loop
-loop-again c = filled_more c.before.before.before.loop.invariant (omega arith) (c.of-bits.ensures ∙ ap (of_bits binary64) c.before.number_at.ensures)
+loop-again : tie.Need-loop-k-preserved invariant-loop-k decreases-loop-k
+loop-again c = filled_more c.loop-k.invariant (omega arith) (c.of_bits.ensures ∙ ap (of_bits binary64) c.number_at.ensures)
 
-returns : tie.Need-returns invariant-loop decreases-loop
+returns : tie.Need-returns invariant-loop-k decreases-loop-k
 unfolding floats_of
-returns c = filled_over c.before.loop.invariant (omega arith)
+returns c = filled_over c.loop-k.invariant (omega arith)
 
-pub fill-floats-spec : {M : Type 1} → statement M
-fill-floats-spec =
+pub fill_floats_spec : {M : Type 1} → statement M
+fill_floats_spec =
     tie.close
     (tie.spec
-    invariant-loop
-    decreases-loop
+    invariant-loop-k
+    decreases-loop-k
     loop-holds
     (λ c κs. search rules)
     (λ c κs. search rules)

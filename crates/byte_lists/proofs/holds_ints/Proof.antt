@@ -5,13 +5,13 @@ use Rattle.byte_lists.specs.Bytes.{writable}
 use Rattle.byte_lists.proofs.holds_ints.Statement.{statement}
 use Rattle.byte_lists.proofs.holds_ints.Tie as tie
 
-returns : tie.Need-returns
+returns : tie.Need-returns-then-bytes-eq0
 unfolding writable
-returns c = rw (eq-eqb (c.before.args.bytes % 4) 0 c.if1.true)
+returns c = rw (eq-eqb (c.args.bytes % 4) 0 c.if-bytes-eq0.true)
 
-returns-2 : tie.Need-returns-2
+returns-2 : tie.Need-returns-else-bytes-eq0
 unfolding writable
-returns-2 c = rw (ne_eqb (c.before.args.bytes % 4) 0 c.if1.false)
+returns-2 c = rw (ne_eqb (c.args.bytes % 4) 0 c.if-bytes-eq0.false)
 
-pub holds-ints-spec : {M : Type 1} → statement M
-holds-ints-spec = tie.close (tie.spec returns returns-2)
+pub holds_ints_spec : {M : Type 1} → statement M
+holds_ints_spec = tie.close (tie.spec returns returns-2)

@@ -6,10 +6,10 @@ use Rattle.byte_lists.proofs.int_at.Statement.{statement}
 use Rattle.byte_lists.proofs.int_at.Tie as tie
 
 returns : tie.Need-returns
-returns c = let s = c.before.before.before.before.before in omega (arith, word4 s.args.b.now s.args.k s.requires)
+returns c = omega (arith, word4 c.args.b.now c.args.k c.requires)
 
-pub int-at-spec : {M : Type 1} → statement M
-int-at-spec =
+pub int_at_spec : {M : Type 1} → statement M
+int_at_spec =
     tie.close
     (tie.spec
     (λ c. search rules)

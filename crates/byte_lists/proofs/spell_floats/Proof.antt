@@ -10,28 +10,28 @@ use Rattle.byte_lists.proofs.Filling.{Filled, filled_none, filled_more, filled_p
 use Rattle.byte_lists.proofs.spell_floats.Statement.{statement}
 use Rattle.byte_lists.proofs.spell_floats.Tie as tie
 
-abbrev invariant-loop : tie.invariant-loop
-invariant-loop list bytes₀ n i₀ bytes i = Filled (λ j. byte_of (to_bits binary64 (get_or list (j / 8) nan)) (j % 8)) (length list * 8) bytes₀ bytes i
+abbrev invariant-loop-i : tie.invariant-loop-i
+invariant-loop-i list bytes₀ n i₀ bytes i = Filled (λ j. byte_of (to_bits binary64 (get_or list (j / 8) nan)) (j % 8)) (length list * 8) bytes₀ bytes i
 
-abbrev decreases-loop : tie.decreases-loop
-decreases-loop list bytes₀ n i₀ bytes i = n - i
+abbrev decreases-loop-i : tie.decreases-loop-i
+decreases-loop-i list bytes₀ n i₀ bytes i = n - i
 
-loop-holds : tie.Need-loop-init invariant-loop decreases-loop
+loop-holds : tie.Need-loop-i-init invariant-loop-i decreases-loop-i
 loop-holds c = filled_none (omega arith)
 
-loop-again : tie.Need-loop-preserved invariant-loop decreases-loop
-loop-again c = filled_more c.before.before.before.before.loop.invariant (omega arith) (c.byte_of.ensures ∙ ap (λ (x : ℕ). byte_of x (c.before.before.before.before.loop.i % 8)) c.before.bits_of.ensures)
+loop-again : tie.Need-loop-i-preserved invariant-loop-i decreases-loop-i
+loop-again c = filled_more c.loop-i.invariant (omega arith) (c.byte_of.ensures ∙ ap (λ (x : ℕ). byte_of x (c.loop-i.i % 8)) c.bits_of-x.ensures)
 
-returns : tie.Need-returns invariant-loop decreases-loop
+returns : tie.Need-returns invariant-loop-i decreases-loop-i
 unfolding bytes_of_floats
-returns c = filled_padded 0 (length c.before.before.before.before.before.before.before.before.args.bytes.now) c.before.loop.invariant (omega arith) c.before.before.before.before.zero-bytes.ensures
+returns c = filled_padded 0 (length c.args.bytes.now) c.loop-i.invariant (omega arith) c.zero_bytes.ensures
 
-pub spell-floats-spec : {M : Type 1} → statement M
-spell-floats-spec =
+pub spell_floats_spec : {M : Type 1} → statement M
+spell_floats_spec =
     tie.close
     (tie.spec
-    invariant-loop
-    decreases-loop
+    invariant-loop-i
+    decreases-loop-i
     (λ c κs. search rules)
     (λ c. search rules)
     loop-holds

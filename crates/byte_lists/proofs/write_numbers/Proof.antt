@@ -5,12 +5,12 @@ use borrow.Author.Rules.{rules}
 use Rattle.byte_lists.proofs.write_numbers.Statement.{statement}
 use Rattle.byte_lists.proofs.write_numbers.Tie as tie
 
-returns : tie.Need-returns
-returns c = rw (sym c.before.before.before.before.before.holds-words.ensures ∙ c.before.before.before.before.if1.true) (refl, c.before.before.spell-numbers.ensures)
+returns : tie.Need-returns-then-holds_words
+returns c = rw (sym c.holds_words.ensures ∙ c.if-holds_words.true) (refl, c.spell_numbers.ensures)
 
-returns-2 : tie.Need-returns-2
-returns-2 c = rw (sym c.before.holds-words.ensures ∙ c.if1.false) (refl, refl)
+returns-2 : tie.Need-returns-else-holds_words
+returns-2 c = rw (sym c.holds_words.ensures ∙ c.if-holds_words.false) (refl, refl)
 
-pub write-numbers-spec : {M : Type 1} → statement M
-write-numbers-spec =
-    tie.close (tie.spec (λ c κs. search rules) (λ c κs. writable_room 8 _ _ (sym c.before.before.holds-words.ensures ∙ c.before.if1.true)) (λ c. search rules) returns returns-2)
+pub write_numbers_spec : {M : Type 1} → statement M
+write_numbers_spec =
+    tie.close (tie.spec (λ c κs. search rules) (λ c κs. writable_room 8 _ _ (sym c.holds_words.ensures ∙ c.if-holds_words.true)) (λ c. search rules) returns returns-2)

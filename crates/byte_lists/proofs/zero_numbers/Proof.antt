@@ -8,27 +8,27 @@ use Rattle.byte_lists.proofs.Filling.{Filled, filled_none, filled_more, filled_c
 use Rattle.byte_lists.proofs.zero_numbers.Statement.{statement}
 use Rattle.byte_lists.proofs.zero_numbers.Tie as tie
 
-abbrev invariant-loop : tie.invariant-loop
-invariant-loop list₀ i₀ list i = Filled (λ _. 0) (length list₀) list₀ list i
+abbrev invariant-loop-i : tie.invariant-loop-i
+invariant-loop-i list₀ i₀ list i = Filled (λ _. 0) (length list₀) list₀ list i
 
-abbrev decreases-loop : tie.decreases-loop
-decreases-loop list₀ i₀ list i = length list₀ - i
+abbrev decreases-loop-i : tie.decreases-loop-i
+decreases-loop-i list₀ i₀ list i = length list₀ - i
 
-loop-holds : tie.Need-loop-init invariant-loop decreases-loop
+loop-holds : tie.Need-loop-i-init invariant-loop-i decreases-loop-i
 loop-holds c = filled_none (omega arith)
 
-loop-again : tie.Need-loop-preserved invariant-loop decreases-loop
-loop-again c = filled_more c.before.loop.invariant (omega arith) refl
+loop-again : tie.Need-loop-i-preserved invariant-loop-i decreases-loop-i
+loop-again c = filled_more c.loop-i.invariant (omega arith) refl
 
-returns : tie.Need-returns invariant-loop decreases-loop
-returns c = filled_cleared 0 c.before.loop.invariant (omega arith)
+returns : tie.Need-returns invariant-loop-i decreases-loop-i
+returns c = filled_cleared 0 c.loop-i.invariant (omega arith)
 
-pub zero-numbers-spec : {M : Type 1} → statement M
-zero-numbers-spec =
+pub zero_numbers_spec : {M : Type 1} → statement M
+zero_numbers_spec =
     tie.close
     (tie.spec
-    invariant-loop
-    decreases-loop
+    invariant-loop-i
+    decreases-loop-i
     loop-holds
     (λ c. search rules)
     (λ c. omega arith)

@@ -4,29 +4,29 @@ use borrow.Author.Rules.{rules}
 use Rattle.coarse_factor.proofs.factor_fitting.Statement.{statement}
 use Rattle.coarse_factor.proofs.factor_fitting.Tie as tie
 
-returns : tie.Need-returns
+returns : tie.Need-returns-in-Accepted
 returns c =
-    let a = c.before.before.before.before.before.before.before.before.before.before.before.before.before.before.before.before.args in
-    let p = c.before.before.before.before.before.before.before.before.before.before.before.before.before.before.before.before.requires in
-    let f = c.before.before.before.before.factor_rows_lem in
-    fitting_done a.c a.m.now a.lower.now c.before.before.before.before.before.before.before.before.before.before.before.before.zero-floats.new.0 f.new.1.0 c.before.before.before.before.before.before.before.before.before.largest.result c.before.before.before.before.before.larger.result f.result c.before.before.before.before.before.before.before.before.before.largest.ensures (sym c.before.before.before.before.before.before.before.before.usable.ensures ∙ c.before.before.before.before.before.before.before.if1.true) c.before.before.before.before.before.larger.ensures p.1
-    c.before.before.before.before.before.before.before.before.before.before.before.before.zero-floats.ensures f.ensures.0 f.ensures.1 c.enum_told.given.1
+    let a = c.args in
+    let p = c.requires in
+    let f = c.factor_rows-answer in
+    fitting_done a.c a.m.now a.lower.now c.zero_floats.new.s f.new.l c.largest-top.result c.larger.result f.result c.largest-top.ensures (sym c.usable.ensures ∙ c.if-usable.true) c.larger.ensures p.1
+    c.zero_floats.ensures f.ensures.0 f.ensures.1 c.in-Accepted.is
 
-returns-2 : tie.Need-returns-2
+returns-2 : tie.Need-returns-in-Refused
 returns-2 c =
-    let a = c.before.before.before.before.before.before.before.before.before.before.before.before.before.before.before.before.before.before.before.before.before.args in
-    let p = c.before.before.before.before.before.before.before.before.before.before.before.before.before.before.before.before.before.before.before.before.before.requires in
-    let f = c.before.before.before.before.before.before.before.before.before.factor_rows_lem in
-    fitting_pivot a.c a.m.now a.lower.now c.before.before.before.before.before.before.before.before.before.before.before.before.before.before.before.before.before.zero-floats.new.0 f.new.1.0 c.before.before.before.before.before.before.before.before.before.before.before.before.before.before.largest.result c.before.before.before.before.before.before.before.before.before.before.larger.result f.result c.before.before.before.before.before.before.before.before.before.before.before.before.before.before.largest.ensures (sym c.before.before.before.before.before.before.before.before.before.before.before.before.before.usable.ensures ∙ c.before.before.before.before.before.before.before.before.before.before.before.before.if1.true) c.before.before.before.before.before.before.before.before.before.before.larger.ensures p.1
-    c.before.before.before.before.before.before.before.before.before.before.before.before.before.before.before.before.before.zero-floats.ensures f.ensures.0 f.ensures.1 _ c.before.before.zero-floats2.new.0 c.before.before.before.before.before.answer.given.1 c.before.before.zero-floats2.ensures
+    let a = c.args in
+    let p = c.requires in
+    let f = c.factor_rows-answer in
+    fitting_pivot a.c a.m.now a.lower.now c.zero_floats.new.s f.new.l c.largest-top.result c.larger.result f.result c.largest-top.ensures (sym c.usable.ensures ∙ c.if-usable.true) c.larger.ensures p.1
+    c.zero_floats.ensures f.ensures.0 f.ensures.1 _ c.zero_floats-in-Refused.new.s c.in-Refused.is c.zero_floats-in-Refused.ensures
 
-returns-3 : tie.Need-returns-3
+returns-3 : tie.Need-returns-else-usable
 returns-3 c =
-    let a = c.before.before.before.before.before.before.before.before.before.args in
-    fitting_scale a.c a.m.now a.lower.now c.before.before.before.before.before.zero-floats.new.0 c.before.before.largest.result c.before.before.largest.ensures (sym c.before.usable.ensures ∙ c.if1.false) c.before.before.before.before.before.zero-floats.ensures
+    let a = c.args in
+    fitting_scale a.c a.m.now a.lower.now c.zero_floats.new.s c.largest-top.result c.largest-top.ensures (sym c.usable.ensures ∙ c.if-usable.false) c.zero_floats.ensures
 
-pub factor-fitting-spec : {M : Type 1} → statement M
-factor-fitting-spec =
+pub factor_fitting_spec : {M : Type 1} → statement M
+factor_fitting_spec =
     tie.close
     (tie.spec
     (λ c κs. search rules)

@@ -29,41 +29,41 @@ checked c l n = refl
 front : (c : ℕ) (l : List Float) (n : ℕ) → padded zeroᶠ n (inverse_of c (take (packed_length c - 0) l)) ≡ padded zeroᶠ n (inverse_of c (take (packed_length c) l))
 front c l n = let q : packed_length c - 0 ≡ packed_length c = omega arith in rw q
 
-part-invert-end : tie.Need-slice-bounds-invert-end
-part-invert-end c = let a = c.before.before.before.before.before.args in let h : packed_length a.c ≤ length a.lower.now = (covered (packed_length a.c) (length a.lower.now) (a.c * a.c) (length a.inverse.now) (sym c.before.long-enough.ensures ∙ c.if2.true)).0 in omega (arith, h)
+part-invert-end : tie.Need-slice_bounds-invert-end
+part-invert-end c = let a = c.args in let h : packed_length a.c ≤ length a.lower.now = (covered (packed_length a.c) (length a.lower.now) (a.c * a.c) (length a.inverse.now) (sym c.long_enough.ensures ∙ c.if-long_enough.true)).0 in omega (arith, h)
 
 invert-requires : tie.Need-invert-requires
 invert-requires c κs =
-    let a = c.before.before.before.before.before.before.before.args in
-    let h = covered (packed_length a.c) (length a.lower.now) (a.c * a.c) (length a.inverse.now) (sym c.before.before.before.long-enough.ensures ∙ c.before.before.if2.true) in
+    let a = c.args in
+    let h = covered (packed_length a.c) (length a.lower.now) (a.c * a.c) (length a.inverse.now) (sym c.long_enough.ensures ∙ c.if-long_enough.true) in
     (front_length a.lower.now (packed_length a.c) h.0, h.1, omega arith)
 
-returns : tie.Need-returns
+returns : tie.Need-returns-then-long_enough
 returns c =
-    let a = c.before.before.before.before.before.before.before.before.before.before.args in
-    accept_left zeroᶠ (coarse_inverse_call a.c a.lower.now (length a.inverse.now)) a.inverse.now c.before.before.invert.new.1.1.0 (inverse_of a.c (take (packed_length a.c) a.lower.now))
-    (checked a.c a.lower.now (length a.inverse.now) ∙ fit a.c (leb (packed_length a.c) (length a.lower.now) && leb (a.c * a.c) (length a.inverse.now)) (done (inverse_of a.c (take (packed_length a.c) a.lower.now))) (omega arith) (sym c.before.before.before.before.before.before.long-enough.ensures ∙ c.before.before.before.before.before.if2.true))
-    (c.before.before.invert.ensures ∙ front a.c a.lower.now (length a.inverse.now))
+    let a = c.args in
+    accept_left zeroᶠ (coarse_inverse_call a.c a.lower.now (length a.inverse.now)) a.inverse.now c.invert.new.inverse (inverse_of a.c (take (packed_length a.c) a.lower.now))
+    (checked a.c a.lower.now (length a.inverse.now) ∙ fit a.c (leb (packed_length a.c) (length a.lower.now) && leb (a.c * a.c) (length a.inverse.now)) (done (inverse_of a.c (take (packed_length a.c) a.lower.now))) (omega arith) (sym c.long_enough.ensures ∙ c.if-long_enough.true))
+    (c.invert.ensures ∙ front a.c a.lower.now (length a.inverse.now))
 
-returns-2 : tie.Need-returns-2
+returns-2 : tie.Need-returns-else-long_enough
 returns-2 c =
-    let a = c.before.before.before.before.before.before.before.before.before.args in
-    refuse_cleared zeroᶠ (coarse_inverse_call a.c a.lower.now (length a.inverse.now)) a.inverse.now c.before.before.zero-floats.new.0 (CoarseListTooShort a.c)
-    (checked a.c a.lower.now (length a.inverse.now) ∙ short a.c (leb (packed_length a.c) (length a.lower.now) && leb (a.c * a.c) (length a.inverse.now)) (done (inverse_of a.c (take (packed_length a.c) a.lower.now))) (omega arith) (sym c.before.before.before.before.before.long-enough.ensures ∙ c.before.before.before.before.if2.false)) (short_clears a.c) c.before.before.zero-floats.ensures
+    let a = c.args in
+    refuse_cleared zeroᶠ (coarse_inverse_call a.c a.lower.now (length a.inverse.now)) a.inverse.now c.zero_floats.new.s (CoarseListTooShort a.c)
+    (checked a.c a.lower.now (length a.inverse.now) ∙ short a.c (leb (packed_length a.c) (length a.lower.now) && leb (a.c * a.c) (length a.inverse.now)) (done (inverse_of a.c (take (packed_length a.c) a.lower.now))) (omega arith) (sym c.long_enough.ensures ∙ c.if-long_enough.false)) (short_clears a.c) c.zero_floats.ensures
 
-returns-3 : tie.Need-returns-3
+returns-3 : tie.Need-returns-else-c-le-MAX_COARSE
 returns-3 c =
-    let a = c.before.before.before.before.before.before.before.args in
-    refuse_cleared zeroᶠ (coarse_inverse_call a.c a.lower.now (length a.inverse.now)) a.inverse.now c.before.before.zero-floats2.new.0 (CoarseTooLarge a.c)
-    (checked a.c a.lower.now (length a.inverse.now) ∙ large a.c (leb (packed_length a.c) (length a.lower.now) && leb (a.c * a.c) (length a.inverse.now)) (done (inverse_of a.c (take (packed_length a.c) a.lower.now))) (omega arith)) (large_clears a.c) c.before.before.zero-floats2.ensures
+    let a = c.args in
+    refuse_cleared zeroᶠ (coarse_inverse_call a.c a.lower.now (length a.inverse.now)) a.inverse.now c.zero_floats-else-c-le-MAX_COARSE.new.s (CoarseTooLarge a.c)
+    (checked a.c a.lower.now (length a.inverse.now) ∙ large a.c (leb (packed_length a.c) (length a.lower.now) && leb (a.c * a.c) (length a.inverse.now)) (done (inverse_of a.c (take (packed_length a.c) a.lower.now))) (omega arith)) (large_clears a.c) c.zero_floats-else-c-le-MAX_COARSE.ensures
 
-pub coarse-inverse-spec : {M : Type 1} → statement M
-coarse-inverse-spec =
+pub coarse_inverse_spec : {M : Type 1} → statement M
+coarse_inverse_spec =
     tie.close
     (tie.spec
     (λ c. search rules)
-    (λ c. omega (arith, triangle_small c.before.before.before.args.c (omega arith)))
-    (λ c. omega (arith, square_small c.before.before.before.args.c (omega arith)))
+    (λ c. omega (arith, triangle_small c.args.c (omega arith)))
+    (λ c. omega (arith, square_small c.args.c (omega arith)))
     (λ c κs. search rules)
     (λ c. search rules)
     (λ c. search rules)

@@ -30,41 +30,41 @@ front : (p : TwoLevelCoarseApplyPolicy) (c : ℕ) (part work : List Float) (k : 
     → padded zeroᶠ (length work) (coarse_solve p c (take (k - 0) part) (take c work)) ≡ padded zeroᶠ (length work) (coarse_solve p c (take (coarse_length p c) part) (take c work))
 front p c part work k e = let q : k - 0 ≡ coarse_length p c = omega arith in rw q
 
-part-solve-stored-end : tie.Need-slice-bounds-solve-stored-end
-part-solve-stored-end c = let a = c.before.before.before.before.before.before.args in let h : c.before.before.stored_length_lem.result ≤ length a.part.now = (covered c.before.before.stored_length_lem.result (length a.part.now) (2 * a.c) (length a.work.now) (sym c.before.long-enough.ensures ∙ c.if2.true)).0 in omega (arith, h)
+part-solve-stored-end : tie.Need-slice_bounds-solve_stored-end
+part-solve-stored-end c = let a = c.args in let h : c.stored_length-count.result ≤ length a.part.now = (covered c.stored_length-count.result (length a.part.now) (2 * a.c) (length a.work.now) (sym c.long_enough.ensures ∙ c.if-long_enough.true)).0 in omega (arith, h)
 
-solve-stored-requires : tie.Need-solve-stored-requires
+solve-stored-requires : tie.Need-solve_stored-requires
 solve-stored-requires c κs =
-    let a = c.before.before.before.before.before.before.before.before.args in
-    let n = c.before.before.before.before.stored_length_lem in
-    let h = covered c.before.before.before.before.stored_length_lem.result (length a.part.now) (2 * a.c) (length a.work.now) (sym c.before.before.before.long-enough.ensures ∙ c.before.before.if2.true) in
+    let a = c.args in
+    let n = c.stored_length-count in
+    let h = covered c.stored_length-count.result (length a.part.now) (2 * a.c) (length a.work.now) (sym c.long_enough.ensures ∙ c.if-long_enough.true) in
     (front_length a.part.now n.result h.0 ∙ n.ensures, h.1, omega arith)
 
-returns : tie.Need-returns
+returns : tie.Need-returns-then-long_enough
 returns c =
-    let a = c.before.before.before.before.before.before.before.before.before.before.before.args in
-    let n = c.before.before.before.before.before.before.before.stored_length_lem in
-    let e : (leb (coarse_length a.policy a.c) (length a.part.now) && leb (2 * a.c) (length a.work.now)) ≡ true = rw (← n.ensures) (sym c.before.before.before.before.before.before.long-enough.ensures ∙ c.before.before.before.before.before.if2.true) in
-    accept_left zeroᶠ (coarse_solve_call a.policy a.c a.part.now a.work.now) a.work.now c.before.before.solve-stored.new.1.1.1.0 (coarse_solve a.policy a.c (take (coarse_length a.policy a.c) a.part.now) (take a.c a.work.now))
+    let a = c.args in
+    let n = c.stored_length-count in
+    let e : (leb (coarse_length a.policy a.c) (length a.part.now) && leb (2 * a.c) (length a.work.now)) ≡ true = rw (← n.ensures) (sym c.long_enough.ensures ∙ c.if-long_enough.true) in
+    accept_left zeroᶠ (coarse_solve_call a.policy a.c a.part.now a.work.now) a.work.now c.solve_stored.new.work (coarse_solve a.policy a.c (take (coarse_length a.policy a.c) a.part.now) (take a.c a.work.now))
     (checked a.policy a.c a.part.now a.work.now ∙ fit a.c (leb (coarse_length a.policy a.c) (length a.part.now) && leb (2 * a.c) (length a.work.now)) (done (coarse_solve a.policy a.c (take (coarse_length a.policy a.c) a.part.now) (take a.c a.work.now))) (omega arith) e)
-    (c.before.before.solve-stored.ensures ∙ front a.policy a.c a.part.now a.work.now n.result n.ensures)
+    (c.solve_stored.ensures ∙ front a.policy a.c a.part.now a.work.now n.result n.ensures)
 
-returns-2 : tie.Need-returns-2
+returns-2 : tie.Need-returns-else-long_enough
 returns-2 c =
-    let a = c.before.before.before.before.before.before.before.before.before.before.args in
-    let n = c.before.before.before.before.before.before.stored_length_lem in
-    let e : (leb (coarse_length a.policy a.c) (length a.part.now) && leb (2 * a.c) (length a.work.now)) ≡ false = rw (← n.ensures) (sym c.before.before.before.before.before.long-enough.ensures ∙ c.before.before.before.before.if2.false) in
-    refuse_cleared zeroᶠ (coarse_solve_call a.policy a.c a.part.now a.work.now) a.work.now c.before.before.zero-floats.new.0 (CoarseListTooShort a.c)
-    (checked a.policy a.c a.part.now a.work.now ∙ short a.c (leb (coarse_length a.policy a.c) (length a.part.now) && leb (2 * a.c) (length a.work.now)) (done (coarse_solve a.policy a.c (take (coarse_length a.policy a.c) a.part.now) (take a.c a.work.now))) (omega arith) e) (short_clears a.c) c.before.before.zero-floats.ensures
+    let a = c.args in
+    let n = c.stored_length-count in
+    let e : (leb (coarse_length a.policy a.c) (length a.part.now) && leb (2 * a.c) (length a.work.now)) ≡ false = rw (← n.ensures) (sym c.long_enough.ensures ∙ c.if-long_enough.false) in
+    refuse_cleared zeroᶠ (coarse_solve_call a.policy a.c a.part.now a.work.now) a.work.now c.zero_floats.new.s (CoarseListTooShort a.c)
+    (checked a.policy a.c a.part.now a.work.now ∙ short a.c (leb (coarse_length a.policy a.c) (length a.part.now) && leb (2 * a.c) (length a.work.now)) (done (coarse_solve a.policy a.c (take (coarse_length a.policy a.c) a.part.now) (take a.c a.work.now))) (omega arith) e) (short_clears a.c) c.zero_floats.ensures
 
-returns-3 : tie.Need-returns-3
+returns-3 : tie.Need-returns-else-c-le-MAX_COARSE
 returns-3 c =
-    let a = c.before.before.before.before.before.before.before.args in
-    refuse_cleared zeroᶠ (coarse_solve_call a.policy a.c a.part.now a.work.now) a.work.now c.before.before.zero-floats2.new.0 (CoarseTooLarge a.c)
-    (checked a.policy a.c a.part.now a.work.now ∙ large a.c (leb (coarse_length a.policy a.c) (length a.part.now) && leb (2 * a.c) (length a.work.now)) (done (coarse_solve a.policy a.c (take (coarse_length a.policy a.c) a.part.now) (take a.c a.work.now))) (omega arith)) (large_clears a.c) c.before.before.zero-floats2.ensures
+    let a = c.args in
+    refuse_cleared zeroᶠ (coarse_solve_call a.policy a.c a.part.now a.work.now) a.work.now c.zero_floats-else-c-le-MAX_COARSE.new.s (CoarseTooLarge a.c)
+    (checked a.policy a.c a.part.now a.work.now ∙ large a.c (leb (coarse_length a.policy a.c) (length a.part.now) && leb (2 * a.c) (length a.work.now)) (done (coarse_solve a.policy a.c (take (coarse_length a.policy a.c) a.part.now) (take a.c a.work.now))) (omega arith)) (large_clears a.c) c.zero_floats-else-c-le-MAX_COARSE.ensures
 
-pub coarse-solve-spec : {M : Type 1} → statement M
-coarse-solve-spec =
+pub coarse_solve_spec : {M : Type 1} → statement M
+coarse_solve_spec =
     tie.close
     (tie.spec
     (λ c κs. search rules)

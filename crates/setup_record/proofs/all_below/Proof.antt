@@ -8,5 +8,5 @@ use Rattle.setup_record.proofs.all_below.Tie as tie
 returns : tie.Need-returns
 returns c = ap not c.reaches.ensures ∙ below_all _ _
 
-pub all-below-spec : {M : Type 1} → statement M
-all-below-spec = tie.close (tie.spec (λ c κs. search rules) returns)
+pub all_below_spec : {M : Type 1} → statement M
+all_below_spec = tie.close (tie.spec (λ c κs. search rules) returns)

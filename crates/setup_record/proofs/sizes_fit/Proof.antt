@@ -7,25 +7,25 @@ use borrow.Author.Rules.{rules}
 use Rattle.setup_record.proofs.sizes_fit.Statement.{statement}
 use Rattle.setup_record.proofs.sizes_fit.Tie as tie
 
-transfers-fit-requires : tie.Need-transfers-fit-requires
-transfers-fit-requires c κs = sym c.before.before.before.before.within-limits.ensures ∙ c.before.before.before.if1.true
+transfers-fit-requires : tie.Need-transfers_fit-requires
+transfers-fit-requires c κs = sym c.within_limits.ensures ∙ c.if-within_limits.true
 
-is-product-requires : tie.Need-is-product-requires
-is-product-requires c κs = let l = limits_of _ (sym c.before.before.before.before.before.before.within-limits.ensures ∙ c.before.before.before.before.before.if1.true) in (l.rows, l.block)
+is-product-requires : tie.Need-is_product-requires
+is-product-requires c κs = let l = limits_of _ (sym c.within_limits.ensures ∙ c.if-within_limits.true) in (l.rows, l.block)
 
-is-product-requires-2 : tie.Need-is-product-requires-2
-is-product-requires-2 c κs = let l = limits_of _ (sym c.before.before.before.before.before.before.before.before.within-limits.ensures ∙ c.before.before.before.before.before.before.before.if1.true) in (omega (arith, l.coarse), l.block)
+is-product-requires-2 : tie.Need-is_product-requires-then-within_limits
+is-product-requires-2 c κs = let l = limits_of _ (sym c.within_limits.ensures ∙ c.if-within_limits.true) in (omega (arith, l.coarse), l.block)
 
-returns : tie.Need-returns
+returns : tie.Need-returns-then-within_limits
 unfolding sizes_fit
-returns c = rw (sym c.before.before.before.before.before.before.before.before.before.before.within-limits.ensures ∙ c.before.before.before.before.before.before.before.before.before.if1.true, c.both4.ensures, c.before.is-product2.ensures, c.before.before.both3.ensures, c.before.before.before.is-product.ensures, c.before.before.before.before.both2.ensures, c.before.before.before.before.before.transfers-fit.ensures, c.before.before.before.before.before.before.both.ensures, c.before.before.before.before.before.before.before.is_resolved_lem.ensures)
+returns c = rw (sym c.within_limits.ensures ∙ c.if-within_limits.true, c.both.ensures, c.is_product-then-within_limits.ensures, c.both-whole.ensures, c.is_product.ensures, c.both-counted.ensures, c.transfers_fit.ensures, c.both-resolved.ensures, c.is_resolved.ensures)
 
-returns-2 : tie.Need-returns-2
+returns-2 : tie.Need-returns-else-within_limits
 unfolding sizes_fit
-returns-2 c = rw (sym c.before.within-limits.ensures ∙ c.if1.false)
+returns-2 c = rw (sym c.within_limits.ensures ∙ c.if-within_limits.false)
 
-pub sizes-fit-spec : {M : Type 1} → statement M
-sizes-fit-spec =
+pub sizes_fit_spec : {M : Type 1} → statement M
+sizes_fit_spec =
     tie.close
     (tie.spec
     (λ c κs. search rules)

@@ -13,40 +13,40 @@ use Rattle.setup_record.proofs.transfer_fits.Tie as tie
 facts : (s : tie.Start) → s.args.basis ≡ JacobiSmoothed → Rowed s.args.s s.args.p (length s.args.ints.now)
 facts s e = let h = s.requires in rowed_of s.args.basis s.args.s s.args.p _ h.0 h.1 e h.2
 
-add-e : tie.Need-overflow-add-e
-add-e c = omega (arith, facts c.before.before.before c.enum-told2.given.1)
+add-e : tie.Need-overflow_add-e
+add-e c = omega (arith, facts c.before.before.before c.in-JacobiSmoothed.is)
 
-mul-rows-fit : tie.Need-overflow-mul-rows-fit
-mul-rows-fit c = omega (arith, facts c.before.before.before c.enum-told2.given.1)
+mul-rows-fit : tie.Need-offset_bounds-ints-a
+mul-rows-fit c = omega (arith, facts c.before.before.before c.in-JacobiSmoothed.is)
 
-sub-rows-fit : tie.Need-overflow-sub-rows-fit
-sub-rows-fit c = omega (arith, facts c.before.before.before c.enum-told2.given.1)
+sub-rows-fit : tie.Need-slice_bounds-rows_fit-count
+sub-rows-fit c = omega (arith, facts c.before.before.before c.in-JacobiSmoothed.is)
 
-part-rows-fit-start : tie.Need-slice-bounds-rows-fit-start
-part-rows-fit-start c = omega (arith, facts c.before.before.before c.enum-told2.given.1)
+part-rows-fit-start : tie.Need-slice_bounds-rows_fit-start
+part-rows-fit-start c = omega (arith, facts c.before.before.before c.in-JacobiSmoothed.is)
 
-part-rows-fit-end : tie.Need-slice-bounds-rows-fit-end
-part-rows-fit-end c = omega (arith, facts c.before.before.before c.enum-told2.given.1)
+part-rows-fit-end : tie.Need-slice_bounds-rows_fit-end
+part-rows-fit-end c = omega (arith, facts c.before.before.before c.in-JacobiSmoothed.is)
 
-mul-rows-fit-2 : tie.Need-overflow-mul-rows-fit-2
-mul-rows-fit-2 c = omega (arith, facts c.before.before.before.before c.before.enum-told2.given.1)
+mul-rows-fit-2 : tie.Need-offset_bounds-ints-b
+mul-rows-fit-2 c = omega (arith, facts c.before.before.before.before c.in-JacobiSmoothed.is)
 
-part-rows-fit-end-2 : tie.Need-slice-bounds-rows-fit-end-2
-part-rows-fit-end-2 c = omega (arith, facts c.before.before.before.before c.before.enum-told2.given.1)
+part-rows-fit-end-2 : tie.Need-slice_bounds-rows_fit-end-in-JacobiSmoothed
+part-rows-fit-end-2 c = omega (arith, facts c.before.before.before.before c.in-JacobiSmoothed.is)
 
-rows-fit-requires : tie.Need-rows-fit-requires
-rows-fit-requires c κs = let f = facts c.before.before.before.before.before c.before.before.enum-told2.given.1 in (simp (length-take, length-drop) (omega (arith, f)), f.rows)
+rows-fit-requires : tie.Need-rows_fit-requires
+rows-fit-requires c κs = let f = facts c.before.before.before.before.before c.in-JacobiSmoothed.is in (simp (length-take, length-drop) (omega (arith, f)), f.rows)
 
-returns : tie.Need-returns
+returns : tie.Need-returns-in-PiecewiseConstant
 unfolding transfer_fits
-returns c = rw c.enum_told.given.1
+returns c = rw c.in-PiecewiseConstant.is
 
-returns-2 : tie.Need-returns-2
+returns-2 : tie.Need-returns-in-JacobiSmoothed
 unfolding transfer_fits rows_fit
-returns-2 c = c.rows_fit.ensures ∙ rw (c.before.before.before.before.before.before.requires.1, c.before.before.before.enum-told2.given.1)
+returns-2 c = c.rows_fit.ensures ∙ rw (c.requires.1, c.in-JacobiSmoothed.is)
 
-pub transfer-fits-spec : {M : Type 1} → statement M
-transfer-fits-spec =
+pub transfer_fits_spec : {M : Type 1} → statement M
+transfer_fits_spec =
     tie.close
     (tie.spec
     (λ c. search rules)

@@ -6,16 +6,16 @@ use borrow.Author.Rules.{rules}
 use Rattle.setup_record.proofs.transfers_fit.Statement.{statement}
 use Rattle.setup_record.proofs.transfers_fit.Tie as tie
 
-add-result : tie.Need-overflow-add-result
-add-result c = let l = limits_of _ c.before.before.before.requires in omega (arith, l.rows, l.entries)
+add-result : tie.Need-overflow_add-result
+add-result c = let l = limits_of _ c.requires in omega (arith, l.rows, l.entries)
 
-returns : tie.Need-returns
+returns : tie.Need-returns-in-PiecewiseConstant
 unfolding transfers_fit
-returns c = rw c.before.enum_told.given.1
+returns c = rw c.in-PiecewiseConstant.is
 
-returns-2 : tie.Need-returns-2
+returns-2 : tie.Need-returns-in-JacobiSmoothed
 unfolding transfers_fit
-returns-2 c = rw c.before.before.enum-told2.given.1
+returns-2 c = rw c.in-JacobiSmoothed.is
 
-pub transfers-fit-spec : {M : Type 1} → statement M
-transfers-fit-spec = tie.close (tie.spec (λ c. search rules) (λ c. search rules) add-result returns returns-2)
+pub transfers_fit_spec : {M : Type 1} → statement M
+transfers_fit_spec = tie.close (tie.spec (λ c. search rules) (λ c. search rules) add-result returns returns-2)

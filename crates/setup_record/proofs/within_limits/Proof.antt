@@ -6,8 +6,8 @@ use Rattle.setup_record.proofs.within_limits.Tie as tie
 
 returns : tie.Need-returns
 unfolding within_limits
-returns c = rw (c.both4.ensures, c.before.before.both3.ensures, c.before.before.before.before.both2.ensures, c.before.before.before.before.before.before.both.ensures)
+returns c = rw (c.both.ensures, c.both-grouped.ensures, c.both-small.ensures, c.both-few.ensures)
 
-pub within-limits-spec : {M : Type 1} → statement M
-within-limits-spec =
+pub within_limits_spec : {M : Type 1} → statement M
+within_limits_spec =
     tie.close (tie.spec (λ c κs. search rules) (λ c κs. search rules) (λ c κs. search rules) (λ c κs. search rules) returns)

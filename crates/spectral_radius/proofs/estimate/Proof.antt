@@ -7,40 +7,40 @@ use borrow.Author.Rules.{rules}
 use Rattle.spectral_radius.proofs.estimate.Statement.{statement}
 use Rattle.spectral_radius.proofs.estimate.Tie as tie
 
-returns : tie.Need-returns
+returns : tie.Need-returns-then-cols-rows
 returns c =
-    let a = c.before.before.before.before.before.before.before.before.before.args in
-    oblong (csr a.rows a.cols a.row-ptr.now a.col-idx.now a.values.now) a.diagonal.now a.work.now c.before.before.before.validate.result c.before.before.before.validate.ensures c.before.enum_told.given.1 c.if1.true
+    let a = c.args in
+    oblong (csr a.rows a.cols a.row_ptr.now a.col_idx.now a.values.now) a.diagonal.now a.work.now c.validate-valid.result c.validate-valid.ensures c.in-Accepted.is c.if-cols-rows.true
 
-returns-2 : tie.Need-returns-2
+returns-2 : tie.Need-returns-then-diagonal-rows
 returns-2 c =
-    let a = c.before.before.before.before.before.before.before.before.before.before.args in
-    misfit (csr a.rows a.cols a.row-ptr.now a.col-idx.now a.values.now) a.diagonal.now a.work.now c.before.before.before.before.validate.result c.before.before.before.before.validate.ensures c.before.before.enum_told.given.1 c.before.if1.false c.if2.true
+    let a = c.args in
+    misfit (csr a.rows a.cols a.row_ptr.now a.col_idx.now a.values.now) a.diagonal.now a.work.now c.validate-valid.result c.validate-valid.ensures c.in-Accepted.is c.if-cols-rows.false c.if-diagonal-rows.true
 
-returns-3 : tie.Need-returns-3
+returns-3 : tie.Need-returns-then-work-rows
 returns-3 c =
-    let a = c.before.before.before.before.before.before.before.before.before.before.before.args in
-    short (csr a.rows a.cols a.row-ptr.now a.col-idx.now a.values.now) a.diagonal.now a.work.now c.before.before.before.before.before.validate.result c.before.before.before.before.before.validate.ensures c.before.before.before.enum_told.given.1 c.before.before.if1.false c.before.if2.false (omega arith)
+    let a = c.args in
+    short (csr a.rows a.cols a.row_ptr.now a.col_idx.now a.values.now) a.diagonal.now a.work.now c.validate-valid.result c.validate-valid.ensures c.in-Accepted.is c.if-cols-rows.false c.if-diagonal-rows.false (omega arith)
 
-run-requires : tie.Need-run-requires
+run-requires : tie.Need-run-answer-requires
 run-requires c κs =
-    let a = c.before.before.before.before.before.before.before.before.before.before.before.before.args in
-    let e : a.cols ≡ a.rows = c.before.before.before.if1.false in
-    (rw e at (sound (csr a.rows a.cols a.row-ptr.now a.col-idx.now a.values.now) a.diagonal.now a.work.now c.before.before.before.before.before.before.validate.result c.before.before.before.before.before.before.validate.ensures c.before.before.before.before.enum_told.given.1), (c.before.before.if2.false, omega (arith, c.before.if3.false)))
+    let a = c.args in
+    let e : a.cols ≡ a.rows = c.if-cols-rows.false in
+    (rw e at (sound (csr a.rows a.cols a.row_ptr.now a.col_idx.now a.values.now) a.diagonal.now a.work.now c.validate-valid.result c.validate-valid.ensures c.in-Accepted.is), (c.if-diagonal-rows.false, omega (arith, c.if-work-rows.false)))
 
-returns-4 : tie.Need-returns-4
+returns-4 : tie.Need-returns-else-work-rows
 returns-4 c =
-    let a = c.before.before.before.before.before.before.before.before.before.before.before.before.before.before.before.before.before.before.before.args in
-    let e : a.cols ≡ a.rows = c.before.before.before.before.before.before.before.before.before.before.if1.false in
-    ran (csr a.rows a.cols a.row-ptr.now a.col-idx.now a.values.now) a.diagonal.now a.work.now c.before.before.before.before.before.before.before.before.before.before.before.before.before.validate.result c.before.before.before.before.before.before.before.before.before.before.before.before.before.validate.ensures c.before.before.before.before.before.before.before.before.before.before.before.enum_told.given.1 e c.before.before.before.before.before.before.before.before.before.if2.false c.before.before.before.before.before.before.run.result c.before.before.zero-floats.new.0 (omega (arith, c.before.before.before.before.before.before.before.before.if3.false)) (rw e c.before.before.before.before.before.before.run.ensures) (rw c.before.before.before.before.before.before.run.auto.1.1.1.1.1.0 at c.before.before.zero-floats.ensures)
+    let a = c.args in
+    let e : a.cols ≡ a.rows = c.if-cols-rows.false in
+    ran (csr a.rows a.cols a.row_ptr.now a.col_idx.now a.values.now) a.diagonal.now a.work.now c.validate-valid.result c.validate-valid.ensures c.in-Accepted.is e c.if-diagonal-rows.false c.run-answer.result c.zero_floats.new.s (omega (arith, c.if-work-rows.false)) (rw e c.run-answer.ensures) (rw c.run-answer.auto.w at c.zero_floats.ensures)
 
-returns-5 : tie.Need-returns-5
+returns-5 : tie.Need-returns-in-Refused
 returns-5 c =
-    let a = c.before.before.before.before.before.before.before.before.before.args in
-    invalid (csr a.rows a.cols a.row-ptr.now a.col-idx.now a.values.now) a.diagonal.now a.work.now c.before.before.before.validate.result c.before.valid.given.0.0 c.before.before.before.validate.ensures c.before.valid.given.1
+    let a = c.args in
+    invalid (csr a.rows a.cols a.row_ptr.now a.col_idx.now a.values.now) a.diagonal.now a.work.now c.validate-valid.result c.in-Refused.cause c.validate-valid.ensures c.in-Refused.is
 
-pub estimate-spec : {M : Type 1} → statement M
-estimate-spec =
+pub estimate_spec : {M : Type 1} → statement M
+estimate_spec =
     tie.close
     (tie.spec
     (λ c κs. search rules)

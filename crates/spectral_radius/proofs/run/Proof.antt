@@ -9,25 +9,24 @@ use borrow.Author.Rules.{rules}
 use Rattle.spectral_radius.proofs.run.Statement.{statement}
 use Rattle.spectral_radius.proofs.run.Tie as tie
 
-slice-aggregate-inverse-roots : tie.Need-slice-aggregate-inverse-roots
-slice-aggregate-inverse-roots c = let s = c.before.before.before.before.before.before.before.before.before in sym (length-take-le s.args.rows s.args.w.now (omega (arith, s.requires.1)))
+slice-aggregate-inverse-roots : tie.Need-slice_bounds-inverse_roots-end-in-Accepted
+slice-aggregate-inverse-roots c = sym (length-take-le c.args.rows c.args.w.now (omega (arith, c.requires.1)))
 
-inverse-roots-requires : tie.Need-inverse-roots-requires
-inverse-roots-requires c κs = let s = c.before.before.before.before.before.before.before.before.before in s.requires.1.0 ∙ sym (length-take-le s.args.rows s.args.w.now (omega (arith, s.requires.1)))
+inverse-roots-requires : tie.Need-inverse_roots-requires
+inverse-roots-requires c κs = c.requires.1.0 ∙ sym (length-take-le c.args.rows c.args.w.now (omega (arith, c.requires.1)))
 
-returns : tie.Need-returns
+returns : tie.Need-returns-in-Accepted
 returns c =
-    let s = c.before.before.before.before.before.before.before.before.before.before.before.before.before.before.before.before in
-    let a = s.args in
-    let v = c.before.before.before.before.before.before.inverse-roots in
-    let l : length v.new.1.0 ≡ a.rows = v.auto.1.0 ∙ length-take-le a.rows a.w.now (omega (arith, s.requires.1)) in
-    diagonal_goes (csr a.rows a.rows a.ptr.now a.idx.now a.vals.now) a.d.now v.new.1.0 c.before.before.power-method.result (sym c.before.before.before.before.before.before.before.before.before.before.check.ensures ∙ c.before.before.before.before.before.before.before.before.enum_told.given.1) v.ensures
-    (rw (take_at v.new.1.0 (drop a.rows a.w.now) a.rows l) at c.before.before.power-method.ensures)
+    let a = c.args in
+    let v = c.inverse_roots in
+    let l : length v.new.s ≡ a.rows = v.auto.s ∙ length-take-le a.rows a.w.now (omega (arith, c.requires.1)) in
+    diagonal_goes (csr a.rows a.rows a.ptr.now a.idx.now a.vals.now) a.d.now v.new.s c.power_method.result (sym c.check-usable.ensures ∙ c.in-Accepted.is) v.ensures
+    (rw (take_at v.new.s (drop a.rows a.w.now) a.rows l) at c.power_method.ensures)
 
-returns-2 : tie.Need-returns-2
+returns-2 : tie.Need-returns-in-Refused
 returns-2 c =
-    let a = c.before.before.before.before.before.before.before.before.before.args in
-    diagonal_stops (csr a.rows a.rows a.ptr.now a.idx.now a.vals.now) a.d.now c.before.usable.given.0.0 (sym c.before.before.before.check.ensures ∙ c.before.usable.given.1)
+    let a = c.args in
+    diagonal_stops (csr a.rows a.rows a.ptr.now a.idx.now a.vals.now) a.d.now c.in-Refused.cause (sym c.check-usable.ensures ∙ c.in-Refused.is)
 
 pub run_spec : {M : Type 1} → statement M
 run_spec =

@@ -9,13 +9,13 @@ use Rattle.transfer.proofs.assemble.Tie as tie
 
 returns : tie.Need-returns
 returns c =
-    let a = c.before.before.before.before.before.before.before.before.before.before.before.before.before.before.before.before.before.before.before.before.before.before.args in
-    let b = c.before.before.before.before.before.before.before.before.before.before.before.before.build in
+    let a = c.args in
+    let b = c.build-n in
     all_done (transfer_of (csr a.rows a.rows a.ptr.now a.idx.now a.vals.now) a.diagonal.now a.damping a.size a.ids.now a.c) (a.rows + 1) b.result
-    a.ints.now b.new.1.1.1.1.1.1.1.1.1.0 c.before.before.before.before.before.before.zero-ints.new.0 a.floats.now b.new.1.1.1.1.1.1.1.1.1.1.0 c.before.before.zero-floats.new.0 b.ensures b.auto.1.1.1.1.1.1.1.1.1.0 b.auto.1.1.1.1.1.1.1.1.1.1.0 c.before.before.before.before.before.before.zero-ints.ensures c.before.before.zero-floats.ensures
+    a.ints.now b.new.ints c.zero_ints.new.s a.floats.now b.new.floats c.zero_floats.new.s b.ensures b.auto.ints b.auto.floats c.zero_ints.ensures c.zero_floats.ensures
 
-pub assemble-spec : {M : Type 1} → statement M
-assemble-spec =
+pub assemble_spec : {M : Type 1} → statement M
+assemble_spec =
     tie.close
     (tie.spec
     (λ c κs. search rules)

@@ -13,48 +13,48 @@ use borrow.Author.Rules.{rules}
 use Rattle.transfer.proofs.check.Statement.{statement}
 use Rattle.transfer.proofs.check.Tie as tie
 
-returns : tie.Need-returns
-returns c = let a = c.before.before.before.before.before.args in many_groups (csr a.rows a.cols a.ptr.now a.idx.now a.vals.now) a.size a.ids.now a.groups a.diagonal a.ints a.floats (omega arith)
+returns : tie.Need-returns-then-groups-gt-MAX_ROWS
+returns c = let a = c.args in many_groups (csr a.rows a.cols a.ptr.now a.idx.now a.vals.now) a.size a.ids.now a.groups a.diagonal a.ints a.floats (omega arith)
 
-shape-requires : tie.Need-shape-requires
+shape-requires : tie.Need-shape-shaped-requires
 shape-requires c κs =
-    let a = c.before.before.before.before.before.before.before.before.args in
-    let w = structured_rows (csr a.rows a.cols a.ptr.now a.idx.now a.vals.now) (sym c.before.before.structure.ensures ∙ c.enum_told.given.1) in
+    let a = c.args in
+    let w = structured_rows (csr a.rows a.cols a.ptr.now a.idx.now a.vals.now) (sym c.structure-structured.ensures ∙ c.in-Accepted.is) in
     (w.few_rows, w.few_entries)
 
 groups-requires : tie.Need-groups-requires
 groups-requires c κs =
-    let a = c.before.before.before.before.before.before.before.before.before.before.before.args in
-    let w = structured_rows (csr a.rows a.cols a.ptr.now a.idx.now a.vals.now) (sym c.before.before.before.before.before.structure.ensures ∙ c.before.before.before.enum_told.given.1) in
-    let s = shape_facts a.rows a.cols (length a.vals.now) a.size a.ints a.floats (sym c.before.before.shape.ensures ∙ c.enum-told2.given.1) in
+    let a = c.args in
+    let w = structured_rows (csr a.rows a.cols a.ptr.now a.idx.now a.vals.now) (sym c.structure-structured.ensures ∙ c.in-Accepted.is) in
+    let s = shape_facts a.rows a.cols (length a.vals.now) a.size a.ints a.floats (sym c.shape-shaped.ensures ∙ c.in-Accepted-shaped.is) in
     (w.few_rows, w.few_entries, s.1, s.2, omega arith)
 
-returns-2 : tie.Need-returns-2
+returns-2 : tie.Need-returns-in-Accepted-shaped
 returns-2 c =
-    let a = c.before.before.before.before.before.before.before.before.before.before.before.before.args in
+    let a = c.args in
     let m = (csr a.rows a.cols a.ptr.now a.idx.now a.vals.now) in
     few_groups m a.size a.ids.now a.groups a.diagonal a.ints a.floats c.groups.result (omega arith)
-    (go (structure_of m) (λ _. (shape_checked a.rows a.cols (length a.vals.now) a.size a.ints a.floats) >>= (λ _. (groups_checked a.rows (length a.vals.now) a.size a.ids.now a.groups a.diagonal a.ints a.floats))) c.before.before.before.before.before.before.structure.result c.before.before.before.before.before.before.structure.ensures c.groups.result c.before.before.before.before.enum_told.given.1
-    (go (shape_checked a.rows a.cols (length a.vals.now) a.size a.ints a.floats) (λ _. (groups_checked a.rows (length a.vals.now) a.size a.ids.now a.groups a.diagonal a.ints a.floats)) c.before.before.before.shape.result c.before.before.before.shape.ensures c.groups.result c.before.enum-told2.given.1 c.groups.ensures))
+    (go (structure_of m) (λ _. (shape_checked a.rows a.cols (length a.vals.now) a.size a.ints a.floats) >>= (λ _. (groups_checked a.rows (length a.vals.now) a.size a.ids.now a.groups a.diagonal a.ints a.floats))) c.structure-structured.result c.structure-structured.ensures c.groups.result c.in-Accepted.is
+    (go (shape_checked a.rows a.cols (length a.vals.now) a.size a.ints a.floats) (λ _. (groups_checked a.rows (length a.vals.now) a.size a.ids.now a.groups a.diagonal a.ints a.floats)) c.shape-shaped.result c.shape-shaped.ensures c.groups.result c.in-Accepted-shaped.is c.groups.ensures))
 
-returns-3 : tie.Need-returns-3
+returns-3 : tie.Need-returns-in-Refused-shaped
 returns-3 c =
-    let a = c.before.before.before.before.before.before.before.before.before.before.before.before.args in
+    let a = c.args in
     let m = (csr a.rows a.cols a.ptr.now a.idx.now a.vals.now) in
-    let r = c.before.shaped.given.0.0 in
+    let r = c.in-Refused-shaped.cause in
     few_groups m a.size a.ids.now a.groups a.diagonal a.ints a.floats (Refused r) (omega arith)
-    (go (structure_of m) (λ _. (shape_checked a.rows a.cols (length a.vals.now) a.size a.ints a.floats) >>= (λ _. (groups_checked a.rows (length a.vals.now) a.size a.ids.now a.groups a.diagonal a.ints a.floats))) c.before.before.before.before.before.before.structure.result c.before.before.before.before.before.before.structure.ensures (Refused r) c.before.before.before.before.enum_told.given.1
-    (stop (shape_checked a.rows a.cols (length a.vals.now) a.size a.ints a.floats) (λ _. (groups_checked a.rows (length a.vals.now) a.size a.ids.now a.groups a.diagonal a.ints a.floats)) c.before.before.before.shape.result c.before.before.before.shape.ensures r c.before.shaped.given.1))
+    (go (structure_of m) (λ _. (shape_checked a.rows a.cols (length a.vals.now) a.size a.ints a.floats) >>= (λ _. (groups_checked a.rows (length a.vals.now) a.size a.ids.now a.groups a.diagonal a.ints a.floats))) c.structure-structured.result c.structure-structured.ensures (Refused r) c.in-Accepted.is
+    (stop (shape_checked a.rows a.cols (length a.vals.now) a.size a.ints a.floats) (λ _. (groups_checked a.rows (length a.vals.now) a.size a.ids.now a.groups a.diagonal a.ints a.floats)) c.shape-shaped.result c.shape-shaped.ensures r c.in-Refused-shaped.is))
 
-returns-4 : tie.Need-returns-4
+returns-4 : tie.Need-returns-in-Refused
 returns-4 c =
-    let a = c.before.before.before.before.before.before.before.before.before.args in
+    let a = c.args in
     let m = (csr a.rows a.cols a.ptr.now a.idx.now a.vals.now) in
-    let r = c.before.structured.given.0.0 in
-    few_groups m a.size a.ids.now a.groups a.diagonal a.ints a.floats (Refused r) (omega arith) (stop (structure_of m) (λ _. (shape_checked a.rows a.cols (length a.vals.now) a.size a.ints a.floats) >>= (λ _. (groups_checked a.rows (length a.vals.now) a.size a.ids.now a.groups a.diagonal a.ints a.floats))) c.before.before.before.structure.result c.before.before.before.structure.ensures r c.before.structured.given.1)
+    let r = c.in-Refused.cause in
+    few_groups m a.size a.ids.now a.groups a.diagonal a.ints a.floats (Refused r) (omega arith) (stop (structure_of m) (λ _. (shape_checked a.rows a.cols (length a.vals.now) a.size a.ints a.floats) >>= (λ _. (groups_checked a.rows (length a.vals.now) a.size a.ids.now a.groups a.diagonal a.ints a.floats))) c.structure-structured.result c.structure-structured.ensures r c.in-Refused.is)
 
-pub check-spec : {M : Type 1} → statement M
-check-spec =
+pub check_spec : {M : Type 1} → statement M
+check_spec =
     tie.close
     (tie.spec
     returns

@@ -8,35 +8,35 @@ use borrow.Author.Rules.{rules}
 use Rattle.transfer.proofs.smoothed_transfer.Statement.{statement}
 use Rattle.transfer.proofs.smoothed_transfer.Tie as tie
 
-mul-c : tie.Need-overflow-mul-c
+mul-c : tie.Need-overflow_mul-c
 mul-c c =
-    let a = c.before.before.before.before.before.before.before.before.before.before.args in
-    omega (arith, (taken_apart (csr a.rows a.cols a.row-ptr.now a.col-idx.now a.values.now) a.block_size a.ids.now a.groups (length a.diagonal.now) (length a.ints.now) (length a.floats.now) (sym c.before.before.check.ensures ∙ c.enum_told.given.1)).2.0)
+    let a = c.args in
+    omega (arith, (taken_apart (csr a.rows a.cols a.row_ptr.now a.col_idx.now a.values.now) a.block_size a.ids.now a.groups (length a.diagonal.now) (length a.ints.now) (length a.floats.now) (sym c.check-checked.ensures ∙ c.in-Accepted.is)).2.0)
 
-assemble-requires : tie.Need-assemble-requires
+assemble-requires : tie.Need-assemble-n-requires
 assemble-requires c κs =
-    let a = c.before.before.before.before.before.before.before.before.before.before.before.before.args in
-    let k = taken_apart (csr a.rows a.cols a.row-ptr.now a.col-idx.now a.values.now) a.block_size a.ids.now a.groups (length a.diagonal.now) (length a.ints.now) (length a.floats.now) (sym c.before.before.before.before.check.ensures ∙ c.before.before.enum_told.given.1) in
+    let a = c.args in
+    let k = taken_apart (csr a.rows a.cols a.row_ptr.now a.col_idx.now a.values.now) a.block_size a.ids.now a.groups (length a.diagonal.now) (length a.ints.now) (length a.floats.now) (sym c.check-checked.ensures ∙ c.in-Accepted.is) in
     let e = k.1.0 in
     (rw e at k.0, (k.2.1, (k.1.4, omega (arith, k.3.0), omega (arith, k.3.1))))
 
-returns : tie.Need-returns
+returns : tie.Need-returns-in-Accepted
 returns c =
-    let a = c.before.before.before.before.before.before.before.before.before.before.before.before.before.before.before.before.before.args in
-    let k = taken_apart (csr a.rows a.cols a.row-ptr.now a.col-idx.now a.values.now) a.block_size a.ids.now a.groups (length a.diagonal.now) (length a.ints.now) (length a.floats.now) (sym c.before.before.before.before.before.before.before.before.before.check.ensures ∙ c.before.before.before.before.before.before.before.enum_told.given.1) in
+    let a = c.args in
+    let k = taken_apart (csr a.rows a.cols a.row_ptr.now a.col_idx.now a.values.now) a.block_size a.ids.now a.groups (length a.diagonal.now) (length a.ints.now) (length a.floats.now) (sym c.check-checked.ensures ∙ c.in-Accepted.is) in
     let e = k.1.0 in
-    let m = c.before.before.before.before.assemble in
-    call_goes (csr a.rows a.cols a.row-ptr.now a.col-idx.now a.values.now) a.block_size a.ids.now a.groups a.diagonal.now a.damping a.ints.now a.floats.now c.before.before.before.before.before.before.before.before.before.check.result c.before.before.before.before.before.before.before.before.before.check.ensures
-    m.result m.new.1.1.1.1.1.1.1.1.1.0 m.new.1.1.1.1.1.1.1.1.1.1.0 c.before.before.before.before.before.before.before.enum_told.given.1 (rw e m.ensures)
+    let m = c.assemble-n in
+    call_goes (csr a.rows a.cols a.row_ptr.now a.col_idx.now a.values.now) a.block_size a.ids.now a.groups a.diagonal.now a.damping a.ints.now a.floats.now c.check-checked.result c.check-checked.ensures
+    m.result m.new.ints m.new.floats c.in-Accepted.is (rw e m.ensures)
 
-returns-2 : tie.Need-returns-2
+returns-2 : tie.Need-returns-in-Refused
 returns-2 c =
-    let a = c.before.before.before.before.before.before.before.before.before.before.before.before.before.before.before.before.before.before.before.args in
-    call_stops (csr a.rows a.cols a.row-ptr.now a.col-idx.now a.values.now) a.block_size a.ids.now a.groups a.diagonal.now a.damping a.ints.now a.floats.now c.before.before.before.before.before.before.before.before.before.before.before.check.result c.before.before.before.before.before.before.before.before.before.before.before.check.ensures
-    c.before.before.before.before.before.before.before.before.before.checked.given.0.0 c.before.before.before.before.before.before.leave-ints.new.1.0 c.before.before.leave-floats.new.1.0 c.before.before.before.before.before.before.before.before.before.checked.given.1 c.before.before.before.before.before.before.leave-ints.ensures c.before.before.leave-floats.ensures
+    let a = c.args in
+    call_stops (csr a.rows a.cols a.row_ptr.now a.col_idx.now a.values.now) a.block_size a.ids.now a.groups a.diagonal.now a.damping a.ints.now a.floats.now c.check-checked.result c.check-checked.ensures
+    c.in-Refused.cause c.leave_ints.new.list c.leave_floats.new.list c.in-Refused.is c.leave_ints.ensures c.leave_floats.ensures
 
-pub smoothed-transfer-spec : {M : Type 1} → statement M
-smoothed-transfer-spec =
+pub smoothed_transfer_spec : {M : Type 1} → statement M
+smoothed_transfer_spec =
     tie.close
     (tie.spec
     (λ c κs. search rules)

@@ -9,25 +9,22 @@ use borrow.Author.Rules.{rules}
 use Rattle.adjacency.proofs.build.build.Statement.{statement}
 use Rattle.adjacency.proofs.build.build.Tie as tie
 
-slice-aggregate-fill : tie.Need-slice-aggregate-fill
+slice-aggregate-fill : tie.Need-slice_bounds-fill-end-2
 slice-aggregate-fill c =
-    let b = c.before.before.before.before.before.before.before.before in
-    sym (length-take-le (3 * b.args.nodes) b.args.work-floats.now (omega (arith, b.requires.1.0.1.1)))
+    sym (length-take-le (3 * c.args.nodes) c.args.work_floats.now (omega (arith, c.requires.1.0.1.1)))
 
 fill-requires : tie.Need-fill-requires
 fill-requires c κs =
-    let b = c.before.before.before.before.before.before.before.before.before in
-    let f = length-take-le (3 * b.args.nodes) b.args.work-floats.now (omega (arith, b.requires.1.0.1.1)) in
-    (b.requires.0, (b.requires.1.0.0, (b.requires.1.0.1.0, omega (arith, f))))
+    let f = length-take-le (3 * c.args.nodes) c.args.work_floats.now (omega (arith, c.requires.1.0.1.1)) in
+    (c.requires.0, (c.requires.1.0.0, (c.requires.1.0.1.0, omega (arith, f))))
 
 returns : tie.Need-returns
 returns c =
-    let b = c.before.before.before.before.before.before.before.before.before.before.before.before.before.before.before.before.before.before in
-    let g = c.before.before.before.before.before.before.before.before.fill in
-    (g.ensures, c.before.before.zero-floats.ensures ∙ ap (λ n. replicate n zeroᶠ) (length_front b.args.work-floats.now g.new.1.1.1.1.1.1.1.1.0 (3 * b.args.nodes) g.auto.1.1.1.1.1.1.1.1.0))
+    let g = c.fill in
+    (g.ensures, c.zero_floats.ensures ∙ ap (λ n. replicate n zeroᶠ) (length_front c.args.work_floats.now g.new.floats (3 * c.args.nodes) g.auto.floats))
 
-pub build-spec : {M : Type 1} → statement M
-build-spec =
+pub build_spec : {M : Type 1} → statement M
+build_spec =
     tie.close
     (tie.spec
     (λ c. search rules)

@@ -12,33 +12,28 @@ use Rattle.adjacency.proofs.build.fill.Tie as tie
 
 linked-requires : tie.Need-linked-requires
 linked-requires c κs =
-    let b = c.before.before.before.before.before.before.before.before.before in
-    let a = b.args in
-    (formed_graph a.nodes a.size a.row-ptr.now a.col-idx.now a.values.now a.aggregation c.before.before.enum-told2.given.1 b.requires.0, b.requires.1)
+    let a = c.args in
+    (formed_graph a.nodes a.size a.row_ptr.now a.col_idx.now a.values.now a.aggregation c.in-Graph.is c.requires.0, c.requires.1)
 
-linked-requires-2 : tie.Need-linked-requires-2
+linked-requires-2 : tie.Need-linked-requires-in-StrongGraph
 linked-requires-2 c κs =
-    let b = c.before.before.before.before.before.before.before.before.before in
-    let a = b.args in
-    (formed_strong a.nodes a.size a.row-ptr.now a.col-idx.now a.values.now a.aggregation c.before.before.enum-told3.given.1 b.requires.0, b.requires.1)
+    let a = c.args in
+    (formed_strong a.nodes a.size a.row_ptr.now a.col_idx.now a.values.now a.aggregation c.in-StrongGraph.is c.requires.0, c.requires.1)
 
-returns : tie.Need-returns
+returns : tie.Need-returns-in-Contiguous
 returns c =
-    let b = c.before.before.before.before.before.before.before.before.before.before.before in
-    let a = csr (b.args.nodes * b.args.size) (b.args.nodes * b.args.size) b.args.row-ptr.now b.args.col-idx.now b.args.values.now in
-    rw c.before.before.before.before.enum_told.given.1 (c.before.before.zero-ints.ensures ∙ none_padded a b.args.size b.args.nodes b.args.base (length b.args.work.now) (omega (arith, b.requires.1.1.0)))
+    let a = csr (c.args.nodes * c.args.size) (c.args.nodes * c.args.size) c.args.row_ptr.now c.args.col_idx.now c.args.values.now in
+    rw c.in-Contiguous.is (c.zero_ints.ensures ∙ none_padded a c.args.size c.args.nodes c.args.base (length c.args.work.now) (omega (arith, c.requires.1.1.0)))
 
-returns-2 : tie.Need-returns-2
+returns-2 : tie.Need-returns-in-Graph
 returns-2 c =
-    let b = c.before.before.before.before.before.before.before.before.before.before.before.before.before.before in
-    let a = csr (b.args.nodes * b.args.size) (b.args.nodes * b.args.size) b.args.row-ptr.now b.args.col-idx.now b.args.values.now in
-    rw (c.before.before.before.before.before.before.before.enum-told2.given.1, ← flat_graph a b.args.size b.args.nodes) c.before.before.before.before.linked.ensures
+    let a = csr (c.args.nodes * c.args.size) (c.args.nodes * c.args.size) c.args.row_ptr.now c.args.col_idx.now c.args.values.now in
+    rw (c.in-Graph.is, ← flat_graph a c.args.size c.args.nodes) c.linked.ensures
 
-returns-3 : tie.Need-returns-3
+returns-3 : tie.Need-returns-in-StrongGraph
 returns-3 c =
-    let b = c.before.before.before.before.before.before.before.before.before.before.before.before.before.before in
-    let a = csr (b.args.nodes * b.args.size) (b.args.nodes * b.args.size) b.args.row-ptr.now b.args.col-idx.now b.args.values.now in
-    rw (c.before.before.before.before.before.before.before.enum-told3.given.1, ← flat_strong a b.args.size b.args.nodes) c.before.before.before.before.linked2.ensures
+    let a = csr (c.args.nodes * c.args.size) (c.args.nodes * c.args.size) c.args.row_ptr.now c.args.col_idx.now c.args.values.now in
+    rw (c.in-StrongGraph.is, ← flat_strong a c.args.size c.args.nodes) c.linked-in-StrongGraph.ensures
 
 pub fill_spec : {M : Type 1} → statement M
 fill_spec =

@@ -15,54 +15,52 @@ use borrow.Author.Rules.{rules}
 use Rattle.adjacency.proofs.build.linked.Statement.{statement}
 use Rattle.adjacency.proofs.build.linked.Tie as tie
 
-all-lists-requires : tie.Need-all-lists-requires
+all-lists-requires : tie.Need-all_lists-end-requires
 all-lists-requires c κs =
-    let b = c.before.before.before.before.before.before.before.before.before.before.before.before.before.before in
-    let r = c.before.before.before.before.before.before.ready in
-    (b.requires.0, (r.ensures, (b.requires.1.0, omega (arith, b.requires.1.1.0, r.auto.1.1.1.1.1.1.0))))
+    let r = c.ready in
+    (c.requires.0, (r.ensures, (c.requires.1.0, omega (arith, c.requires.1.1.0, r.auto.work))))
 
-whole : (c : tie.After-all-lists) → c.before.before.before.before.before.before.before.before.before.before.before.before.before.before.before.args.base ≤ length c.all-lists.new.1.1.1.1.1.1.1.0
-whole c = omega (arith, c.before.before.before.before.before.before.before.before.before.before.before.before.before.before.before.requires.1.1.0, c.all-lists.auto.1.1.1.1.1.1.1.0, c.before.before.before.before.before.before.before.ready.auto.1.1.1.1.1.1.0)
+whole : (c : tie.After-all_lists-end) → c.args.base ≤ length c.all_lists-end.new.work
+whole c = omega (arith, c.requires.1.1.0, c.all_lists-end.auto.work, c.ready.auto.work)
 
-within : (c : tie.After-all-lists) → c.before.before.before.before.before.before.before.before.before.before.before.before.before.before.before.args.base + c.all-lists.result ≤ length c.all-lists.new.1.1.1.1.1.1.1.0
-within c = lined_within c.before.before.before.before.before.before.before.before.before.before.before.before.before.before.before.args.base c.all-lists.new.1.1.1.1.1.1.1.0 c.all-lists.ensures (whole c)
+within : (c : tie.After-all_lists-end) → c.args.base + c.all_lists-end.result ≤ length c.all_lists-end.new.work
+within c = lined_within c.args.base c.all_lists-end.new.work c.all_lists-end.ensures (whole c)
 
-add-zero-ints : tie.Need-overflow-add-zero-ints
-add-zero-ints c = omega (arith, c.before.before.before.before.before.before.before.before.before.before.before.before.before.before.before.before.before.before.before.well-formed, within c.before.before.before.before)
+add-zero-ints : tie.Need-overflow_add-base
+add-zero-ints c = omega (arith, c.well_formed, within c.before.before.before.before)
 
-mul-zero-ints : tie.Need-overflow-mul-zero-ints
-mul-zero-ints c = omega (arith, c.before.before.before.before.before.before.before.before.before.before.before.before.before.before.before.before.before.before.before.well-formed, within c.before.before.before.before)
+mul-zero-ints : tie.Need-offset_bounds-work-base
+mul-zero-ints c = omega (arith, c.well_formed, within c.before.before.before.before)
 
-sub-zero-ints : tie.Need-overflow-sub-zero-ints
+sub-zero-ints : tie.Need-slice_bounds-zero_ints-count
 sub-zero-ints c = omega (arith, within c.before.before.before.before)
 
-part-zero-ints-start : tie.Need-slice-bounds-zero-ints-start
+part-zero-ints-start : tie.Need-slice_bounds-zero_ints-start
 part-zero-ints-start c = omega (arith, within c.before.before.before.before)
 
-still : (c : tie.After-zero-ints) → c.before.before.before.before.before.before.before.before.before.before.before.before.before.before.before.before.before.before.before.before.before.args.base ≤ length (put_mid (c.before.before.before.before.before.before.before.before.before.before.before.before.before.before.before.before.before.before.before.before.before.args.base + c.before.before.before.before.before.before.all-lists.result) (length c.before.before.before.before.before.before.all-lists.new.1.1.1.1.1.1.1.0 - (c.before.before.before.before.before.before.before.before.before.before.before.before.before.before.before.before.before.before.before.before.before.args.base + c.before.before.before.before.before.before.all-lists.result)) c.before.before.before.before.before.before.all-lists.new.1.1.1.1.1.1.1.0 c.zero-ints.new.0)
+still : (c : tie.After-zero_ints) → c.args.base ≤ length (put_mid (c.args.base + c.all_lists-end.result) (length c.all_lists-end.new.work - (c.args.base + c.all_lists-end.result)) c.all_lists-end.new.work c.zero_ints.new.s)
 still c =
-    let d = c.before.before.before.before.before.before.before.before.before.before.before.before.before.before.before.before.before.before.before.before.before.args.base in
-    let a = c.before.before.before.before.before.before.all-lists in
-    let l = a.new.1.1.1.1.1.1.1.0 in
-    let z = c.zero-ints in
-    omega (arith, whole c.before.before.before.before.before.before, same_len_mid (d + a.result) (length l - (d + a.result)) l z.new.0 z.auto.0)
+    let d = c.args.base in
+    let a = c.all_lists-end in
+    let l = a.new.work in
+    let z = c.zero_ints in
+    omega (arith, whole c.before.before.before.before.before.before, same_len_mid (d + a.result) (length l - (d + a.result)) l z.new.s z.auto.s)
 
-slice-relend-prefix-zero-ints : tie.Need-slice-relend-prefix-zero-ints
+slice-relend-prefix-zero-ints : tie.Need-slice_bounds-zero_ints-end-2
 slice-relend-prefix-zero-ints c = still c.before.before
 
-slice-aggregate-zero-ints : tie.Need-slice-aggregate-zero-ints
+slice-aggregate-zero-ints : tie.Need-slice_bounds-zero_ints-end-3
 slice-aggregate-zero-ints c = sym (length-take-le _ _ (still c.before.before.before))
 
 returns : tie.Need-returns
 returns c =
-    let b = c.before.before.before.before.before.before.before.before.before.before.before.before.before.before.before.before.before.before.before.before.before.before.before.before.before.before.before in
-    let a = c.before.before.before.before.before.before.before.before.before.before.before.before.all-lists in
-    let m = csr (b.args.nodes * b.args.size) (b.args.nodes * b.args.size) b.args.row-ptr.now b.args.col-idx.now b.args.values.now in
-    lined_padded b.args.base a.new.1.1.1.1.1.1.1.0 a.ensures c.before.before.before.before.before.before.zero-ints.new.0 c.before.before.zero-ints2.new.0 (whole c.before.before.before.before.before.before.before.before.before.before.before.before) c.before.before.before.before.before.before.zero-ints.ensures c.before.before.zero-ints2.ensures
-    ∙ ap (λ n. padded 0 n (replicate b.args.base 0 ++ flat_of (list_of b.args.strong m b.args.size b.args.nodes) b.args.nodes)) (a.auto.1.1.1.1.1.1.1.0 ∙ c.before.before.before.before.before.before.before.before.before.before.before.before.before.before.before.before.before.before.before.ready.auto.1.1.1.1.1.1.0)
+    let a = c.all_lists-end in
+    let m = csr (c.args.nodes * c.args.size) (c.args.nodes * c.args.size) c.args.row_ptr.now c.args.col_idx.now c.args.values.now in
+    lined_padded c.args.base a.new.work a.ensures c.zero_ints.new.s c.zero_ints-2.new.s (whole c.before.before.before.before.before.before.before.before.before.before.before.before) c.zero_ints.ensures c.zero_ints-2.ensures
+    ∙ ap (λ n. padded 0 n (replicate c.args.base 0 ++ flat_of (list_of c.args.strong m c.args.size c.args.nodes) c.args.nodes)) (a.auto.work ∙ c.ready.auto.work)
 
-pub linked-spec : {M : Type 1} → statement M
-linked-spec =
+pub linked_spec : {M : Type 1} → statement M
+linked_spec =
     tie.close
     (tie.spec
     (λ c κs. search rules)

@@ -14,41 +14,37 @@ use borrow.Author.Rules.{rules}
 use Rattle.adjacency.proofs.build.ready.Statement.{statement}
 use Rattle.adjacency.proofs.build.ready.Tie as tie
 
-slice-aggregate-zero-ints : tie.Need-slice-aggregate-zero-ints
+slice-aggregate-zero-ints : tie.Need-slice_bounds-zero_ints-end-2
 slice-aggregate-zero-ints c =
-    let b = c.before.before.before.before.before.before in
-    sym (length-take-le b.args.nodes b.args.work.now (omega arith))
+    sym (length-take-le c.args.nodes c.args.work.now (omega arith))
 
 norms-requires : tie.Need-norms-requires
 norms-requires c κs =
-    let b = c.before.before.before.before.before.before.before.before.before.before.before.before.before.before.before in
-    let a = b.args in
-    let w = formed_as a.nodes a.size a.row-ptr.now a.col-idx.now a.values.now a.strong true c.before.if1.true b.requires.0 in
-    (w, (omega (arith, b.requires.1.1, c.before.before.before.before.zero-floats.auto.0), plain_blank (length b.args.floats.now) c.before.before.before.before.zero-floats.new.0 c.before.before.before.before.zero-floats.ensures))
+    let a = c.args in
+    let w = formed_as a.nodes a.size a.row_ptr.now a.col_idx.now a.values.now a.strong true c.if-strong.true c.requires.0 in
+    (w, (omega (arith, c.requires.1.1, c.zero_floats.auto.s), plain_blank (length c.args.floats.now) c.zero_floats.new.s c.zero_floats.ensures))
 
-returns : tie.Need-returns
+returns : tie.Need-returns-then-strong
 returns c =
-    let b = c.before.before.before.before.before.before.before.before.before.before.before.before.before.before.before.before.before.before in
-    let w = b.args.work.now in
-    let n = b.args.nodes in
-    let z = c.before.before.before.before.before.before.before.before.before.before.before.zero-ints in
-    let x = z.new.0 in
-    ready_norms b.args.strong (csr (n * b.args.size) (n * b.args.size) b.args.row-ptr.now b.args.col-idx.now b.args.values.now) b.args.size n (length (take n w))
-    (x ++ drop n w) c.before.before.norms.new.1.1.1.1.1.0 (take_front n w (x ++ drop n w) x z.auto.0 (omega (arith, b.requires.1.0)) refl ∙ z.ensures) (omega (arith, length_front w x n z.auto.0, b.requires.1.0))
-    (omega (arith, b.requires.1.1, c.before.before.before.before.before.before.before.zero-floats.auto.0, c.before.before.norms.auto.1.1.1.1.1.0)) c.before.before.norms.ensures c.before.before.before.before.if1.true
+    let w = c.args.work.now in
+    let n = c.args.nodes in
+    let z = c.zero_ints in
+    let x = z.new.s in
+    ready_norms c.args.strong (csr (n * c.args.size) (n * c.args.size) c.args.row_ptr.now c.args.col_idx.now c.args.values.now) c.args.size n (length (take n w))
+    (x ++ drop n w) c.norms.new.floats (take_front n w (x ++ drop n w) x z.auto.s (omega (arith, c.requires.1.0)) refl ∙ z.ensures) (omega (arith, length_front w x n z.auto.s, c.requires.1.0))
+    (omega (arith, c.requires.1.1, c.zero_floats.auto.s, c.norms.auto.floats)) c.norms.ensures c.if-strong.true
 
-returns-2 : tie.Need-returns-2
+returns-2 : tie.Need-returns-else-strong
 returns-2 c =
-    let b = c.before.before.before.before.before.before.before.before.before.before.before.before.before.before in
-    let w = b.args.work.now in
-    let n = b.args.nodes in
-    let z = c.before.before.before.before.before.before.before.zero-ints in
-    let x = z.new.0 in
-    ready_even b.args.strong (csr (n * b.args.size) (n * b.args.size) b.args.row-ptr.now b.args.col-idx.now b.args.values.now) b.args.size n (length (take n w)) (length b.args.floats.now)
-    (x ++ drop n w) c.before.before.before.zero-floats.new.0 (take_front n w (x ++ drop n w) x z.auto.0 (omega (arith, b.requires.1.0)) refl ∙ z.ensures) c.before.before.before.zero-floats.ensures (omega (arith, length_front w x n z.auto.0, b.requires.1.0)) b.requires.1.1 c.if1.false
+    let w = c.args.work.now in
+    let n = c.args.nodes in
+    let z = c.zero_ints in
+    let x = z.new.s in
+    ready_even c.args.strong (csr (n * c.args.size) (n * c.args.size) c.args.row_ptr.now c.args.col_idx.now c.args.values.now) c.args.size n (length (take n w)) (length c.args.floats.now)
+    (x ++ drop n w) c.zero_floats.new.s (take_front n w (x ++ drop n w) x z.auto.s (omega (arith, c.requires.1.0)) refl ∙ z.ensures) c.zero_floats.ensures (omega (arith, length_front w x n z.auto.s, c.requires.1.0)) c.requires.1.1 c.if-strong.false
 
-pub ready-spec : {M : Type 1} → statement M
-ready-spec =
+pub ready_spec : {M : Type 1} → statement M
+ready_spec =
     tie.close
     (tie.spec
     (λ c. search rules)

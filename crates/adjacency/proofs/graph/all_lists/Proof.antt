@@ -9,93 +9,87 @@ use borrow.Author.Rules.{rules}
 use Rattle.adjacency.proofs.graph.all_lists.Statement.{statement}
 use Rattle.adjacency.proofs.graph.all_lists.Tie as tie
 
-abbrev invariant-loop : tie.invariant-loop
-invariant-loop strong row-ptr col-idx values size nodes base work₀ floats₀ table first at₀ v₀ work floats at v = Graphed strong (csr (nodes * size) (nodes * size) row-ptr col-idx values) size nodes base work₀ floats₀ work floats at v
+abbrev invariant-loop-work : tie.invariant-loop-work
+invariant-loop-work strong row-ptr col-idx values size nodes base work₀ floats₀ table first at₀ v₀ work floats at v = Graphed strong (csr (nodes * size) (nodes * size) row-ptr col-idx values) size nodes base work₀ floats₀ work floats at v
 
-abbrev decreases-loop : tie.decreases-loop
-decreases-loop strong row-ptr col-idx values size nodes base work₀ floats₀ table first at₀ v₀ work floats at v = nodes - v
+abbrev decreases-loop-work : tie.decreases-loop-work
+decreases-loop-work strong row-ptr col-idx values size nodes base work₀ floats₀ table first at₀ v₀ work floats at v = nodes - v
 
-add-first : tie.Need-overflow-add-first invariant-loop decreases-loop
-add-first c = omega (arith, c.before.before.before.before.before.requires.0.few)
+add-first : tie.Need-overflow_add-first invariant-loop-work decreases-loop-work
+add-first c = omega (arith, c.requires.0.few)
 
-put-requires : tie.Need-put-requires invariant-loop decreases-loop
-put-requires c κs = omega (arith, c.before.before.before.before.before.before.requires.1.1)
+put-requires : tie.Need-put-requires invariant-loop-work decreases-loop-work
+put-requires c κs = omega (arith, c.requires.1.1)
 
-loop-holds : tie.Need-loop-init invariant-loop decreases-loop
+loop-holds : tie.Need-loop-work-init invariant-loop-work decreases-loop-work
 loop-holds c =
-    let b = c.before.before.before.before.before.before.before.before.before in
-    graphed_first b.requires.0 b.args.base b.requires.1.1.0 b.args.work.now c.before.before.put.new.0 b.args.floats.now c.before.before.put.ensures (omega (arith, b.requires.1.1.1)) b.requires.1.0
+    graphed_first c.requires.0 c.args.base c.requires.1.1.0 c.args.work.now c.put.new.work c.args.floats.now c.put.ensures (omega (arith, c.requires.1.1.1)) c.requires.1.0
 
-less : (c : tie.Then1 invariant-loop decreases-loop) → c.before.before.loop.v < c.before.before.before.before.before.before.before.before.before.before.before.before.args.nodes
-less c = omega (arith, c.before.wide.ensures, c.if1.true)
+less : (c : tie.In-loop-work invariant-loop-work decreases-loop-work) → c.loop-work.v < c.args.nodes
+less c = omega (arith, c.wide.ensures, c.loop-work-test.true)
 
-room : (c : tie.Then1 invariant-loop decreases-loop) → c.before.before.before.before.before.before.before.before.before.before.before.before.args.base + c.before.before.before.before.before.before.before.before.before.before.before.before.args.nodes + 1 + length c.before.before.before.before.before.before.before.before.before.before.before.before.args.col-idx.now ≤ length c.before.before.before.before.before.put.new.0
-room c = omega (arith, c.before.before.before.before.before.before.before.before.before.before.before.before.requires.1.1.1, c.before.before.before.before.before.put.auto.0)
+room : (c : tie.In-loop-work invariant-loop-work decreases-loop-work) → c.args.base + c.args.nodes + 1 + length c.args.col_idx.now ≤ length c.put.new.work
+room c = omega (arith, c.requires.1.1.1, c.put.auto.work)
 
-node-list-requires : tie.Need-node-list-requires invariant-loop decreases-loop
+node-list-requires : tie.Need-node_list-count-requires invariant-loop-work decreases-loop-work
 node-list-requires c κs =
-    let b = c.before.before.before.before.before.before.before.before.before.before.before.before.before.before in
-    let l = c.before.before.before.before.loop in
+    let l = c.loop-work in
     let h = less c.before.before in
-    (b.requires.0, (l.invariant.ready, (h, (b.requires.1.1.0, room_left b.requires.0 b.args.base b.requires.1.1.0 l.invariant h (room c.before.before)))))
+    (c.requires.0, (l.invariant.ready, (h, (c.requires.1.1.0, room_left c.requires.0 c.args.base c.requires.1.1.0 l.invariant h (room c.before.before)))))
 
-low : (c : tie.After-node-list invariant-loop decreases-loop) → c.before.before.before.before.before.before.before.before.before.before.before.before.before.before.before.args.nodes + 1 ≤ c.before.before.before.before.before.loop.at + c.node-list.result
+low : (c : tie.After-node_list-count invariant-loop-work decreases-loop-work) → c.args.nodes + 1 ≤ c.loop-work.at + c.node_list-count.result
 low c =
-    let b = c.before.before.before.before.before.before.before.before.before.before.before.before.before.before.before in
-    let n = c.node-list in
-    end_low b.requires.0 b.args.base b.requires.1.1.0 c.before.before.before.before.before.loop.invariant (less c.before.before.before) (c.before.before.before.before.before.loop.at + n.result) n.new.1.1.1.1.1.1.1.1.0 n.new.1.1.1.1.1.1.1.1.1.0 (room c.before.before.before) n.ensures
+    let n = c.node_list-count in
+    end_low c.requires.0 c.args.base c.requires.1.1.0 c.loop-work.invariant (less c.before.before.before) (c.loop-work.at + n.result) n.new.work n.new.floats (room c.before.before.before) n.ensures
 
-high : (c : tie.After-node-list invariant-loop decreases-loop) → c.before.before.before.before.before.loop.at + c.node-list.result ≤ c.before.before.before.before.before.before.before.before.before.before.before.before.before.before.before.args.nodes + 1 + length c.before.before.before.before.before.before.before.before.before.before.before.before.before.before.before.args.col-idx.now
+high : (c : tie.After-node_list-count invariant-loop-work decreases-loop-work) → c.loop-work.at + c.node_list-count.result ≤ c.args.nodes + 1 + length c.args.col_idx.now
 high c =
-    let b = c.before.before.before.before.before.before.before.before.before.before.before.before.before.before.before in
-    let n = c.node-list in
-    end_high b.requires.0 b.args.base b.requires.1.1.0 c.before.before.before.before.before.loop.invariant (less c.before.before.before) (c.before.before.before.before.before.loop.at + n.result) n.new.1.1.1.1.1.1.1.1.0 n.new.1.1.1.1.1.1.1.1.1.0 (room c.before.before.before) n.ensures
+    let n = c.node_list-count in
+    end_high c.requires.0 c.args.base c.requires.1.1.0 c.loop-work.invariant (less c.before.before.before) (c.loop-work.at + n.result) n.new.work n.new.floats (room c.before.before.before) n.ensures
 
-add_at : tie.Need-overflow-add-at invariant-loop decreases-loop
-add_at c = omega (arith, high c.before.before.before.before, c.before.before.before.before.before.before.before.before.before.before.before.before.before.before.before.before.before.before.before.requires.0.short)
+add_at : tie.Need-overflow_add-at invariant-loop-work decreases-loop-work
+add_at c = omega (arith, high c.before.before.before.before, c.requires.0.short)
 
-add-v : tie.Need-overflow-add-v invariant-loop decreases-loop
-add-v c = omega (arith, less c.before.before.before.before.before.before.before, c.before.before.before.before.before.before.before.before.before.before.before.before.before.before.before.before.before.before.before.requires.0.few)
+add-v : tie.Need-overflow_add-v invariant-loop-work decreases-loop-work
+add-v c = omega (arith, less c.before.before.before.before.before.before.before, c.requires.0.few)
 
-add-put : tie.Need-overflow-add-put invariant-loop decreases-loop
-add-put c = omega (arith, c.before.before.before.before.before.before.before.before.before.before.before.before.before.before.before.before.before.before.before.before.before.well-formed, c.wide2.ensures, less c.before.before.before.before.before.before.before.before.before, room c.before.before.before.before.before.before.before.before.before)
+add-put : tie.Need-overflow_add-base invariant-loop-work decreases-loop-work
+add-put c = omega (arith, c.well_formed, c.wide-in-loop-work.ensures, less c.before.before.before.before.before.before.before.before.before, room c.before.before.before.before.before.before.before.before.before)
 
-sub-put : tie.Need-overflow-sub-put invariant-loop decreases-loop
+sub-put : tie.Need-overflow_sub-at invariant-loop-work decreases-loop-work
 sub-put c = low c.before.before.before.before.before.before
 
-put-requires-2 : tie.Need-put-requires-2 invariant-loop decreases-loop
+put-requires-2 : tie.Need-put-requires-in-loop-work invariant-loop-work decreases-loop-work
 put-requires-2 c κs = (
-  omega (arith, c.wide2.ensures, less c.before.before.before.before.before.before.before.before.before, room c.before.before.before.before.before.before.before.before.before, c.before.before.before.before.before.before.node-list.auto.1.1.1.1.1.1.1.1.0, c.before.before.before.before.before.before.before.before.before.before.before.loop.invariant.longs),
-  omega (arith, high c.before.before.before.before.before.before, low c.before.before.before.before.before.before, c.before.before.before.before.before.before.before.before.before.before.before.before.before.before.before.before.before.before.before.before.before.requires.0.short),
+  omega (arith, c.wide-in-loop-work.ensures, less c.before.before.before.before.before.before.before.before.before, room c.before.before.before.before.before.before.before.before.before, c.node_list-count.auto.work, c.loop-work.invariant.longs),
+  omega (arith, high c.before.before.before.before.before.before, low c.before.before.before.before.before.before, c.requires.0.short),
 )
 
-loop-less : tie.Need-loop-smaller invariant-loop decreases-loop
+loop-less : tie.Need-loop-work-smaller invariant-loop-work decreases-loop-work
 loop-less c = omega (arith, less c.before.before.before.before.before.before.before.before.before.before.before.before)
 
-loop-again : tie.Need-loop-preserved invariant-loop decreases-loop
+loop-again : tie.Need-loop-work-preserved invariant-loop-work decreases-loop-work
 loop-again c =
-    let b = c.before.before.before.before.before.before.before.before.before.before.before.before.before.before.before.before.before.before.before.before.before.before.before.before in
-    let n = c.before.before.before.before.before.before.before.before.before.node-list in
-    graphed_more b.requires.0 b.args.base b.requires.1.1.0 c.before.before.before.before.before.before.before.before.before.before.before.before.before.before.loop.invariant (less c.before.before.before.before.before.before.before.before.before.before.before.before) (c.before.before.before.before.before.before.before.before.before.before.before.before.before.before.loop.at + n.result) n.new.1.1.1.1.1.1.1.1.0 n.new.1.1.1.1.1.1.1.1.1.0 (room c.before.before.before.before.before.before.before.before.before.before.before.before) n.ensures
-    c.before.before.before.wide2.result (c.before.before.before.before.before.before.before.before.before.before.before.before.before.before.loop.at + n.result - (b.args.nodes + 1)) c.before.before.put2.new.0 n.auto.1.1.1.1.1.1.1.1.0 n.auto.1.1.1.1.1.1.1.1.1.0 c.before.before.before.wide2.ensures refl c.before.before.put2.ensures
+    let n = c.node_list-count in
+    graphed_more c.requires.0 c.args.base c.requires.1.1.0 c.loop-work.invariant (less c.before.before.before.before.before.before.before.before.before.before.before.before) (c.loop-work.at + n.result) n.new.work n.new.floats (room c.before.before.before.before.before.before.before.before.before.before.before.before) n.ensures
+    c.wide-in-loop-work.result (c.loop-work.at + n.result - (c.args.nodes + 1)) c.put-in-loop-work.new.work n.auto.work n.auto.floats c.wide-in-loop-work.ensures refl c.put-in-loop-work.ensures
 
-same_length : tie.Need-same-length invariant-loop decreases-loop
-same_length c = c.before.before.loop.invariant.longs ∙ c.before.before.before.before.before.put.auto.0
+same_length : tie.Need-shape_of-work invariant-loop-work decreases-loop-work
+same_length c = c.loop-work.invariant.longs ∙ c.put.auto.work
 
-same-length-2 : tie.Need-same-length-2 invariant-loop decreases-loop
-same-length-2 c = c.before.before.loop.invariant.spaces
+same-length-2 : tie.Need-shape_of-floats invariant-loop-work decreases-loop-work
+same-length-2 c = c.loop-work.invariant.spaces
 
-returns : tie.Need-returns invariant-loop decreases-loop
+returns : tie.Need-returns invariant-loop-work decreases-loop-work
 returns c =
-    let b = c.before.before.before.before.before.before.before.before.before.before.before.before in
-    graphed_done b.requires.0 b.args.base b.requires.1.1.0 c.before.before.loop.invariant (omega (arith, c.before.wide.ensures, c.if1.false))
+    graphed_done c.requires.0 c.args.base c.requires.1.1.0 c.loop-work.invariant (omega (arith, c.wide.ensures, c.loop-work-test.false))
 
-pub all-lists-spec : {M : Type 1} → statement M
-all-lists-spec =
+pub all_lists_spec : {M : Type 1} → statement M
+all_lists_spec =
     tie.close
     (tie.spec
-    invariant-loop
-    decreases-loop
+    invariant-loop-work
+    decreases-loop-work
     add-first
     put-requires
     loop-holds

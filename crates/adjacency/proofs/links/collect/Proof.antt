@@ -11,77 +11,74 @@ use borrow.Author.Rules.{rules}
 use Rattle.adjacency.proofs.links.collect.Statement.{statement}
 use Rattle.adjacency.proofs.links.collect.Tie as tie
 
-abbrev invariant-loop : tie.invariant-loop
-invariant-loop col-idx from to size stamp nodes base work₀ at reciprocal end₀ k₀ work end k = (length work ≡ length work₀) × ((base + end + (to - k) ≤ length work) × Collected col-idx (take nodes work₀) (drop base work₀) from to size stamp at (take nodes work) (drop base work) end k)
+abbrev invariant-loop-k : tie.invariant-loop-k
+invariant-loop-k col-idx from to size stamp nodes base work₀ at reciprocal end₀ k₀ work end k = (length work ≡ length work₀) × ((base + end + (to - k) ≤ length work) × Collected col-idx (take nodes work₀) (drop base work₀) from to size stamp at (take nodes work) (drop base work) end k)
 
-abbrev decreases-loop : tie.decreases-loop
-decreases-loop col-idx from to size stamp nodes base work₀ at reciprocal end₀ k₀ work end k = to - k
+abbrev decreases-loop-k : tie.decreases-loop-k
+decreases-loop-k col-idx from to size stamp nodes base work₀ at reciprocal end₀ k₀ work end k = to - k
 
-loop-holds : tie.Need-loop-init invariant-loop decreases-loop
+loop-holds : tie.Need-loop-k-init invariant-loop-k decreases-loop-k
 loop-holds c =
-    let b = c.before.before.before in
-    (refl, (omega arith, record { upto = omega arith; room = omega (arith, length-drop b.args.base b.args.work.now); marks = refl; outs = refl; list = refl; count = refl; stamps = refl }))
+    (refl, (omega arith, record { upto = omega arith; room = omega (arith, length-drop c.args.base c.args.work.now); marks = refl; outs = refl; list = refl; count = refl; stamps = refl }))
 
-node-of-requires : tie.Need-node-of-requires invariant-loop decreases-loop
-node-of-requires c κs = let p = c.before.before.before.before.before.requires.0.1.1 in (omega arith, (p.0, (p.1.0, c.before.before.reciprocal-of.ensures)))
+node-of-requires : tie.Need-node_of-w-requires invariant-loop-k decreases-loop-k
+node-of-requires c κs = let p = c.requires.0.1.1 in (omega arith, (p.0, (p.1.0, c.reciprocal_of-reciprocal.ensures)))
 
-inside : (c : tie.After-wide invariant-loop decreases-loop) → c.before.node_of.result < c.before.before.before.before.before.before.before.args.nodes
+inside : (c : tie.After-wide-i invariant-loop-k decreases-loop-k) → c.node_of-w.result < c.args.nodes
 inside c =
-    let b = c.before.before.before.before.before.before.before in
-    rw c.before.node_of.ensures (b.requires.1.1 c.before.before.before.loop.k (omega arith))
+    rw c.node_of-w.ensures (c.requires.1.1 c.loop-k.k (omega arith))
 
-below : (c : tie.After-wide invariant-loop decreases-loop) → c.wide.result < length c.before.before.before.loop.work
-below c = omega (arith, inside c, c.wide.ensures, c.before.before.before.loop.invariant.0)
+below : (c : tie.After-wide-i invariant-loop-k decreases-loop-k) → c.wide-i.result < length c.loop-k.work
+below c = omega (arith, inside c, c.wide-i.ensures, c.loop-k.invariant.0)
 
-mul-if1 : tie.Need-overflow-mul-if1 invariant-loop decreases-loop
+mul-if1 : tie.Need-offset_bounds-work-i invariant-loop-k decreases-loop-k
 mul-if1 c = omega (arith, below c)
 
-slice-read-if1 : tie.Need-slice-read-if1 invariant-loop decreases-loop
+slice-read-if1 : tie.Need-bounds-work-i invariant-loop-k decreases-loop-k
 slice-read-if1 c = below c.before
 
-mul-work : tie.Need-overflow-mul-work invariant-loop decreases-loop
+mul-work : tie.Need-offset_bounds-work-i-then-work-i invariant-loop-k decreases-loop-k
 mul-work c = omega (arith, below c.before.before)
 
-slice-write-work : tie.Need-slice-write-work invariant-loop decreases-loop
+slice-write-work : tie.Need-bounds-work-i-then-work-i invariant-loop-k decreases-loop-k
 slice-write-work c = below c.before.before
 
-slice-write-work-2 : tie.Need-slice-write-work-2 invariant-loop decreases-loop
-slice-write-work-2 c = rw length-set (omega (arith, c.before.before.before.before.before.loop.invariant.1.0))
+slice-write-work-2 : tie.Need-bounds-work-base invariant-loop-k decreases-loop-k
+slice-write-work-2 c = rw length-set (omega (arith, c.loop-k.invariant.1.0))
 
-loop-again : tie.Need-loop-preserved invariant-loop decreases-loop
+loop-again : tie.Need-loop-k-preserved invariant-loop-k decreases-loop-k
 loop-again c =
-    let b = c.before.before.before.before.before.before.before.before.before in
-    let l = c.before.before.before.before.before.loop in
-    let n = b.args.nodes in
-    let d = b.args.base in
-    let x = c.before.before.before.node_of.result in
-    let q = c.before.before.before.node_of.ensures in
-    let h : l.k < b.args.to = omega arith in
-    let e : b.args.to ≤ length b.args.col-idx.now = omega arith in
+    let l = c.loop-k in
+    let n = c.args.nodes in
+    let d = c.args.base in
+    let x = c.node_of-w.result in
+    let q = c.node_of-w.ensures in
+    let h : l.k < c.args.to = omega arith in
+    let e : c.args.to ≤ length c.args.col_idx.now = omega arith in
     let p : n ≤ d = omega arith in
     let i = inside c.before.before in
-    let z = c.before.before.wide.ensures in
+    let z = c.wide-i.ensures in
     let g = get_or-take n l.work x 0 i in
     ⊎_elim
     (λ w. (
-      rw (w.1, length-set, length-set) l.invariant.0,
+      rw (w.work-is, length-set, length-set) l.invariant.0,
       (
-        rw (w.1, w.2, length-set, length-set) (omega (arith, l.invariant.1.0)),
-        rw (w.1, w.2, z, stored_front n d x l.end b.args.stamp x l.work p i, stored_behind n d x l.end b.args.stamp x l.work p i) (collect_take l.invariant.1.1 h e x q (λ r. (rw z at w.0.taken) (sym g ∙ r))),
+        rw (w.work-is, w.end-is, length-set, length-set) (omega (arith, l.invariant.1.0)),
+        rw (w.work-is, w.end-is, z, stored_front n d x l.end c.args.stamp x l.work p i, stored_behind n d x l.end c.args.stamp x l.work p i) (collect_take l.invariant.1.1 h e x q (λ r. (rw z at w.if-work-i.true) (sym g ∙ r))),
       ),
     ))
-    (λ w. (rw w.1 l.invariant.0, (rw (w.1, w.2) (omega (arith, l.invariant.1.0)), rw (w.1, w.2) (collect_skip l.invariant.1.1 h e (rw q at (g ∙ (rw z at w.0.left)))))))
-    c.if1.branch
+    (λ w. (rw w.work-is l.invariant.0, (rw (w.work-is, w.end-is) (omega (arith, l.invariant.1.0)), rw (w.work-is, w.end-is) (collect_skip l.invariant.1.1 h e (rw q at (g ∙ (rw z at w.if-work-i.false)))))))
+    c.if-work-i.branch-raw
 
-returns : tie.Need-returns invariant-loop decreases-loop
-returns c = collected c.before.loop.invariant.1.1 (omega arith)
+returns : tie.Need-returns invariant-loop-k decreases-loop-k
+returns c = collected c.loop-k.invariant.1.1 (omega arith)
 
-pub collect-spec : {M : Type 1} → statement M
-collect-spec =
+pub collect_spec : {M : Type 1} → statement M
+collect_spec =
     tie.close
     (tie.spec
-    invariant-loop
-    decreases-loop
+    invariant-loop-k
+    decreases-loop-k
     (λ c κs. search rules)
     loop-holds
     node-of-requires

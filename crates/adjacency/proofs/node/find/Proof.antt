@@ -10,25 +10,23 @@ use Rattle.adjacency.proofs.node.find.Tie as tie
 
 collect-requires : tie.Need-collect-requires
 collect-requires c κs =
-    let b = c.before.before.before.before in
-    (rw length-set b.requires.0, (omega (arith, b.requires.1.0), b.requires.1.1))
+    (rw length-set c.requires.0, (omega (arith, c.requires.1.0), c.requires.1.1))
 
-same_length : tie.Need-same-length
-same_length c = c.before.before.collect.auto.1.1.1.1.1.1.1.0 ∙ length-set c.before.before.before.before.before.before.before.args.work.now c.before.before.before.before.wide.result _
+same_length : tie.Need-shape_of-work
+same_length c = c.collect.auto.work ∙ length-set c.args.work.now c.wide-i.result _
 
 returns : tie.Need-returns
 returns c =
-    let b = c.before.before.before.before.before.before.before in
-    let i = c.before.before.before.before.wide.result in
-    let g = c.before.before.collect in
-    let n = b.args.nodes in
-    let w = b.args.work.now in
-    let s = b.args.v + 1 in
-    let e = c.before.before.before.before.wide.ensures in
+    let i = c.wide-i.result in
+    let g = c.collect in
+    let n = c.args.nodes in
+    let w = c.args.work.now in
+    let s = c.args.v + 1 in
+    let e = c.wide-i.ensures in
     let h : i < n = omega arith in
-    let k : i < b.args.base = omega arith in
-    let m : take n (set w i s) ≡ set (take n w) b.args.v s = take-set-lt n w i s h ∙ rw e in
-    (rw m at g.ensures.0, (rw (m, drop-set-lt b.args.base w i s k) at g.ensures.1.0, rw m at g.ensures.1.1))
+    let k : i < c.args.base = omega arith in
+    let m : take n (set w i s) ≡ set (take n w) c.args.v s = take-set-lt n w i s h ∙ rw e in
+    (rw m at g.ensures.0, (rw (m, drop-set-lt c.args.base w i s k) at g.ensures.1.0, rw m at g.ensures.1.1))
 
 pub find_spec : {M : Type 1} → statement M
 find_spec =

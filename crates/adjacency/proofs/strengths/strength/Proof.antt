@@ -5,21 +5,21 @@ use borrow.Author.Rules.{rules}
 use Rattle.adjacency.proofs.strengths.strength.Statement.{statement}
 use Rattle.adjacency.proofs.strengths.strength.Tie as tie
 
-returns : tie.Need-returns
+returns : tie.Need-returns-then-d
 returns c =
-    let b = c.before.before.before.before.before.args in
-    strong_divided b.sum b.p b.q c.before.before.before.before.root_by.result c.before.before.before.root-by2.result c.before.before.before.before.root_by.ensures c.before.before.before.root-by2.ensures (sym c.before.before.finite.ensures ∙ c.before.if1.true) c.if2.true
+    let b = c.args in
+    strong_divided b.sum b.p b.q c.root_by-norm.result c.root_by-d.result c.root_by-norm.ensures c.root_by-d.ensures (sym c.finite.ensures ∙ c.if-finite.true) c.if-d.true
 
-returns-2 : tie.Need-returns-2
+returns-2 : tie.Need-returns-else-d
 returns-2 c =
-    let b = c.before.before.before.before.before.args in
-    strong_not_above b.sum b.p b.q c.before.before.before.before.root_by.result c.before.before.before.root-by2.result c.before.before.before.before.root_by.ensures c.before.before.before.root-by2.ensures (sym c.before.before.finite.ensures ∙ c.before.if1.true) c.if2.false
+    let b = c.args in
+    strong_not_above b.sum b.p b.q c.root_by-norm.result c.root_by-d.result c.root_by-norm.ensures c.root_by-d.ensures (sym c.finite.ensures ∙ c.if-finite.true) c.if-d.false
 
-returns-3 : tie.Need-returns-3
+returns-3 : tie.Need-returns-else-finite
 returns-3 c =
-    let b = c.before.before.before.before.args in
-    strong_not_finite b.sum b.p b.q c.before.before.before.root_by.result c.before.before.root-by2.result c.before.before.before.root_by.ensures c.before.before.root-by2.ensures (sym c.before.finite.ensures ∙ c.if1.false)
+    let b = c.args in
+    strong_not_finite b.sum b.p b.q c.root_by-norm.result c.root_by-d.result c.root_by-norm.ensures c.root_by-d.ensures (sym c.finite.ensures ∙ c.if-finite.false)
 
-pub strength-spec : {M : Type 1} → statement M
-strength-spec =
+pub strength_spec : {M : Type 1} → statement M
+strength_spec =
     tie.close (tie.spec (λ c κs. search rules) (λ c κs. search rules) (λ c κs. search rules) returns returns-2 returns-3)

@@ -10,39 +10,35 @@ use Rattle.adjacency.proofs.strengths.strengths.Tie as tie
 
 clear-requires : tie.Need-clear-requires
 clear-requires c κs =
-    let b = c.before.before.before.before.before.before in
-    (λ k h. omega (arith, b.requires.1.1.1 k h))
+    (λ k h. omega (arith, c.requires.1.1.1 k h))
 
 weigh-requires : tie.Need-weigh-requires
 weigh-requires c κs =
-    let b = c.before.before.before.before.before.before.before.before.before.before in
-    (b.requires.0, (λ k h. omega (arith, b.requires.1.1.0 k h, c.before.before.before.clear.auto.1.0)))
+    (c.requires.0, (λ k h. omega (arith, c.requires.1.1.0 k h, c.clear.auto.sums)))
 
 measure-requires : tie.Need-measure-requires
 measure-requires c κs =
-    let b = c.before.before.before.before.before.before.before.before.before.before.before.before.before.before.before in
-    ((omega (arith, c.before.wide.ensures), omega (arith, c.before.before.before.before.before.before.before.before.clear.auto.1.0, c.before.before.before.before.weigh.auto.1.1.1.1.1.0)), b.requires.1.1.1)
+    ((omega (arith, c.wide.ensures), omega (arith, c.clear.auto.sums, c.weigh.auto.sums)), c.requires.1.1.1)
 
-same_length : tie.Need-same-length
-same_length c = c.before.before.measure.auto.1.1.1.0 ∙ c.before.before.before.before.before.before.before.weigh.auto.1.1.1.1.1.0 ∙ c.before.before.before.before.before.before.before.before.before.before.before.clear.auto.1.0
+same_length : tie.Need-shape_of-floats
+same_length c = c.measure.auto.floats ∙ c.weigh.auto.sums ∙ c.clear.auto.sums
 
-returns : tie.Need-returns
+returns : tie.Need-returns-then-wanted
 unfolding weights
 returns c =
-    let b = c.before.before.before.before.before.before.before.before.before.before.before.before.before.before.before.before.before.before in
-    let w = c.before.before.before.before.wide in
-    let m = c.before.before.measure in
-    let g = c.before.before.before.before.before.before.before.weigh in
-    let k = c.before.before.before.before.before.before.before.before.before.before.before.clear in
-    let t = c.before.before.before.before.before.before.before.before.before.before.before.before.before.if1.true in
-    rw t (m.ensures ∙ rw w.ensures (ap (measured b.args.nodes b.args.v b.args.list.now) (g.ensures ∙ ap (weighed b.args.size (stored b.args.col-idx.now b.args.values.now b.args.from b.args.to)) k.ensures)))
+    let w = c.wide in
+    let m = c.measure in
+    let g = c.weigh in
+    let k = c.clear in
+    let t = c.if-wanted.true in
+    rw t (m.ensures ∙ rw w.ensures (ap (measured c.args.nodes c.args.v c.args.list.now) (g.ensures ∙ ap (weighed c.args.size (stored c.args.col_idx.now c.args.values.now c.args.from c.args.to)) k.ensures)))
 
-returns-2 : tie.Need-returns-2
+returns-2 : tie.Need-returns-else-wanted
 unfolding weights
-returns-2 c = rw c.if1.false
+returns-2 c = rw c.if-wanted.false
 
-pub strengths-spec : {M : Type 1} → statement M
-strengths-spec =
+pub strengths_spec : {M : Type 1} → statement M
+strengths_spec =
     tie.close
     (tie.spec
     clear-requires

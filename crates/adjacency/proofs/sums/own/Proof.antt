@@ -9,39 +9,37 @@ use borrow.Author.Rules.{rules}
 use Rattle.adjacency.proofs.sums.own.Statement.{statement}
 use Rattle.adjacency.proofs.sums.own.Tie as tie
 
-abbrev invariant-loop : tie.invariant-loop
-invariant-loop col-idx values from to size v reciprocal sum₀ k₀ sum k = Own col-idx values from to size v sum k
+abbrev invariant-loop-k : tie.invariant-loop-k
+invariant-loop-k col-idx values from to size v reciprocal sum₀ k₀ sum k = Own col-idx values from to size v sum k
 
-abbrev decreases-loop : tie.decreases-loop
-decreases-loop col-idx values from to size v reciprocal sum₀ k₀ sum k = to - k
+abbrev decreases-loop-k : tie.decreases-loop-k
+decreases-loop-k col-idx values from to size v reciprocal sum₀ k₀ sum k = to - k
 
-loop-holds : tie.Need-loop-init invariant-loop decreases-loop
+loop-holds : tie.Need-loop-k-init invariant-loop-k decreases-loop-k
 loop-holds c =
-    let b = c.before.before.before in
-    own_first b.args.col-idx.now b.args.values.now b.args.from b.args.to b.args.size b.args.v (omega arith)
+    own_first c.args.col_idx.now c.args.values.now c.args.from c.args.to c.args.size c.args.v (omega arith)
 
-loop-again : tie.Need-loop-preserved invariant-loop decreases-loop
+loop-again : tie.Need-loop-k-preserved invariant-loop-k decreases-loop-k
 loop-again c =
-    let b = c.before.before.before.before.before.before.before in
-    let l = c.before.before.before.loop in
-    let e = c.before.node_of.ensures in
-    let h : l.k < b.args.to = omega arith in
-    let p : b.args.to ≤ length b.args.col-idx.now = omega arith in
-    let q : b.args.to ≤ length b.args.values.now = omega arith in
+    let l = c.loop-k in
+    let e = c.node_of.ensures in
+    let h : l.k < c.args.to = omega arith in
+    let p : c.args.to ≤ length c.args.col_idx.now = omega arith in
+    let q : c.args.to ≤ length c.args.values.now = omega arith in
     ⊎_elim
-    (λ w. rw w.2 (own_takes l.invariant h p q _ (sym e ∙ w.0.taken)))
-    (λ w. rw w.1 (own_skips l.invariant h p q (λ z. w.0.left (e ∙ z))))
-    c.if1.branch
+    (λ w. rw w.sum-is (own_takes l.invariant h p q _ (sym e ∙ w.if-node_of-v.true)))
+    (λ w. rw w.sum-is (own_skips l.invariant h p q (λ z. w.if-node_of-v.false (e ∙ z))))
+    c.if-node_of-v.branch-raw
 
-returns : tie.Need-returns invariant-loop decreases-loop
-returns c = own_done c.before.loop.invariant (omega arith)
+returns : tie.Need-returns invariant-loop-k decreases-loop-k
+returns c = own_done c.loop-k.invariant (omega arith)
 
-pub own-spec : {M : Type 1} → statement M
-own-spec =
+pub own_spec : {M : Type 1} → statement M
+own_spec =
     tie.close
     (tie.spec
-    invariant-loop
-    decreases-loop
+    invariant-loop-k
+    decreases-loop-k
     (λ c κs. search rules)
     loop-holds
     (λ c κs. search rules)

@@ -8,45 +8,44 @@ use borrow.Author.Rules.{rules}
 use Rattle.adjacency.proofs.sums.weigh.Statement.{statement}
 use Rattle.adjacency.proofs.sums.weigh.Tie as tie
 
-abbrev invariant-loop : tie.invariant-loop
-invariant-loop col-idx values from to size sums₀ reciprocal k₀ sums k = Weighing col-idx values sums₀ from to size sums k
+abbrev invariant-loop-k : tie.invariant-loop-k
+invariant-loop-k col-idx values from to size sums₀ reciprocal k₀ sums k = Weighing col-idx values sums₀ from to size sums k
 
-abbrev decreases-loop : tie.decreases-loop
-decreases-loop col-idx values from to size sums₀ reciprocal k₀ sums k = to - k
+abbrev decreases-loop-k : tie.decreases-loop-k
+decreases-loop-k col-idx values from to size sums₀ reciprocal k₀ sums k = to - k
 
-loop-holds : tie.Need-loop-init invariant-loop decreases-loop
+loop-holds : tie.Need-loop-k-init invariant-loop-k decreases-loop-k
 loop-holds c = record { upto = omega arith; same = refl; goes = refl }
 
-below : (c : tie.After-wide invariant-loop decreases-loop) → c.wide.result < length c.before.before.before.loop.sums
+below : (c : tie.After-wide-w invariant-loop-k decreases-loop-k) → c.wide-w.result < length c.loop-k.sums
 below c =
-    let b = c.before.before.before.before.before.before.before.before in
-    omega (arith, c.wide.ensures, c.before.node_of.ensures, c.before.before.before.loop.invariant.same, b.requires.1 c.before.before.before.loop.k (omega arith))
+    omega (arith, c.wide-w.ensures, c.node_of.ensures, c.loop-k.invariant.same, c.requires.1 c.loop-k.k (omega arith))
 
-mul-old : tie.Need-overflow-mul-old invariant-loop decreases-loop
+mul-old : tie.Need-offset_bounds-sums-w invariant-loop-k decreases-loop-k
 mul-old c = omega (arith, below c.before)
 
-slice-read-old : tie.Need-slice-read-old invariant-loop decreases-loop
+slice-read-old : tie.Need-bounds-sums-w invariant-loop-k decreases-loop-k
 slice-read-old c = omega (arith, below c.before.before)
 
-mul-sums : tie.Need-overflow-mul-sums invariant-loop decreases-loop
+mul-sums : tie.Need-offset_bounds-sums-w-in-loop-k invariant-loop-k decreases-loop-k
 mul-sums c = omega (arith, below c.before.before)
 
-slice-write-sums : tie.Need-slice-write-sums invariant-loop decreases-loop
+slice-write-sums : tie.Need-bounds-sums-w-in-loop-k invariant-loop-k decreases-loop-k
 slice-write-sums c = omega (arith, below c.before.before)
 
-loop-again : tie.Need-loop-preserved invariant-loop decreases-loop
+loop-again : tie.Need-loop-k-preserved invariant-loop-k decreases-loop-k
 loop-again c =
-    weigh_more c.before.before.wide.result _ c.before.before.before.before.before.loop.invariant (omega arith) (omega arith) (omega arith) (c.before.before.wide.ensures ∙ c.before.before.before.node_of.ensures) (below c.before.before)
+    weigh_more c.wide-w.result _ c.loop-k.invariant (omega arith) (omega arith) (omega arith) (c.wide-w.ensures ∙ c.node_of.ensures) (below c.before.before)
 
-returns : tie.Need-returns invariant-loop decreases-loop
-returns c = weigh_done c.before.loop.invariant (omega arith)
+returns : tie.Need-returns invariant-loop-k decreases-loop-k
+returns c = weigh_done c.loop-k.invariant (omega arith)
 
-pub weigh-spec : {M : Type 1} → statement M
-weigh-spec =
+pub weigh_spec : {M : Type 1} → statement M
+weigh_spec =
     tie.close
     (tie.spec
-    invariant-loop
-    decreases-loop
+    invariant-loop-k
+    decreases-loop-k
     (λ c κs. search rules)
     loop-holds
     (λ c κs. search rules)

@@ -14,47 +14,47 @@ use Rattle.aggregates.proofs.checks.check_lists.Statement.{statement}
 use Rattle.aggregates.proofs.checks.check_lists.Tie as tie
 
 -- what is known where a test has passed
-large_ok : (c : tie.Else2) → large c.before.before.before.before.args.nodes c.before.before.before.before.args.size c.before.before.before.before.args.offsets.now c.before.before.before.before.args.neighbours.now ≡ true
-large_ok c = let a = c.before.before.before.before.args in both _ _ (le-leb a.nodes max_rows c.before.if1.false) (le-leb (length a.neighbours.now) max_entries c.if2.false)
+large_ok : (c : tie.Else-neighbours-gt-MAX_ENTRIES) → large c.args.nodes c.args.size c.args.offsets.now c.args.neighbours.now ≡ true
+large_ok c = let a = c.args in both _ _ (le-leb a.nodes max_rows c.if-nodes-gt-MAX_ROWS.false) (le-leb (length a.neighbours.now) max_entries c.if-neighbours-gt-MAX_ENTRIES.false)
 
-sized_ok : (c : tie.Else4) → sized c.before.before.before.before.before.before.args.nodes c.before.before.before.before.before.before.args.size c.before.before.before.before.before.before.args.offsets.now c.before.before.before.before.before.before.args.neighbours.now ≡ true
-sized_ok c = let a = c.before.before.before.before.before.before.args in both _ _ (le-leb 1 a.size (omega (arith, c.before.if3.false))) (le-leb a.size max_group c.if4.false)
+sized_ok : (c : tie.Else-size-gt-MAX_GROUP) → sized c.args.nodes c.args.size c.args.offsets.now c.args.neighbours.now ≡ true
+sized_ok c = let a = c.args in both _ _ (le-leb 1 a.size (omega (arith, c.if-size-eq0.false))) (le-leb a.size max_group c.if-size-gt-MAX_GROUP.false)
 
-proper_ok : (c : tie.Then5) → proper c.before.before.before.before.before.before.before.before.args.nodes c.before.before.before.before.before.before.before.before.args.size c.before.before.before.before.before.before.before.before.args.offsets.now c.before.before.before.before.before.before.before.before.args.neighbours.now ≡ true
-proper_ok c = let a = c.before.before.before.before.before.before.before.before.args in sym c.before.offsets-fit.ensures ∙ c.if5.true
+proper_ok : (c : tie.Then-offsets_fit) → proper c.args.nodes c.args.size c.args.offsets.now c.args.neighbours.now ≡ true
+proper_ok c = let a = c.args in sym c.offsets_fit.ensures ∙ c.if-offsets_fit.true
 
-some_ok : (c : tie.Else6) → ltb 0 c.before.before.before.before.before.before.before.before.before.args.nodes ≡ true
-some_ok c = let a = c.before.before.before.before.before.before.before.before.before.args in lt-ltb 0 a.nodes (omega (arith, c.if6.false))
+some_ok : (c : tie.Else-nodes-eq0) → ltb 0 c.args.nodes ≡ true
+some_ok c = let a = c.args in lt-ltb 0 a.nodes (omega (arith, c.if-nodes-eq0.false))
 
-inside_ok : (c : tie.Else7) → inside c.before.before.before.before.before.before.before.before.before.before.before.args.nodes c.before.before.before.before.before.before.before.before.before.before.before.args.size c.before.before.before.before.before.before.before.before.before.before.before.args.offsets.now c.before.before.before.before.before.before.before.before.before.before.before.args.neighbours.now ≡ true
-inside_ok c = let a = c.before.before.before.before.before.before.before.before.before.before.before.args in ap not (sym c.before.reaches.ensures ∙ c.if7.false)
+inside_ok : (c : tie.Else-reaches) → inside c.args.nodes c.args.size c.args.offsets.now c.args.neighbours.now ≡ true
+inside_ok c = let a = c.args in ap not (sym c.reaches.ensures ∙ c.if-reaches.false)
 
-returns : tie.Need-returns
-returns c = let a = c.before.before.before.args in first_1 a.nodes a.size a.offsets.now a.neighbours.now (not_one _ _ (lt-leb a.nodes max_rows c.if1.true))
+returns : tie.Need-returns-then-nodes-gt-MAX_ROWS
+returns c = let a = c.args in first_1 a.nodes a.size a.offsets.now a.neighbours.now (not_one _ _ (lt-leb a.nodes max_rows c.if-nodes-gt-MAX_ROWS.true))
 
-returns-2 : tie.Need-returns-2
-returns-2 c = let a = c.before.before.before.before.args in first_1 a.nodes a.size a.offsets.now a.neighbours.now (not_two _ _ (le-leb a.nodes max_rows c.before.if1.false) (lt-leb (length a.neighbours.now) max_entries c.if2.true))
+returns-2 : tie.Need-returns-then-neighbours-gt-MAX_ENTRIES
+returns-2 c = let a = c.args in first_1 a.nodes a.size a.offsets.now a.neighbours.now (not_two _ _ (le-leb a.nodes max_rows c.if-nodes-gt-MAX_ROWS.false) (lt-leb (length a.neighbours.now) max_entries c.if-neighbours-gt-MAX_ENTRIES.true))
 
-returns-3 : tie.Need-returns-3
-returns-3 c = let a = c.before.before.before.before.before.args in first_11 a.nodes a.size a.offsets.now a.neighbours.now (large_ok c.before) (not_one _ _ (lt-leb 1 a.size (omega (arith, c.if3.true))))
+returns-3 : tie.Need-returns-then-size-eq0
+returns-3 c = let a = c.args in first_11 a.nodes a.size a.offsets.now a.neighbours.now (large_ok c.before) (not_one _ _ (lt-leb 1 a.size (omega (arith, c.if-size-eq0.true))))
 
-returns-4 : tie.Need-returns-4
-returns-4 c = let a = c.before.before.before.before.before.before.args in first_11 a.nodes a.size a.offsets.now a.neighbours.now (large_ok c.before.before) (not_two _ _ (le-leb 1 a.size (omega (arith, c.before.if3.false))) (lt-leb a.size max_group c.if4.true))
+returns-4 : tie.Need-returns-then-size-gt-MAX_GROUP
+returns-4 c = let a = c.args in first_11 a.nodes a.size a.offsets.now a.neighbours.now (large_ok c.before.before) (not_two _ _ (le-leb 1 a.size (omega (arith, c.if-size-eq0.false))) (lt-leb a.size max_group c.if-size-gt-MAX_GROUP.true))
 
-returns-5 : tie.Need-returns-5
-returns-5 c = let a = c.before.before.before.before.before.before.before.before.args in first_27 a.nodes a.size a.offsets.now a.neighbours.now (large_ok c.before.before.before.before) (sized_ok c.before.before) (sym c.before.offsets-fit.ensures ∙ c.if5.false)
+returns-5 : tie.Need-returns-else-offsets_fit
+returns-5 c = let a = c.args in first_27 a.nodes a.size a.offsets.now a.neighbours.now (large_ok c.before.before.before.before) (sized_ok c.before.before) (sym c.offsets_fit.ensures ∙ c.if-offsets_fit.false)
 
-returns-6 : tie.Need-returns-6
-returns-6 c = let a = c.before.before.before.before.before.before.before.before.before.args in first_16 a.nodes a.size a.offsets.now a.neighbours.now (large_ok c.before.before.before.before.before) (sized_ok c.before.before.before) (proper_ok c.before) (le-ltb 0 a.nodes (omega (arith, c.if6.true)))
+returns-6 : tie.Need-returns-then-nodes-eq0
+returns-6 c = let a = c.args in first_16 a.nodes a.size a.offsets.now a.neighbours.now (large_ok c.before.before.before.before.before) (sized_ok c.before.before.before) (proper_ok c.before) (le-ltb 0 a.nodes (omega (arith, c.if-nodes-eq0.true)))
 
-returns-7 : tie.Need-returns-7
-returns-7 c = let a = c.before.before.before.before.before.before.before.before.before.before.before.args in first_28 a.nodes a.size a.offsets.now a.neighbours.now (large_ok c.before.before.before.before.before.before.before) (sized_ok c.before.before.before.before.before) (proper_ok c.before.before.before) (some_ok c.before.before) (ap not (sym c.before.reaches.ensures ∙ c.if7.true))
+returns-7 : tie.Need-returns-then-reaches
+returns-7 c = let a = c.args in first_28 a.nodes a.size a.offsets.now a.neighbours.now (large_ok c.before.before.before.before.before.before.before) (sized_ok c.before.before.before.before.before) (proper_ok c.before.before.before) (some_ok c.before.before) (ap not (sym c.reaches.ensures ∙ c.if-reaches.true))
 
-returns-8 : tie.Need-returns-8
-returns-8 c = let a = c.before.before.before.before.before.before.before.before.before.before.before.args in none_found a.nodes a.size a.offsets.now a.neighbours.now (large_ok c.before.before.before.before.before.before.before) (sized_ok c.before.before.before.before.before) (proper_ok c.before.before.before) (some_ok c.before.before) (inside_ok c)
+returns-8 : tie.Need-returns
+returns-8 c = let a = c.args in none_found a.nodes a.size a.offsets.now a.neighbours.now (large_ok c.before.before.before.before.before.before.before) (sized_ok c.before.before.before.before.before) (proper_ok c.before.before.before) (some_ok c.before.before) (inside_ok c)
 
-pub check-lists-spec : {M : Type 1} → statement M
-check-lists-spec =
+pub check_lists_spec : {M : Type 1} → statement M
+check_lists_spec =
     tie.close
     (tie.spec
     returns

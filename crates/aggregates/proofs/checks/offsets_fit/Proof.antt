@@ -6,32 +6,32 @@ use borrow.Author.Rules.{rules}
 use Rattle.aggregates.proofs.checks.offsets_fit.Statement.{statement}
 use Rattle.aggregates.proofs.checks.offsets_fit.Tie as tie
 
-returns : tie.Need-returns
-returns c = let a = c.before.before.args in fit_empty a.offsets.now a.nodes a.count c.if1.true
+returns : tie.Need-returns-then-offsets-eq0
+returns c = let a = c.args in fit_empty a.offsets.now a.nodes a.count c.if-offsets-eq0.true
 
-returns-2 : tie.Need-returns-2
-returns-2 c = let a = c.before.before.before.args in fit_long a.offsets.now a.nodes a.count c.before.if1.false c.if2.true
+returns-2 : tie.Need-returns-then-offsets-nodes
+returns-2 c = let a = c.args in fit_long a.offsets.now a.nodes a.count c.if-offsets-eq0.false c.if-offsets-nodes.true
 
-returns-3 : tie.Need-returns-3
+returns-3 : tie.Need-returns-then-offsets-ne0
 returns-3 c =
-    let a = c.before.before.before.before.before.args in
-    fit_start a.offsets.now a.nodes a.count c.before.before.before.if1.false c.before.before.if2.false c.if3.true
+    let a = c.args in
+    fit_start a.offsets.now a.nodes a.count c.if-offsets-eq0.false c.if-offsets-nodes.false c.if-offsets-ne0.true
 
-returns-4 : tie.Need-returns-4
+returns-4 : tie.Need-returns-then-falls
 returns-4 c =
-    let a = c.before.before.before.before.before.before.before.args in
-    fit_falls a.offsets.now a.nodes a.count c.before.before.before.before.before.if1.false c.before.before.before.before.if2.false c.before.before.if3.false (sym c.before.falls.ensures ∙ c.if4.true)
+    let a = c.args in
+    fit_falls a.offsets.now a.nodes a.count c.if-offsets-eq0.false c.if-offsets-nodes.false c.if-offsets-ne0.false (sym c.falls.ensures ∙ c.if-falls.true)
 
-cast-result : tie.Need-overflow-cast-result
-cast-result c = omega (arith, c.shared-slice-known3.given c.before.before.before.before.before.before.before.before.args.nodes)
+cast-result : tie.Need-overflow_cast-result
+cast-result c = omega (arith, c.shared_slice_known-3-1.given c.args.nodes)
 
-returns-5 : tie.Need-returns-5
+returns-5 : tie.Need-returns
 returns-5 c =
-    let a = c.before.before.before.before.before.before.before.before.args in
-    fit_end a.offsets.now a.nodes a.count c.before.before.before.before.before.before.if1.false c.before.before.before.before.before.if2.false c.before.before.before.if3.false (sym c.before.before.falls.ensures ∙ c.before.if4.false)
+    let a = c.args in
+    fit_end a.offsets.now a.nodes a.count c.if-offsets-eq0.false c.if-offsets-nodes.false c.if-offsets-ne0.false (sym c.falls.ensures ∙ c.if-falls.false)
 
-pub offsets-fit-spec : {M : Type 1} → statement M
-offsets-fit-spec =
+pub offsets_fit_spec : {M : Type 1} → statement M
+offsets_fit_spec =
     tie.close
     (tie.spec
     returns

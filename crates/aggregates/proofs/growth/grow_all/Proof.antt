@@ -14,66 +14,63 @@ use borrow.Author.Rules.{rules}
 use Rattle.aggregates.proofs.growth.grow_all.Statement.{statement}
 use Rattle.aggregates.proofs.growth.grow_all.Tie as tie
 
-abbrev invariant-loop : tie.invariant-loop
-invariant-loop w₀ base nodes size g₀ v₀ w g v = Seeding (offsets_at base nodes w₀) (neighbours_at base nodes w₀) base nodes w₀ size w g v
+abbrev invariant-loop-v : tie.invariant-loop-v
+invariant-loop-v w₀ base nodes size g₀ v₀ w g v = Seeding (offsets_at base nodes w₀) (neighbours_at base nodes w₀) base nodes w₀ size w g v
 
-abbrev decreases-loop : tie.decreases-loop
-decreases-loop w₀ base nodes size g₀ v₀ w g v = nodes - v
+abbrev decreases-loop-v : tie.decreases-loop-v
+decreases-loop-v w₀ base nodes size g₀ v₀ w g v = nodes - v
 
-loop-holds : tie.Need-loop-init invariant-loop decreases-loop
+loop-holds : tie.Need-loop-v-init invariant-loop-v decreases-loop-v
 loop-holds c =
-    let a = c.before.args in
+    let a = c.args in
     seed_first (offsets_at a.base a.nodes a.w.now) (neighbours_at a.base a.nodes a.w.now) a.base a.nodes a.w.now a.size
 
 -- all below `base` is within the list
-fits : (c : tie.At-loop invariant-loop decreases-loop) → c.before.before.args.base ≤ length c.loop.w
-fits c = let s = c.before.before in let a = s.args in omega (arith, c.loop.invariant.same, base_fits a.base a.nodes a.w.now s.requires.0)
+fits : (c : tie.At-loop-v invariant-loop-v decreases-loop-v) → c.args.base ≤ length c.loop-v.w
+fits c = let a = c.args in omega (arith, c.loop-v.invariant.same, base_fits a.base a.nodes a.w.now c.requires.0)
 
-mul-if1 : tie.Need-overflow-mul-if1 invariant-loop decreases-loop
-mul-if1 c = omega (arith, fits c.before, c.before.before.before.requires.1.0)
+mul-if1 : tie.Need-offset_bounds-w-v invariant-loop-v decreases-loop-v
+mul-if1 c = omega (arith, fits c.before, c.requires.1.0)
 
-slice-read-if1 : tie.Need-slice-read-if1 invariant-loop decreases-loop
-slice-read-if1 c = omega (arith, fits c.before.before, c.before.before.before.before.requires.1.0)
+slice-read-if1 : tie.Need-bounds-w-v invariant-loop-v decreases-loop-v
+slice-read-if1 c = omega (arith, fits c.before.before, c.requires.1.0)
 
-grow-group-requires : tie.Need-grow-group-requires invariant-loop decreases-loop
+grow-group-requires : tie.Need-grow_group-requires invariant-loop-v decreases-loop-v
 grow-group-requires c κs =
-    let s = c.before.before.before.before.before.before in
-    let a = s.args in
-    let l = c.before.before.before.before.loop in
+    let a = c.args in
+    let l = c.loop-v in
     let still = l.invariant.still in (
-      lists_still a.base a.nodes l.w a.w.now still (λ o n. Lists a.nodes o n) s.requires.0,
-      (omega arith, (omega arith, lists_still a.base a.nodes l.w a.w.now still (λ o n. a.nodes + (length n + 1) ≤ a.base) s.requires.1.0.1)),
+      lists_still a.base a.nodes l.w a.w.now still (λ o n. Lists a.nodes o n) c.requires.0,
+      (omega arith, (omega arith, lists_still a.base a.nodes l.w a.w.now still (λ o n. a.nodes + (length n + 1) ≤ a.base) c.requires.1.0.1)),
     )
 
-loop-again : tie.Need-loop-preserved invariant-loop decreases-loop
+loop-again : tie.Need-loop-v-preserved invariant-loop-v decreases-loop-v
 loop-again c =
-    let s = c.before.before.before.before.before in
-    let a = s.args in
-    let l = c.before.before.before.loop in
+    let a = c.args in
+    let l = c.loop-v in
     ⊎_elim
     (λ x.
-    let f = x.2 in
+    let f = x.grow_group in
     let grows = lists_still a.base a.nodes a.w.now l.w (sym l.invariant.still) (λ o n. take a.nodes f.last.0 ≡ grow_group (listed o n) no_anchor (l.g + 1) a.size (take a.nodes l.w) (l.v ∷ [])) f.ensures.0 in
-    rw (x.5, x.6) (seed_grows (offsets_at a.base a.nodes a.w.now) (neighbours_at a.base a.nodes a.w.now) a.base a.nodes a.w.now a.size l.w l.g l.v l.invariant (omega arith) f.last.0 x.0.taken grows f.kept.0 f.ensures.1))
-    (λ x. rw (x.1, x.2) (seed_passes (offsets_at a.base a.nodes a.w.now) (neighbours_at a.base a.nodes a.w.now) a.base a.nodes a.w.now a.size l.w l.g l.v l.invariant (omega arith) x.0.left))
-    c.if1.branch
+    rw (x.w-is, x.g-is) (seed_grows (offsets_at a.base a.nodes a.w.now) (neighbours_at a.base a.nodes a.w.now) a.base a.nodes a.w.now a.size l.w l.g l.v l.invariant (omega arith) f.last.0 x.if-w-v-eq0.true grows f.kept.0 f.ensures.1))
+    (λ x. rw (x.w-is, x.g-is) (seed_passes (offsets_at a.base a.nodes a.w.now) (neighbours_at a.base a.nodes a.w.now) a.base a.nodes a.w.now a.size l.w l.g l.v l.invariant (omega arith) x.if-w-v-eq0.false))
+    c.if-w-v-eq0.branch-raw
 
-same_length : tie.Need-same-length invariant-loop decreases-loop
-same_length c = c.before.loop.invariant.same
+same_length : tie.Need-shape_of-w invariant-loop-v decreases-loop-v
+same_length c = c.loop-v.invariant.same
 
-returns : tie.Need-returns invariant-loop decreases-loop
+returns : tie.Need-returns invariant-loop-v decreases-loop-v
 returns c =
-    let s = c.before.before.before in
-    let a = s.args in
-    let l = c.before.loop in
-    (seed_last (offsets_at a.base a.nodes a.w.now) (neighbours_at a.base a.nodes a.w.now) a.base a.nodes a.w.now a.size l.w l.g l.v l.invariant (omega arith) s.requires.1.1, (omega (arith, l.invariant.few, l.invariant.upto), l.invariant.still))
+    let a = c.args in
+    let l = c.loop-v in
+    (seed_last (offsets_at a.base a.nodes a.w.now) (neighbours_at a.base a.nodes a.w.now) a.base a.nodes a.w.now a.size l.w l.g l.v l.invariant (omega arith) c.requires.1.1, (omega (arith, l.invariant.few, l.invariant.upto), l.invariant.still))
 
-pub grow-all-spec : {M : Type 1} → statement M
-grow-all-spec =
+pub grow_all_spec : {M : Type 1} → statement M
+grow_all_spec =
     tie.close
     (tie.spec
-    invariant-loop
-    decreases-loop
+    invariant-loop-v
+    decreases-loop-v
     loop-holds
     mul-if1
     slice-read-if1

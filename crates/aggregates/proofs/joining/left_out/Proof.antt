@@ -5,18 +5,18 @@ use borrow.Author.Rules.{rules}
 use Rattle.aggregates.proofs.joining.left_out.Statement.{statement}
 use Rattle.aggregates.proofs.joining.left_out.Tie as tie
 
-returns : tie.Need-returns
+returns : tie.Need-returns-then-o-g
 returns c =
-    let a = c.before.before.args in
-    rw (eq-eqb a.o a.g c.if1.true)
+    let a = c.args in
+    rw (eq-eqb a.o a.g c.if-o-g.true)
 
-returns-2 : tie.Need-returns-2
+returns-2 : tie.Need-returns
 returns-2 c =
-    let a = c.before.before.before.before.args in
-    let e : c.before.wide.result ≡ a.o = c.before.wide.ensures in
-    rw (ne_eqb a.o a.g c.before.before.if1.false, e)
+    let a = c.args in
+    let e : c.wide.result ≡ a.o = c.wide.ensures in
+    rw (ne_eqb a.o a.g c.if-o-g.false, e)
 
-pub left-out-spec : {M : Type 1} → statement M
-left-out-spec =
+pub left_out_spec : {M : Type 1} → statement M
+left_out_spec =
     tie.close
     (tie.spec returns (λ c κs. search rules) (λ c. search rules) (λ c. search rules) (λ c. search rules) returns-2)

@@ -11,122 +11,122 @@ use Rattle.aggregates.proofs.joining.move_group.Statement.{statement}
 use Rattle.aggregates.proofs.joining.move_group.Tie as tie
 
 -- the last member of the group
-last : (c : tie.After-wide3) → c.wide3.result ≡ hop (at (3 * c.before.before.before.before.before.before.before.before.before.before.before.before.args.nodes + 1) c.before.before.before.before.before.before.before.before.before.before.before.before.args.w.now c.before.before.before.before.before.before.before.before.before.before.before.before.args.g - 1) (drop c.before.before.before.before.before.before.before.before.before.before.before.before.args.nodes c.before.before.before.before.before.before.before.before.before.before.before.before.args.w.now) (at (2 * c.before.before.before.before.before.before.before.before.before.before.before.before.args.nodes) c.before.before.before.before.before.before.before.before.before.before.before.before.args.w.now c.before.before.before.before.before.before.before.before.before.before.before.before.args.g)
+last : (c : tie.After-wide-last) → c.wide-last.result ≡ hop (at (3 * c.args.nodes + 1) c.args.w.now c.args.g - 1) (drop c.args.nodes c.args.w.now) (at (2 * c.args.nodes) c.args.w.now c.args.g)
 last c =
-    let a = c.before.before.before.before.before.before.before.before.before.before.before.before.args in
-    let e1 : c.before.before.before.before.before.before.before.before.before.before.wide.result ≡ a.g = c.before.before.before.before.before.before.before.before.before.before.wide.ensures in
-    c.wide3.ensures ∙ (rw e1 at c.before.before.before.relabel-chain.ensures.1.1) c.before.before.before.before.before.before.before.before.before.before.before.before.requires.some
+    let a = c.args in
+    let e1 : c.wide-from.result ≡ a.g = c.wide-from.ensures in
+    c.wide-last.ensures ∙ (rw e1 at c.relabel_chain.ensures.1.1) c.requires.some
 
-node : (c : tie.After-wide3) → c.wide3.result < c.before.before.before.before.before.before.before.before.before.before.before.before.args.nodes
-node c = let a = c.before.before.before.before.before.before.before.before.before.before.before.before.args in rw (last c) (move_last a.nodes a.w.now a.g a.b c.before.before.before.before.before.before.before.before.before.before.before.before.requires)
+node : (c : tie.After-wide-last) → c.wide-last.result < c.args.nodes
+node c = let a = c.args in rw (last c) (move_last a.nodes a.w.now a.g a.b c.requires)
 
-mul-heads : tie.Need-overflow-mul-heads
-mul-heads c = omega (arith, c.before.before.before.requires.room)
+mul-heads : tie.Need-overflow_mul-heads
+mul-heads c = omega (arith, c.requires.room)
 
-mul-counts : tie.Need-overflow-mul-counts
-mul-counts c = omega (arith, c.before.before.before.requires.room)
+mul-counts : tie.Need-overflow_mul-counts
+mul-counts c = omega (arith, c.requires.room)
 
-add-counts : tie.Need-overflow-add-counts
-add-counts c = omega (arith, c.before.before.before.requires.room)
+add-counts : tie.Need-overflow_add-counts
+add-counts c = omega (arith, c.requires.room)
 
-add-n : tie.Need-overflow-add-n
-add-n c = omega (arith, c.before.before.before.requires.own, c.before.before.before.requires.room, c.before.wide.ensures)
+add-n : tie.Need-overflow_add-n
+add-n c = omega (arith, c.requires.own, c.requires.room, c.wide-from.ensures)
 
-mul-n : tie.Need-overflow-mul-n
-mul-n c = omega (arith, c.before.before.before.requires.own, c.before.before.before.requires.room, c.before.wide.ensures)
+mul-n : tie.Need-offset_bounds-w-counts
+mul-n c = omega (arith, c.requires.own, c.requires.room, c.wide-from.ensures)
 
-slice-read-n : tie.Need-slice-read-n
-slice-read-n c = omega (arith, c.before.before.before.before.requires.own, c.before.before.before.before.requires.room, c.before.before.wide.ensures)
+slice-read-n : tie.Need-bounds-w-counts
+slice-read-n c = omega (arith, c.requires.own, c.requires.room, c.wide-from.ensures)
 
-add-first : tie.Need-overflow-add-first
-add-first c = omega (arith, c.before.before.before.before.requires.own, c.before.before.before.before.requires.room, c.before.before.wide.ensures)
+add-first : tie.Need-overflow_add-first
+add-first c = omega (arith, c.requires.own, c.requires.room, c.wide-from.ensures)
 
-mul-first : tie.Need-overflow-mul-first
-mul-first c = omega (arith, c.before.before.before.before.requires.own, c.before.before.before.before.requires.room, c.before.before.wide.ensures)
+mul-first : tie.Need-offset_bounds-w-heads
+mul-first c = omega (arith, c.requires.own, c.requires.room, c.wide-from.ensures)
 
-slice-read-first : tie.Need-slice-read-first
-slice-read-first c = omega (arith, c.before.before.before.before.before.requires.own, c.before.before.before.before.before.requires.room, c.before.before.before.wide.ensures)
+slice-read-first : tie.Need-bounds-w-heads
+slice-read-first c = omega (arith, c.requires.own, c.requires.room, c.wide-from.ensures)
 
-add-second : tie.Need-overflow-add-second
-add-second c = omega (arith, c.before.before.before.before.before.requires.own, c.before.before.before.before.before.requires.room, c.before.before.wide2.ensures)
+add-second : tie.Need-overflow_add-second
+add-second c = omega (arith, c.requires.own, c.requires.room, c.wide-to.ensures)
 
-mul-second : tie.Need-overflow-mul-second
-mul-second c = omega (arith, c.before.before.before.before.before.requires.own, c.before.before.before.before.before.requires.room, c.before.before.wide2.ensures)
+mul-second : tie.Need-offset_bounds-w-heads-2
+mul-second c = omega (arith, c.requires.own, c.requires.room, c.wide-to.ensures)
 
-slice-read-second : tie.Need-slice-read-second
-slice-read-second c = omega (arith, c.before.before.before.before.before.before.requires.own, c.before.before.before.before.before.before.requires.room, c.before.before.before.wide2.ensures)
+slice-read-second : tie.Need-bounds-w-heads-2
+slice-read-second c = omega (arith, c.requires.own, c.requires.room, c.wide-to.ensures)
 
-add-more : tie.Need-overflow-add-more
-add-more c = omega (arith, c.before.before.before.before.before.before.requires.own, c.before.before.before.before.before.before.requires.room, c.before.before.before.wide2.ensures)
+add-more : tie.Need-overflow_add-more
+add-more c = omega (arith, c.requires.own, c.requires.room, c.wide-to.ensures)
 
-mul-more : tie.Need-overflow-mul-more
-mul-more c = omega (arith, c.before.before.before.before.before.before.requires.own, c.before.before.before.before.before.before.requires.room, c.before.before.before.wide2.ensures)
+mul-more : tie.Need-offset_bounds-w-counts-2
+mul-more c = omega (arith, c.requires.own, c.requires.room, c.wide-to.ensures)
 
-slice-read-more : tie.Need-slice-read-more
-slice-read-more c = omega (arith, c.before.before.before.before.before.before.before.requires.own, c.before.before.before.before.before.before.before.requires.room, c.before.before.before.before.wide2.ensures)
+slice-read-more : tie.Need-bounds-w-counts-2
+slice-read-more c = omega (arith, c.requires.own, c.requires.room, c.wide-to.ensures)
 
-relabel-chain-requires : tie.Need-relabel-chain-requires
+relabel-chain-requires : tie.Need-relabel_chain-requires
 relabel-chain-requires c κs =
-    let e1 : c.before.before.before.before.before.before.wide.result ≡ c.before.before.before.before.before.before.before.before.args.g = c.before.before.before.before.before.before.wide.ensures in
-    (omega (arith, c.before.before.before.before.before.before.before.before.requires.room), rw e1 c.before.before.before.before.before.before.before.before.requires.nodes)
+    let e1 : c.wide-from.result ≡ c.args.g = c.wide-from.ensures in
+    (omega (arith, c.requires.room), rw e1 c.requires.nodes)
 
-add-w : tie.Need-overflow-add-w
-add-w c = omega (arith, node c, c.before.before.before.before.before.before.before.before.before.before.before.before.requires.room)
+add-w : tie.Need-overflow_add-w
+add-w c = omega (arith, node c, c.requires.room)
 
-mul-w : tie.Need-overflow-mul-w
-mul-w c = omega (arith, node c, c.before.before.before.before.before.before.before.before.before.before.before.before.requires.room)
+mul-w : tie.Need-offset_bounds-w-nodes
+mul-w c = omega (arith, node c, c.requires.room)
 
-slice-write-w : tie.Need-slice-write-w
-slice-write-w c = omega (arith, node c, c.before.before.before.before.before.before.before.before.before.before.before.before.requires.room, c.before.before.before.relabel-chain.auto.0)
+slice-write-w : tie.Need-bounds-w-nodes
+slice-write-w c = omega (arith, node c, c.requires.room, c.relabel_chain.auto.w)
 
-add-w-2 : tie.Need-overflow-add-w-2
-add-w-2 c = omega (arith, c.before.before.before.before.before.before.before.before.before.before.before.before.requires.own, c.before.before.before.before.before.before.before.before.before.before.before.before.requires.room, c.before.before.before.before.before.before.before.before.before.wide2.ensures)
+add-w-2 : tie.Need-overflow_add-w-2
+add-w-2 c = omega (arith, c.requires.own, c.requires.room, c.wide-to.ensures)
 
-mul-w-2 : tie.Need-overflow-mul-w-2
-mul-w-2 c = omega (arith, c.before.before.before.before.before.before.before.before.before.before.before.before.requires.own, c.before.before.before.before.before.before.before.before.before.before.before.before.requires.room, c.before.before.before.before.before.before.before.before.before.wide2.ensures)
+mul-w-2 : tie.Need-offset_bounds-w-heads-3
+mul-w-2 c = omega (arith, c.requires.own, c.requires.room, c.wide-to.ensures)
 
-slice-write-w-2 : tie.Need-slice-write-w-2
-slice-write-w-2 c = simp length-set (omega (arith, c.before.before.before.before.before.before.before.before.before.before.before.before.requires.own, c.before.before.before.before.before.before.before.before.before.before.before.before.requires.room, c.before.before.before.before.before.before.before.before.before.wide2.ensures, c.before.before.before.relabel-chain.auto.0))
+slice-write-w-2 : tie.Need-bounds-w-heads-3
+slice-write-w-2 c = simp length-set (omega (arith, c.requires.own, c.requires.room, c.wide-to.ensures, c.relabel_chain.auto.w))
 
-add-w-3 : tie.Need-overflow-add-w-3
+add-w-3 : tie.Need-overflow_add-w-3
 add-w-3 c =
-    let a = c.before.before.before.before.before.before.before.before.before.before.before.before.args in
-    let e1 : c.before.before.before.before.before.before.before.before.before.before.wide.result ≡ a.g = c.before.before.before.before.before.before.before.before.before.before.wide.ensures in
-    let e2 : c.before.before.before.before.before.before.before.before.before.wide2.result ≡ a.b = c.before.before.before.before.before.before.before.before.before.wide2.ensures in
-    let f : at (3 * a.nodes + 1) a.w.now c.before.before.before.before.before.before.before.before.before.before.wide.result + at (3 * a.nodes + 1) a.w.now c.before.before.before.before.before.before.before.before.before.wide2.result ≤ a.nodes = rw (e1, e2) c.before.before.before.before.before.before.before.before.before.before.before.before.requires.fits in
-    omega (arith, c.before.before.before.before.before.before.before.before.before.before.before.before.requires.small)
+    let a = c.args in
+    let e1 : c.wide-from.result ≡ a.g = c.wide-from.ensures in
+    let e2 : c.wide-to.result ≡ a.b = c.wide-to.ensures in
+    let f : at (3 * a.nodes + 1) a.w.now c.wide-from.result + at (3 * a.nodes + 1) a.w.now c.wide-to.result ≤ a.nodes = rw (e1, e2) c.requires.fits in
+    omega (arith, c.requires.small)
 
-add-w-4 : tie.Need-overflow-add-w-4
-add-w-4 c = omega (arith, c.before.before.before.before.before.before.before.before.before.before.before.before.requires.own, c.before.before.before.before.before.before.before.before.before.before.before.before.requires.room, c.before.before.before.before.before.before.before.before.before.wide2.ensures)
+add-w-4 : tie.Need-overflow_add-w-4
+add-w-4 c = omega (arith, c.requires.own, c.requires.room, c.wide-to.ensures)
 
-mul-w-3 : tie.Need-overflow-mul-w-3
-mul-w-3 c = omega (arith, c.before.before.before.before.before.before.before.before.before.before.before.before.requires.own, c.before.before.before.before.before.before.before.before.before.before.before.before.requires.room, c.before.before.before.before.before.before.before.before.before.wide2.ensures)
+mul-w-3 : tie.Need-offset_bounds-w-counts-3
+mul-w-3 c = omega (arith, c.requires.own, c.requires.room, c.wide-to.ensures)
 
-slice-write-w-3 : tie.Need-slice-write-w-3
-slice-write-w-3 c = simp length-set (omega (arith, c.before.before.before.before.before.before.before.before.before.before.before.before.requires.own, c.before.before.before.before.before.before.before.before.before.before.before.before.requires.room, c.before.before.before.before.before.before.before.before.before.wide2.ensures, c.before.before.before.relabel-chain.auto.0))
+slice-write-w-3 : tie.Need-bounds-w-counts-3
+slice-write-w-3 c = simp length-set (omega (arith, c.requires.own, c.requires.room, c.wide-to.ensures, c.relabel_chain.auto.w))
 
-add-w-5 : tie.Need-overflow-add-w-5
-add-w-5 c = omega (arith, c.before.before.before.before.before.before.before.before.before.before.before.before.requires.own, c.before.before.before.before.before.before.before.before.before.before.before.before.requires.room, c.before.before.before.before.before.before.before.before.before.before.wide.ensures)
+add-w-5 : tie.Need-overflow_add-w-5
+add-w-5 c = omega (arith, c.requires.own, c.requires.room, c.wide-from.ensures)
 
-mul-w-4 : tie.Need-overflow-mul-w-4
-mul-w-4 c = omega (arith, c.before.before.before.before.before.before.before.before.before.before.before.before.requires.own, c.before.before.before.before.before.before.before.before.before.before.before.before.requires.room, c.before.before.before.before.before.before.before.before.before.before.wide.ensures)
+mul-w-4 : tie.Need-offset_bounds-w-counts-4
+mul-w-4 c = omega (arith, c.requires.own, c.requires.room, c.wide-from.ensures)
 
-slice-write-w-4 : tie.Need-slice-write-w-4
-slice-write-w-4 c = simp length-set (omega (arith, c.before.before.before.before.before.before.before.before.before.before.before.before.requires.own, c.before.before.before.before.before.before.before.before.before.before.before.before.requires.room, c.before.before.before.before.before.before.before.before.before.before.wide.ensures, c.before.before.before.relabel-chain.auto.0))
+slice-write-w-4 : tie.Need-bounds-w-counts-4
+slice-write-w-4 c = simp length-set (omega (arith, c.requires.own, c.requires.room, c.wide-from.ensures, c.relabel_chain.auto.w))
 
-same_length : tie.Need-same-length
-same_length c = simp length-set c.before.before.before.relabel-chain.auto.0
+same_length : tie.Need-shape_of-w
+same_length c = simp length-set c.relabel_chain.auto.w
 
 returns : tie.Need-returns
 returns c =
-    let a = c.before.before.before.before.before.before.before.before.before.before.before.before.args in
-    let e1 : c.before.before.before.before.before.before.before.before.before.before.wide.result ≡ a.g = c.before.before.before.before.before.before.before.before.before.before.wide.ensures in
-    let e2 : c.before.before.before.before.before.before.before.before.before.wide2.result ≡ a.b = c.before.before.before.before.before.before.before.before.before.wide2.ensures in
-    let f = c.before.before.before.relabel-chain in
-    rw (last c, e1, e2) (move_front_lem a.nodes a.w.now a.g a.b f.new.0 (rw e1 at f.ensures.0), move_back a.nodes a.w.now a.g a.b f.new.0 f.ensures.1.0)
+    let a = c.args in
+    let e1 : c.wide-from.result ≡ a.g = c.wide-from.ensures in
+    let e2 : c.wide-to.result ≡ a.b = c.wide-to.ensures in
+    let f = c.relabel_chain in
+    rw (last c, e1, e2) (move_front_lem a.nodes a.w.now a.g a.b f.new.w (rw e1 at f.ensures.0), move_back a.nodes a.w.now a.g a.b f.new.w f.ensures.1.0)
 
-pub move-group-spec : {M : Type 1} → statement M
-move-group-spec =
+pub move_group_spec : {M : Type 1} → statement M
+move_group_spec =
     tie.close
     (tie.spec
     (λ c κs. search rules)

@@ -7,41 +7,38 @@ use borrow.Author.Rules.{rules}
 use Rattle.aggregates.proofs.joining_log.last_rule.Statement.{statement}
 use Rattle.aggregates.proofs.joining_log.last_rule.Tie as tie
 
-abbrev invariant-loop : tie.invariant-loop
-invariant-loop w counts hits from end b rule₀ i₀ rule i = Ruling w counts hits from end b rule i
+abbrev invariant-loop-i : tie.invariant-loop-i
+invariant-loop-i w counts hits from end b rule₀ i₀ rule i = Ruling w counts hits from end b rule i
 
-abbrev decreases-loop : tie.decreases-loop
-decreases-loop w counts hits from end b rule₀ i₀ rule i = end - i
+abbrev decreases-loop-i : tie.decreases-loop-i
+decreases-loop-i w counts hits from end b rule₀ i₀ rule i = end - i
 
-loop-holds : tie.Need-loop-init invariant-loop decreases-loop
+loop-holds : tie.Need-loop-i-init invariant-loop-i decreases-loop-i
 loop-holds c = record { lo = omega arith; hi = omega arith; goes = refl }
 
-rule-against-requires : tie.Need-rule-against-requires invariant-loop decreases-loop
+rule-against-requires : tie.Need-rule_against-test-requires invariant-loop-i decreases-loop-i
 rule-against-requires c κs =
-    let s = c.before.before.before.before in
-    let l = c.before.before.loop in
-    omega (arith, s.requires.1 l.i (omega arith) (omega arith))
+    let l = c.loop-i in
+    omega (arith, c.requires.1 l.i (omega arith) (omega arith))
 
-loop-again : tie.Need-loop-preserved invariant-loop decreases-loop
+loop-again : tie.Need-loop-i-preserved invariant-loop-i decreases-loop-i
 loop-again c =
-    let s = c.before.before.before.before.before.before in
-    let a = s.args in
-    let l = c.before.before.before.before.loop in
-    rule_step a.w.now a.counts a.hits a.from a.end a.b s.requires.0.1.0 l.rule l.i c.larger.result l.invariant (omega arith) (c.larger.ensures ∙ ap (max l.rule) c.before.rule-against.ensures)
+    let a = c.args in
+    let l = c.loop-i in
+    rule_step a.w.now a.counts a.hits a.from a.end a.b c.requires.0.1.0 l.rule l.i c.larger-rule.result l.invariant (omega arith) (c.larger-rule.ensures ∙ ap (max l.rule) c.rule_against-test.ensures)
 
-returns : tie.Need-returns invariant-loop decreases-loop
+returns : tie.Need-returns invariant-loop-i decreases-loop-i
 returns c =
-    let s = c.before.before.before in
-    let a = s.args in
-    let l = c.before.loop in
-    rule_last a.w.now a.counts a.hits a.from a.end a.b s.requires.0.1.0 l.rule l.i l.invariant (omega arith)
+    let a = c.args in
+    let l = c.loop-i in
+    rule_last a.w.now a.counts a.hits a.from a.end a.b c.requires.0.1.0 l.rule l.i l.invariant (omega arith)
 
-pub last-rule-spec : {M : Type 1} → statement M
-last-rule-spec =
+pub last_rule_spec : {M : Type 1} → statement M
+last_rule_spec =
     tie.close
     (tie.spec
-    invariant-loop
-    decreases-loop
+    invariant-loop-i
+    decreases-loop-i
     loop-holds
     (λ c. omega arith)
     (λ c. omega arith)

@@ -9,21 +9,21 @@ use borrow.Author.Rules.{rules}
 use Rattle.aggregates.proofs.joining_log.log_joining.Statement.{statement}
 use Rattle.aggregates.proofs.joining_log.log_joining.Tie as tie
 
-returns : tie.Need-returns
+returns : tie.Need-returns-then-place-log
 returns c =
-    let a = c.before.before.before.before.before.before.before.before.before.before.before.before.args in
-    let e : c.before.before.before.before.before.before.before.before.before.wide.result ≡ a.made = c.before.before.before.before.before.before.before.before.before.wide.ensures in
-    let r = c.before.before.before.before.before.before.rule-of in
-    (r.ensures.1, (rw e at c.before.before.note.ensures) ∙ ap (λ x. noted (3 * a.made) ((a.g - 1) ∷ (a.b - 1) ∷ x ∷ []) a.log.now) r.ensures.0)
+    let a = c.args in
+    let e : c.wide-place.result ≡ a.made = c.wide-place.ensures in
+    let r = c.rule_of-rule in
+    (r.ensures.1, (rw e at c.note.ensures) ∙ ap (λ x. noted (3 * a.made) ((a.g - 1) ∷ (a.b - 1) ∷ x ∷ []) a.log.now) r.ensures.0)
 
-returns-2 : tie.Need-returns-2
+returns-2 : tie.Need-returns-else-place-log
 returns-2 c =
-    let a = c.before.before.before.before.args in
-    let e : c.before.wide.result ≡ a.made = c.before.wide.ensures in
-    (refl, sym (noted_outside (3 * a.made) ((a.g - 1) ∷ (a.b - 1) ∷ rule_in a.counts a.from a.end a.b a.w.now ∷ []) a.log.now (omega (arith, e, c.if1.false))))
+    let a = c.args in
+    let e : c.wide-place.result ≡ a.made = c.wide-place.ensures in
+    (refl, sym (noted_outside (3 * a.made) ((a.g - 1) ∷ (a.b - 1) ∷ rule_in a.counts a.from a.end a.b a.w.now ∷ []) a.log.now (omega (arith, e, c.if-place-log.false))))
 
-pub log-joining-spec : {M : Type 1} → statement M
-log-joining-spec =
+pub log_joining_spec : {M : Type 1} → statement M
+log_joining_spec =
     tie.close
     (tie.spec
     (λ c κs. search rules)

@@ -12,23 +12,23 @@ use Rattle.aggregates.proofs.stored.neighbour.Reads as reads
 within : (c : lts.Start reads.Pre reads.Post) → c.args.base + c.args.nodes + 1 + c.args.i < length c.args.w.now
 within c = let a = c.args in neighbour_within a.base a.nodes a.w.now a.i c.requires
 
-add-result : tie.Need-overflow-add-result
+add-result : tie.Need-overflow_add-result
 add-result c = omega (arith, within c)
 
-add-result-2 : tie.Need-overflow-add-result-2
+add-result-2 : tie.Need-overflow_add-result-2
 add-result-2 c = omega (arith, within c)
 
-add-result-3 : tie.Need-overflow-add-result-3
+add-result-3 : tie.Need-overflow_add-result-3
 add-result-3 c = omega (arith, within c)
 
-mul-result : tie.Need-overflow-mul-result
+mul-result : tie.Need-offset_bounds-w-base
 mul-result c = omega (arith, within c)
 
-shared-slice-read-result : tie.Need-shared-slice-read-result
+shared-slice-read-result : tie.Need-bounds-w-base
 shared-slice-read-result c = within c.before
 
 returns : tie.Need-returns
-returns c = let a = c.before.args in sym (neighbour_is a.base a.nodes a.w.now a.i c.before.requires)
+returns c = let a = c.args in sym (neighbour_is a.base a.nodes a.w.now a.i c.requires)
 
-pub neighbour-spec : {M : Type 1} → statement M
-neighbour-spec = tie.close (tie.spec add-result add-result-2 add-result-3 mul-result shared-slice-read-result returns)
+pub neighbour_spec : {M : Type 1} → statement M
+neighbour_spec = tie.close (tie.spec add-result add-result-2 add-result-3 mul-result shared-slice-read-result returns)

@@ -7,25 +7,25 @@ use borrow.Author.Rules.{rules}
 use Rattle.block_factor.proofs.cholesky.factor.Statement.{statement}
 use Rattle.block_factor.proofs.cholesky.factor.Tie as tie
 
-returns : tie.Need-returns
+returns : tie.Need-returns-then-skewed
 unfolding factored
 returns c =
-    let x = c.before.before.before.before.before.before.before.args in
-    let g = c.before.before.before.before.top in
-    let t = c.before.before.skewed in
+    let x = c.args in
+    let g = c.top-scale in
+    let t = c.skewed in
     c.refused.ensures
-    ∙ sym (ap (factored x.b.size) (stopped x.first x.b.size (dense x.b.size x.b.a) g.result g.ensures t.result t.ensures c.before.if1.true))
+    ∙ sym (ap (factored x.b.size) (stopped x.first x.b.size (dense x.b.size x.b.a) g.result g.ensures t.result t.ensures c.if-skewed.true))
 
-returns-2 : tie.Need-returns-2
+returns-2 : tie.Need-returns-else-skewed
 returns-2 c =
-    let x = c.before.before.before.before.before.before.before.before.args in
-    let g = c.before.before.before.before.before.top in
-    let t = c.before.before.before.skewed in
-    c.factor_rows_lem.ensures
-    ∙ sym (ap (factored x.b.size) (goes x.first x.b.size (dense x.b.size x.b.a) g.result g.ensures t.result t.ensures c.before.before.if1.false))
+    let x = c.args in
+    let g = c.top-scale in
+    let t = c.skewed in
+    c.factor_rows.ensures
+    ∙ sym (ap (factored x.b.size) (goes x.first x.b.size (dense x.b.size x.b.a) g.result g.ensures t.result t.ensures c.if-skewed.false))
 
-pub factor-spec : {M : Type 1} → statement M
-factor-spec =
+pub factor_spec : {M : Type 1} → statement M
+factor_spec =
     tie.close
     (tie.spec
     (λ c. search rules)

@@ -14,39 +14,39 @@ use borrow.Author.Rules.{rules}
 use Rattle.block_factor.proofs.cholesky.rest.Statement.{statement}
 use Rattle.block_factor.proofs.cholesky.rest.Tie as tie
 
-abbrev invariant-loop : tie.invariant-loop
-invariant-loop a l w i j sum₀ k₀ sum k = (k ≤ j) × (sum ≡ reduced (dense_entry w a i j) (tab (λ k. get_or l (in_block w i k) nan *ᶠ get_or l (in_block w j k) nan) k))
+abbrev invariant-loop-k : tie.invariant-loop-k
+invariant-loop-k a l w i j sum₀ k₀ sum k = (k ≤ j) × (sum ≡ reduced (dense_entry w a i j) (tab (λ k. get_or l (in_block w i k) nan *ᶠ get_or l (in_block w j k) nan) k))
 
-abbrev decreases-loop : tie.decreases-loop
-decreases-loop a l w i j sum₀ k₀ sum k = j - k
+abbrev decreases-loop-k : tie.decreases-loop-k
+decreases-loop-k a l w i j sum₀ k₀ sum k = j - k
 
-loop-holds : tie.Need-loop-init invariant-loop decreases-loop
+loop-holds : tie.Need-loop-k-init invariant-loop-k decreases-loop-k
 loop-holds c =
-    let x = c.before.args in
-    (omega arith, c.given.ensures ∙ reduced_none (dense_entry x.w x.a.now x.i x.j) (λ k. get_or x.l.now (in_block x.w x.i k) nan *ᶠ get_or x.l.now (in_block x.w x.j k) nan))
+    let x = c.args in
+    (omega arith, c.given-sum.ensures ∙ reduced_none (dense_entry x.w x.a.now x.i x.j) (λ k. get_or x.l.now (in_block x.w x.i k) nan *ᶠ get_or x.l.now (in_block x.w x.j k) nan))
 
-loop-again : tie.Need-loop-preserved invariant-loop decreases-loop
+loop-again : tie.Need-loop-k-preserved invariant-loop-k decreases-loop-k
 loop-again c =
-    let x = c.before.before.before.before.before.args in
-    let l = c.before.before.before.loop in (
+    let x = c.args in
+    let l = c.loop-k in (
       omega arith,
-      reduced_more (dense_entry x.w x.a.now x.i x.j) (λ k. get_or x.l.now (in_block x.w x.i k) nan *ᶠ get_or x.l.now (in_block x.w x.j k) nan) l.k l.sum _ (c.before.at.result *ᶠ c.at2.result)
-          l.invariant.1 (rw (c.before.at.ensures, c.at2.ensures)) refl,
+      reduced_more (dense_entry x.w x.a.now x.i x.j) (λ k. get_or x.l.now (in_block x.w x.i k) nan *ᶠ get_or x.l.now (in_block x.w x.j k) nan) l.k l.sum _ (c.at.result *ᶠ c.at-in-loop-k.result)
+          l.invariant.1 (rw (c.at.ensures, c.at-in-loop-k.ensures)) refl,
     )
 
-returns : tie.Need-returns invariant-loop decreases-loop
+returns : tie.Need-returns invariant-loop-k decreases-loop-k
 unfolding rest products
 returns c =
-    let x = c.before.before.before.args in
-    let e : c.before.loop.k ≡ x.j = omega arith in
-    c.before.loop.invariant.1 ∙ ap (λ n. reduced (dense_entry x.w x.a.now x.i x.j) (tab (λ k. get_or x.l.now (in_block x.w x.i k) nan *ᶠ get_or x.l.now (in_block x.w x.j k) nan) n)) e
+    let x = c.args in
+    let e : c.loop-k.k ≡ x.j = omega arith in
+    c.loop-k.invariant.1 ∙ ap (λ n. reduced (dense_entry x.w x.a.now x.i x.j) (tab (λ k. get_or x.l.now (in_block x.w x.i k) nan *ᶠ get_or x.l.now (in_block x.w x.j k) nan) n)) e
 
-pub rest-spec : {M : Type 1} → statement M
-rest-spec =
+pub rest_spec : {M : Type 1} → statement M
+rest_spec =
     tie.close
     (tie.spec
-    invariant-loop
-    decreases-loop
+    invariant-loop-k
+    decreases-loop-k
     (λ c κs. search rules)
     loop-holds
     (λ c κs. search rules)

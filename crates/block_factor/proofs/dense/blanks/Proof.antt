@@ -8,5 +8,5 @@ returns : tie.Need-returns
 unfolding blank
 returns c = refl
 
-pub blanks-spec : {M : Type 1} → statement M
-blanks-spec = tie.close (tie.spec returns)
+pub blanks_spec : {M : Type 1} → statement M
+blanks_spec = tie.close (tie.spec returns)

@@ -11,9 +11,9 @@ use Rattle.block_factor.proofs.dense.given.Tie as tie
 
 returns : tie.Need-returns
 returns c =
-    let a = c.before.args in
-    sym (get_or-take (a.w * a.w) a.a.now (a.i * a.w + a.j) nan (omega (arith, row_inside a.i a.w c.before.requires.0)))
+    let a = c.args in
+    sym (get_or-take (a.w * a.w) a.a.now (a.i * a.w + a.j) nan (omega (arith, row_inside a.i a.w c.requires.0)))
 
-pub given-spec : {M : Type 1} → statement M
-given-spec =
+pub given_spec : {M : Type 1} → statement M
+given_spec =
     tie.close (tie.spec (λ c. omega (arith, row_fits c.args.i c.args.w c.requires.0 c.requires.2)) (λ c. omega (arith, row_fits c.args.i c.args.w c.requires.0 c.requires.2)) (λ c. omega (arith, row_fits c.args.i c.args.w c.requires.0 c.requires.2)) (λ c. omega (arith, row_fits c.args.i c.args.w c.requires.0 c.requires.2)) returns)

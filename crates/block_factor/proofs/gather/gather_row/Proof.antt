@@ -12,50 +12,49 @@ use borrow.Author.Rules.{rules}
 use Rattle.block_factor.proofs.gather.gather_row.Statement.{statement}
 use Rattle.block_factor.proofs.gather.gather_row.Tie as tie
 
-abbrev invariant-loop : tie.invariant-loop
-invariant-loop col-idx values from to first row₀ k₀ row k = (from ≤ k) × (k ≤ to) × (length row ≡ length row₀) × (row ≡ tab (sum_at col-idx values from k first) (length row₀))
+abbrev invariant-loop-k : tie.invariant-loop-k
+invariant-loop-k col-idx values from to first row₀ k₀ row k = (from ≤ k) × (k ≤ to) × (length row ≡ length row₀) × (row ≡ tab (sum_at col-idx values from k first) (length row₀))
 
-abbrev decreases-loop : tie.decreases-loop
-decreases-loop col-idx values from to first row₀ k₀ row k = to - k
+abbrev decreases-loop-k : tie.decreases-loop-k
+decreases-loop-k col-idx values from to first row₀ k₀ row k = to - k
 
-loop-holds : tie.Need-loop-init invariant-loop decreases-loop
+loop-holds : tie.Need-loop-k-init invariant-loop-k decreases-loop-k
 loop-holds c =
-    let x = c.before.before.before.args in
-    (omega arith, omega arith, refl, gather_none x.col-idx.now x.values.now x.from x.first x.row.now c.before.before.before.requires.1)
+    let x = c.args in
+    (omega arith, omega arith, refl, gather_none x.col_idx.now x.values.now x.from x.first x.row.now c.requires.1)
 
-loop-again : tie.Need-loop-preserved invariant-loop decreases-loop
+loop-again : tie.Need-loop-k-preserved invariant-loop-k decreases-loop-k
 loop-again c =
-    let s = c.before.before.before.before.before.before.before.before in
-    let x = s.args in
-    let l = c.before.before.before.before.loop in
+    let x = c.args in
+    let l = c.loop-k in
     let n = length x.row.now in
-    let i = x.col-idx.now in
+    let i = x.col_idx.now in
     let v = x.values.now in
-    let h : l.k < length i = omega (arith, s.requires.0.2) in
-    let t = c.before.wide in
+    let h : l.k < length i = omega (arith, c.requires.0.2) in
+    let t = c.wide-c in
     let m : length l.row ≡ n = l.invariant.2 in
-    entry_passed (sum_at i v x.from (l.k + 1) x.first) n x.from l.k x.to c.if1.row l.invariant.0 (omega arith)
+    entry_passed (sum_at i v x.from (l.k + 1) x.first) n x.from l.k x.to c.if-first-c.row l.invariant.0 (omega arith)
     (⊎_elim
-    (λ w. gather_hit i v x.from x.first l.k l.invariant.0 h s.requires.0.2 n l.row c.if1.row l.invariant.3 (t.result - x.first) (omega (arith, w.1.taken)) (sym t.ensures ∙ omega (arith, w.0.taken)) w.4)
+    (λ w. gather_hit i v x.from x.first l.k l.invariant.0 h c.requires.0.2 n l.row c.if-first-c.row l.invariant.3 (t.result - x.first) (omega (arith, w.1.taken)) (sym t.ensures ∙ omega (arith, w.0.taken)) w.4)
     (λ w'. ⊎_elim
-    (λ w. gather_miss i v x.from x.first l.k l.invariant.0 h s.requires.0.2 n l.row c.if1.row l.invariant.3 w.2 (λ j q e. omega (arith, w.0.taken, w.1.left, t.ensures ∙ e)))
-    (λ w. gather_miss i v x.from x.first l.k l.invariant.0 h s.requires.0.2 n l.row c.if1.row l.invariant.3 w.1 (λ j q e. omega (arith, w.0.left, t.ensures ∙ e)))
+    (λ w. gather_miss i v x.from x.first l.k l.invariant.0 h c.requires.0.2 n l.row c.if-first-c.row l.invariant.3 w.2 (λ j q e. omega (arith, w.0.taken, w.1.left, t.ensures ∙ e)))
+    (λ w. gather_miss i v x.from x.first l.k l.invariant.0 h c.requires.0.2 n l.row c.if-first-c.row l.invariant.3 w.1 (λ j q e. omega (arith, w.0.left, t.ensures ∙ e)))
     w')
-    c.if1.branch)
+    c.if-first-c.branch)
 
-returns : tie.Need-returns invariant-loop decreases-loop
+returns : tie.Need-returns invariant-loop-k decreases-loop-k
 returns c =
-    let x = c.before.before.before.before.before.args in
-    let l = c.before.loop in
+    let x = c.args in
+    let l = c.loop-k in
     let e : l.k ≡ x.to = omega arith in
-    l.invariant.3 ∙ ap (λ m. tab (sum_at x.col-idx.now x.values.now x.from m x.first) (length x.row.now)) e
+    l.invariant.3 ∙ ap (λ m. tab (sum_at x.col_idx.now x.values.now x.from m x.first) (length x.row.now)) e
 
-pub gather-row-spec : {M : Type 1} → statement M
-gather-row-spec =
+pub gather_row_spec : {M : Type 1} → statement M
+gather_row_spec =
     tie.close
     (tie.spec
-    invariant-loop
-    decreases-loop
+    invariant-loop-k
+    decreases-loop-k
     loop-holds
     (λ c. search rules)
     (λ c. search rules)
@@ -68,5 +67,5 @@ gather-row-spec =
     (λ c. search rules)
     (λ c. omega arith)
     loop-again
-    (λ c. let l = c.before.loop in l.invariant.2)
+    (λ c. let l = c.loop-k in l.invariant.2)
     returns)

@@ -4,7 +4,7 @@ use Rattle.block_factor.proofs.symmetry.apart.Statement.{statement}
 use Rattle.block_factor.proofs.symmetry.apart.Tie as tie
 
 returns : tie.Need-returns
-returns c = rw (c.magnitude.ensures, c.before.given2.ensures, c.before.before.given.ensures)
+returns c = rw (c.magnitude-d.ensures, c.given-2.ensures, c.given.ensures)
 
-pub apart-spec : {M : Type 1} → statement M
-apart-spec = tie.close (tie.spec (λ c κs. search rules) (λ c κs. search rules) (λ c κs. search rules) returns)
+pub apart_spec : {M : Type 1} → statement M
+apart_spec = tie.close (tie.spec (λ c κs. search rules) (λ c κs. search rules) (λ c κs. search rules) returns)

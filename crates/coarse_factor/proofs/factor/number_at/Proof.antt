@@ -6,9 +6,9 @@ use borrow.Author.Rules.{rules}
 use Rattle.coarse_factor.proofs.factor.number_at.Statement.{statement}
 use Rattle.coarse_factor.proofs.factor.number_at.Tie as tie
 
-returns-2 : tie.Need-returns-2
+returns-2 : tie.Need-returns
 unfolding div of_bits
-returns-2 c = sym (get_or-eq_default c.before.args.m.now nan (omega arith))
+returns-2 c = sym (get_or-eq_default c.args.m.now nan (omega arith))
 
-pub number-at-spec : {M : Type 1} → statement M
-number-at-spec = tie.close (tie.spec (λ c. search rules) (λ c. search rules) (λ c. search rules) returns-2)
+pub number_at_spec : {M : Type 1} → statement M
+number_at_spec = tie.close (tie.spec (λ c. search rules) (λ c. search rules) (λ c. search rules) returns-2)

@@ -10,30 +10,30 @@ use borrow.Author.Rules.{rules}
 use Rattle.coarse_factor.proofs.factor.put_eight.Statement.{statement}
 use Rattle.coarse_factor.proofs.factor.put_eight.Tie as tie
 
-abbrev invariant-loop : tie.invariant-loop
-invariant-loop w₀ at x pivot r₀ w r = (r ≤ 8) × Put (λ t. get_or x t nan /ᶠ pivot) at r w₀ w
+abbrev invariant-loop-r : tie.invariant-loop-r
+invariant-loop-r w₀ at x pivot r₀ w r = (r ≤ 8) × Put (λ t. get_or x t nan /ᶠ pivot) at r w₀ w
 
-abbrev decreases-loop : tie.decreases-loop
-decreases-loop w₀ at x pivot r₀ w r = 8 - r
+abbrev decreases-loop-r : tie.decreases-loop-r
+decreases-loop-r w₀ at x pivot r₀ w r = 8 - r
 
-loop-holds : tie.Need-loop-init invariant-loop decreases-loop
+loop-holds : tie.Need-loop-r-init invariant-loop-r decreases-loop-r
 loop-holds c = (omega arith, put_none (λ t. get_or c.args.x.now t nan /ᶠ c.args.pivot) c.args.at c.args.w.now)
 
-loop-again : tie.Need-loop-preserved invariant-loop decreases-loop
+loop-again : tie.Need-loop-r-preserved invariant-loop-r decreases-loop-r
 loop-again c =
-    let a = c.before.before.before.args in
-    let o = c.before.before.loop in
+    let a = c.args in
+    let o = c.loop-r in
     (omega arith, put_more (λ t. get_or a.x.now t nan /ᶠ a.pivot) a.at o.r a.w.now o.w (omega arith) o.invariant.1)
 
-returns : tie.Need-returns invariant-loop decreases-loop
-returns c = let e : c.before.loop.r ≡ 8 = omega arith in rw e at c.before.loop.invariant.1
+returns : tie.Need-returns invariant-loop-r decreases-loop-r
+returns c = let e : c.loop-r.r ≡ 8 = omega arith in rw e at c.loop-r.invariant.1
 
-pub put-eight-spec : {M : Type 1} → statement M
-put-eight-spec =
+pub put_eight_spec : {M : Type 1} → statement M
+put_eight_spec =
     tie.close
     (tie.spec
-    invariant-loop
-    decreases-loop
+    invariant-loop-r
+    decreases-loop-r
     loop-holds
     (λ c. search rules)
     (λ c. search rules)

@@ -8,33 +8,33 @@ use borrow.Author.Rules.{rules}
 use Rattle.coarse_factor.proofs.factor.renew.Statement.{statement}
 use Rattle.coarse_factor.proofs.factor.renew.Tie as tie
 
-abbrev invariant-loop : tie.invariant-loop
-invariant-loop m l w₀ c i n j₀ w j = (j ≤ i + 1) × (length w ≡ 16_384) × Fronts (entry_in m c) l w i j
+abbrev invariant-loop-j : tie.invariant-loop-j
+invariant-loop-j m l w₀ c i n j₀ w j = (j ≤ i + 1) × (length w ≡ 16_384) × Fronts (entry_in m c) l w i j
 
-abbrev decreases-loop : tie.decreases-loop
-decreases-loop m l w₀ c i n j₀ w j = i - j
+abbrev decreases-loop-j : tie.decreases-loop-j
+decreases-loop-j m l w₀ c i n j₀ w j = i - j
 
-returns : tie.Need-returns invariant-loop decreases-loop
-returns c = let p = c.before.before.before.requires in (p.1, c.if1.true, p.4, p.5)
+returns : tie.Need-returns-then-i-n invariant-loop-j decreases-loop-j
+returns c = let p = c.requires in (p.1, c.if-i-n.true, p.4, p.5)
 
-loop-holds : tie.Need-loop-init invariant-loop decreases-loop
-loop-holds c = (omega arith, c.before.before.before.requires.4, λ k r h. absurd (omega arith))
+loop-holds : tie.Need-loop-j-init invariant-loop-j decreases-loop-j
+loop-holds c = (omega arith, c.requires.4, λ k r h. absurd (omega arith))
 
-put-columns-requires : tie.Need-put-columns-requires invariant-loop decreases-loop
-put-columns-requires c κs = let p = c.before.before.before.before.before.before.requires in (omega arith, omega arith, p.3, p.2, c.before.before.loop.invariant.1)
+put-columns-requires : tie.Need-put_columns-requires invariant-loop-j decreases-loop-j
+put-columns-requires c κs = let p = c.requires in (omega arith, omega arith, p.3, p.2, c.loop-j.invariant.1)
 
-loop-again : tie.Need-loop-preserved invariant-loop decreases-loop
-loop-again c = (omega arith, c.put-columns.ensures.0, c.put-columns.ensures.1 c.before.before.before.loop.invariant.2)
+loop-again : tie.Need-loop-j-preserved invariant-loop-j decreases-loop-j
+loop-again c = (omega arith, c.put_columns.ensures.0, c.put_columns.ensures.1 c.loop-j.invariant.2)
 
-returns-2 : tie.Need-returns-2 invariant-loop decreases-loop
-returns-2 c = let o = c.before.loop in (omega arith, omega arith, o.invariant.1, λ k r h. o.invariant.2 k r (omega arith))
+returns-2 : tie.Need-returns invariant-loop-j decreases-loop-j
+returns-2 c = let o = c.loop-j in (omega arith, omega arith, o.invariant.1, λ k r h. o.invariant.2 k r (omega arith))
 
-pub renew-spec : {M : Type 1} → statement M
-renew-spec =
+pub renew_spec : {M : Type 1} → statement M
+renew_spec =
     tie.close
     (tie.spec
-    invariant-loop
-    decreases-loop
+    invariant-loop-j
+    decreases-loop-j
     (λ c. search rules)
     returns
     loop-holds

@@ -12,46 +12,44 @@ use borrow.Author.Rules.{rules}
 use Rattle.coarse_inverse.proofs.inverse.invert.Statement.{statement}
 use Rattle.coarse_inverse.proofs.inverse.invert.Tie as tie
 
-abbrev invariant-loop : tie.invariant-loop
-invariant-loop c lower inverse₀ safe w₀ from to i₀ inverse w i = (i ≤ c) × (length w ≡ 32_768) × (length inverse ≡ length inverse₀) × (inverse ≡ solved_rows c lower i ++ drop (i * c) inverse₀)
+abbrev invariant-loop-i : tie.invariant-loop-i
+invariant-loop-i c lower inverse₀ safe w₀ from to i₀ inverse w i = (i ≤ c) × (length w ≡ 32_768) × (length inverse ≡ length inverse₀) × (inverse ≡ solved_rows c lower i ++ drop (i * c) inverse₀)
 
-abbrev decreases-loop : tie.decreases-loop
-decreases-loop c lower inverse₀ safe w₀ from to i₀ inverse w i = c - i
+abbrev decreases-loop-i : tie.decreases-loop-i
+decreases-loop-i c lower inverse₀ safe w₀ from to i₀ inverse w i = c - i
 
-loop-holds : tie.Need-loop-init invariant-loop decreases-loop
-loop-holds c = let a = c.before.before.before.args in (omega arith, refl, refl, solved_none a.c a.lower.now a.inverse.now)
+loop-holds : tie.Need-loop-i-init invariant-loop-i decreases-loop-i
+loop-holds c = let a = c.args in (omega arith, refl, refl, solved_none a.c a.lower.now a.inverse.now)
 
-solve-rows-requires : tie.Need-solve-rows-requires invariant-loop decreases-loop
+solve-rows-requires : tie.Need-solve_rows-requires invariant-loop-i decreases-loop-i
 solve-rows-requires c κs =
-    let s = c.before.before.before.before.before.before.before.before.before in
-    let o = c.before.before.before.before.before.loop in
-    let n = c.before.before.before.lanes-of.ensures in
-    let f = c.before.before.first_row_lem.ensures in (
-      (n.0, omega arith, s.requires.2, front_length o.w (s.args.c * 16) (omega (arith, o.invariant.1)), s.requires.0, omega (arith, s.requires.1, o.invariant.2)),
-      (f.0, λ h. c.before.before.before.before.before.before.regular.ensures (f.1 h)),
+    let o = c.loop-i in
+    let n = c.lanes_of-n.ensures in
+    let f = c.first_row-first.ensures in (
+      (n.0, omega arith, c.requires.2, front_length o.w (c.args.c * 16) (omega (arith, o.invariant.1)), c.requires.0, omega (arith, c.requires.1, o.invariant.2)),
+      (f.0, λ h. c.regular-safe.ensures (f.1 h)),
     )
 
-loop-again : tie.Need-loop-preserved invariant-loop decreases-loop
+loop-again : tie.Need-loop-i-preserved invariant-loop-i decreases-loop-i
 loop-again c =
-    let a = c.before.before.before.before.before.before.before.before.before.before.before.before.before.args in
-    let o = c.before.before.before.before.before.before.before.before.before.loop in
-    let n = c.before.before.before.before.before.before.before.lanes-of.ensures in
-    let r = c.before.before.before.solve-rows in
-    (omega arith, length_front o.w r.new.1.1.0 (a.c * 16 - 0) r.auto.1.1.0 ∙ o.invariant.1, r.auto.1.1.1.0 ∙ o.invariant.2, r.ensures a.inverse.now o.invariant.3)
+    let a = c.args in
+    let o = c.loop-i in
+    let n = c.lanes_of-n.ensures in
+    let r = c.solve_rows in
+    (omega arith, length_front o.w r.new.w (a.c * 16 - 0) r.auto.w ∙ o.invariant.1, r.auto.inverse ∙ o.invariant.2, r.ensures a.inverse.now o.invariant.3)
 
-returns : tie.Need-returns invariant-loop decreases-loop
+returns : tie.Need-returns invariant-loop-i decreases-loop-i
 returns c =
-    let s = c.before.before.before.before.before.before.before.before.before in
-    let o = c.before.before.before.before.before.loop in
-    let e : o.i ≡ s.args.c = omega arith in
-    invert_law s.args.c s.args.lower.now s.args.inverse.now o.inverse c.before.before.average.new.1.0 s.requires.2 s.requires.1 (rw e at o.invariant.3) c.before.before.average.ensures.1
+    let o = c.loop-i in
+    let e : o.i ≡ c.args.c = omega arith in
+    invert_law c.args.c c.args.lower.now c.args.inverse.now o.inverse c.average.new.m c.requires.2 c.requires.1 (rw e at o.invariant.3) c.average.ensures.1
 
-pub invert-spec : {M : Type 1} → statement M
-invert-spec =
+pub invert_spec : {M : Type 1} → statement M
+invert_spec =
     tie.close
     (tie.spec
-    invariant-loop
-    decreases-loop
+    invariant-loop-i
+    decreases-loop-i
     (λ c κs. search rules)
     (λ c. omega arith)
     loop-holds
@@ -61,10 +59,10 @@ invert-spec =
     (λ c. omega arith)
     (λ c. omega arith)
     (λ c. omega arith)
-    (λ c. omega (arith, c.before.before.before.loop.invariant.1))
+    (λ c. omega (arith, c.loop-i.invariant.1))
     solve-rows-requires
     (λ c. omega arith)
-    (λ c. omega (arith, c.before.before.before.before.before.before.before.lanes-of.ensures.2 (omega arith)))
+    (λ c. omega (arith, c.lanes_of-n.ensures.2 (omega arith)))
     loop-again
     (λ c κs. search rules)
     (λ c. search rules)

@@ -13,45 +13,44 @@ use borrow.Author.Rules.{rules}
 use Rattle.coarse_inverse.proofs.inverse.regular.Statement.{statement}
 use Rattle.coarse_inverse.proofs.inverse.regular.Tie as tie
 
-abbrev invariant-loop : tie.invariant-loop
-invariant-loop l c k₀ k = (k ≤ length l) × ((j : ℕ) → j < k → finite (get_or l j nan) ≡ true)
+abbrev invariant-loop-k : tie.invariant-loop-k
+invariant-loop-k l c k₀ k = (k ≤ length l) × ((j : ℕ) → j < k → finite (get_or l j nan) ≡ true)
 
-abbrev decreases-loop : tie.decreases-loop
-decreases-loop l c k₀ k = length l - k
+abbrev decreases-loop-k : tie.decreases-loop-k
+decreases-loop-k l c k₀ k = length l - k
 
-abbrev invariant-loop2 : tie.invariant-loop2
-invariant-loop2 l c k start₀ i₀ start i = (i ≤ c) × (start ≡ packed_length i) × ((j : ℕ) → j < i → lt zeroᶠ (packed_entry l j j) ≡ true)
+abbrev invariant-loop-i : tie.invariant-loop-i
+invariant-loop-i l c k start₀ i₀ start i = (i ≤ c) × (start ≡ packed_length i) × ((j : ℕ) → j < i → lt zeroᶠ (packed_entry l j j) ≡ true)
 
-abbrev decreases-loop2 : tie.decreases-loop2
-decreases-loop2 l c k start₀ i₀ start i = c - i
+abbrev decreases-loop-i : tie.decreases-loop-i
+decreases-loop-i l c k start₀ i₀ start i = c - i
 
-loop-again : tie.Need-loop-preserved invariant-loop decreases-loop invariant-loop2 decreases-loop2
+loop-again : tie.Need-loop-k-preserved invariant-loop-k decreases-loop-k invariant-loop-i decreases-loop-i
 loop-again c =
-    let o = c.before.before.before.before.loop in
-    let l = c.before.before.before.before.before.before.args.l.now in
-    (omega arith, upto (λ j. finite (get_or l j nan) ≡ true) o.k o.invariant.1 (sym c.before.finite.ensures ∙ c.if1.true))
+    let o = c.loop-k in
+    let l = c.args.l.now in
+    (omega arith, upto (λ j. finite (get_or l j nan) ≡ true) o.k o.invariant.1 (sym c.finite.ensures ∙ c.if-finite.true))
 
 -- row i lies within the factor
-room : (c : tie.In-loop2 invariant-loop decreases-loop invariant-loop2 decreases-loop2) → (c.before.loop2.start + suc c.before.loop2.i ≤ length c.before.before.before.before.before.args.l.now) × (length c.before.before.before.before.before.args.l.now < 2_098_177)
+room : (c : tie.In-loop-i invariant-loop-k decreases-loop-k invariant-loop-i decreases-loop-i) → (c.loop-i.start + suc c.loop-i.i ≤ length c.args.l.now) × (length c.args.l.now < 2_098_177)
 room c =
-    let o = c.before.loop2 in
-    let s = c.before.before.before.before.before in
-    (rw (s.requires.0, o.invariant.1) (tri_row o.i s.args.c (omega arith)), omega (arith, s.requires.0, triangle_small s.args.c s.requires.1))
+    let o = c.loop-i in
+    (rw (c.requires.0, o.invariant.1) (tri_row o.i c.args.c (omega arith)), omega (arith, c.requires.0, triangle_small c.args.c c.requires.1))
 
-loop2-again : tie.Need-loop2-preserved invariant-loop decreases-loop invariant-loop2 decreases-loop2
+loop2-again : tie.Need-loop-i-preserved invariant-loop-k decreases-loop-k invariant-loop-i decreases-loop-i
 loop2-again c =
-    let o = c.before.before.before.loop2 in
-    let l = c.before.before.before.before.before.before.before.args.l.now in
-    (omega arith, tri_next o.start o.i o.invariant.1, upto (λ i. lt zeroᶠ (packed_entry l i i) ≡ true) o.i o.invariant.2 (rw (← o.invariant.1) c.if2.true))
+    let o = c.loop-i in
+    let l = c.args.l.now in
+    (omega arith, tri_next o.start o.i o.invariant.1, upto (λ i. lt zeroᶠ (packed_entry l i i) ≡ true) o.i o.invariant.2 (rw (← o.invariant.1) c.if-l-start.true))
 
-pub regular-spec : {M : Type 1} → statement M
-regular-spec =
+pub regular_spec : {M : Type 1} → statement M
+regular_spec =
     tie.close
     (tie.spec
-    invariant-loop
-    decreases-loop
-    invariant-loop2
-    decreases-loop2
+    invariant-loop-k
+    decreases-loop-k
+    invariant-loop-i
+    decreases-loop-i
     (λ c. (omega arith, λ j h. absurd (omega arith)))
     (λ c. search rules)
     (λ c. search rules)
@@ -70,4 +69,4 @@ regular-spec =
     (λ c. omega arith)
     loop2-again
     (λ c e. absurd (true≢false (sym e)))
-    (λ c e. record { real = λ k h. c.before.before.before.loop.invariant.1 k (omega arith); positive = λ i h. c.before.loop2.invariant.2 i (omega arith) }))
+    (λ c e. record { real = λ k h. c.loop-k.invariant.1 k (omega arith); positive = λ i h. c.loop-i.invariant.2 i (omega arith) }))

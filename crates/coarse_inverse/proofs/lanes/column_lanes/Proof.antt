@@ -14,33 +14,30 @@ use Rattle.coarse_inverse.proofs.lanes.col_lanes.Reads as col-lanes-reads
 use Rattle.coarse_inverse.proofs.lanes.row_lanes.Reads as row-lanes-reads
 
 -- row i ends within the factor
-room : (c : lts.Else1 (row-lanes-reads.Asked, row-lanes-reads.Learnt, col-lanes-reads.Asked, col-lanes-reads.Learnt) reads.Pre reads.Post) → (c.before.before.before.before.args.i < c.before.before.before.before.args.end) × (c.before.before.before.before.args.end ≤ length c.before.before.before.before.args.l.now) × (length c.before.before.before.before.args.l.now < 2_098_177)
+room : (c : lts.Else-known (row-lanes-reads.Asked, row-lanes-reads.Learnt, col-lanes-reads.Asked, col-lanes-reads.Learnt) reads.Pre reads.Post) → (c.args.i < c.args.end) × (c.args.end ≤ length c.args.l.now) × (length c.args.l.now < 2_098_177)
 room c =
-    let s = c.before.before.before.before in
-    rw s.requires.0.4 (end_room s.args.end s.args.i s.args.c s.requires.0.0 s.requires.0.1 s.requires.0.3)
+    rw c.requires.0.4 (end_room c.args.end c.args.i c.args.c c.requires.0.0 c.requires.0.1 c.requires.0.3)
 
-returns : tie.Need-returns
+returns : tie.Need-returns-then-known
 returns c =
-    let s = c.before.before.before.before.before.before in
-    let a = s.args in
-    let known = c.before.before.if1.true in
-    (c.row-lanes.ensures ∙ sums_kept 16 a.l.now a.kept.now a.w.now a.i a.c (s.requires.1 known), (refl, λ e. absurd (true≢false (sym known ∙ e))))
+    let a = c.args in
+    let known = c.if-known.true in
+    (c.row_lanes.ensures ∙ sums_kept 16 a.l.now a.kept.now a.w.now a.i a.c (c.requires.1 known), (refl, λ e. absurd (true≢false (sym known ∙ e))))
 
-returns-2 : tie.Need-returns-2
+returns-2 : tie.Need-returns-then-i-gt0
 returns-2 c =
-    let s = c.before.before.before.before.before.before.before.before.before.before in
-    let a = s.args in
-    let d = c.before.before.before.before.col-lanes in
+    let a = c.args in
+    let d = c.col_lanes-sums in
     let k = d.ensures.1 in
-    (d.ensures.0, (simp length-set k.long, λ e h. kept_column a.l.now a.kept.now d.new.1.1.1.1.1.0 a.i a.c a.end h (omega arith) s.requires.0.3 k))
+    (d.ensures.0, (simp length-set k.long, λ e h. kept_column a.l.now a.kept.now d.new.kept a.i a.c a.end h (omega arith) c.requires.0.3 k))
 
-returns-3 : tie.Need-returns-3
+returns-3 : tie.Need-returns-else-i-gt0
 returns-3 c =
-    let d = c.before.before.before.col-lanes in
+    let d = c.col_lanes-sums in
     (d.ensures.0, (d.ensures.1.long, λ e h. absurd (omega arith)))
 
-pub column-lanes-spec : {M : Type 1} → statement M
-column-lanes-spec =
+pub column_lanes_spec : {M : Type 1} → statement M
+column_lanes_spec =
     tie.close
     (tie.spec
     (λ c. search rules)

@@ -8,31 +8,30 @@ use Rattle.coarse_inverse.proofs.Sides.{put_more}
 use Rattle.coarse_inverse.proofs.lanes.put_lanes.Statement.{statement}
 use Rattle.coarse_inverse.proofs.lanes.put_lanes.Tie as tie
 
-abbrev invariant-loop : tie.invariant-loop
-invariant-loop w₀ at pivot sums r₀ w r = (r ≤ 16) × (length w ≡ length w₀) × (w ≡ paste w₀ at (lanes_less 16 w₀ at sums pivot) r)
+abbrev invariant-loop-r : tie.invariant-loop-r
+invariant-loop-r w₀ at pivot sums r₀ w r = (r ≤ 16) × (length w ≡ length w₀) × (w ≡ paste w₀ at (lanes_less 16 w₀ at sums pivot) r)
 
-abbrev decreases-loop : tie.decreases-loop
-decreases-loop w₀ at pivot sums r₀ w r = 16 - r
+abbrev decreases-loop-r : tie.decreases-loop-r
+decreases-loop-r w₀ at pivot sums r₀ w r = 16 - r
 
-loop-holds : tie.Need-loop-init invariant-loop decreases-loop
+loop-holds : tie.Need-loop-r-init invariant-loop-r decreases-loop-r
 loop-holds c = let a = c.args in (omega arith, refl, paste-zero a.w.now a.at (lanes_less 16 a.w.now a.at a.t3 a.pivot))
 
-loop-again : tie.Need-loop-preserved invariant-loop decreases-loop
+loop-again : tie.Need-loop-r-preserved invariant-loop-r decreases-loop-r
 loop-again c =
-    let s = c.before.before.before in
-    let a = s.args in
-    let o = c.before.before.loop in
-    (omega arith, simp length-set o.invariant.1, put_more 16 a.w.now a.at a.t3 a.pivot o.r o.w (omega arith) s.requires o.invariant.2)
+    let a = c.args in
+    let o = c.loop-r in
+    (omega arith, simp length-set o.invariant.1, put_more 16 a.w.now a.at a.t3 a.pivot o.r o.w (omega arith) c.requires o.invariant.2)
 
-returns : tie.Need-returns invariant-loop decreases-loop
-returns c = let e : c.before.loop.r ≡ 16 = omega arith in rw e at c.before.loop.invariant.2
+returns : tie.Need-returns invariant-loop-r decreases-loop-r
+returns c = let e : c.loop-r.r ≡ 16 = omega arith in rw e at c.loop-r.invariant.2
 
-pub put-lanes-spec : {M : Type 1} → statement M
-put-lanes-spec =
+pub put_lanes_spec : {M : Type 1} → statement M
+put_lanes_spec =
     tie.close
     (tie.spec
-    invariant-loop
-    decreases-loop
+    invariant-loop-r
+    decreases-loop-r
     loop-holds
     (λ c. omega arith)
     (λ c. omega arith)
@@ -45,5 +44,5 @@ put-lanes-spec =
     (λ c. omega arith)
     (λ c. omega arith)
     loop-again
-    (λ c. c.before.loop.invariant.1)
+    (λ c. c.loop-r.invariant.1)
     returns)

@@ -12,27 +12,27 @@ use borrow.Author.Rules.{rules}
 use Rattle.coarse_solve.proofs.solve.col_dot.Statement.{statement}
 use Rattle.coarse_solve.proofs.solve.col_dot.Tie as tie
 
-abbrev invariant-loop : tie.invariant-loop
-invariant-loop l y i first kept₀ sum₀ at₀ j₀ j-end kept sum at j = (suc i ≤ j) × (j ≤ j-end) × (j-end ≡ length y) × (at ≡ packed j i) × (sum ≡ col_sum l y i (j - suc i)) × KeptBefore l i j kept₀ kept
+abbrev invariant-loop-j : tie.invariant-loop-j
+invariant-loop-j l y i first kept₀ sum₀ at₀ j₀ j-end kept sum at j = (suc i ≤ j) × (j ≤ j-end) × (j-end ≡ length y) × (at ≡ packed j i) × (sum ≡ col_sum l y i (j - suc i)) × KeptBefore l i j kept₀ kept
 
-abbrev decreases-loop : tie.decreases-loop
-decreases-loop l y i first kept₀ sum₀ at₀ j₀ j-end kept sum at j = j-end - j
+abbrev decreases-loop-j : tie.decreases-loop-j
+decreases-loop-j l y i first kept₀ sum₀ at₀ j₀ j-end kept sum at j = j-end - j
 
-room : (c : tie.In-loop invariant-loop decreases-loop) → (0 < c.before.loop.at) × (c.before.loop.at < length c.before.before.args.l.now) × (length c.before.before.args.l.now < 2_098_177)
+room : (c : tie.In-loop-j invariant-loop-j decreases-loop-j) → (0 < c.loop-j.at) × (c.loop-j.at < length c.args.l.now) × (length c.args.l.now < 2_098_177)
 room c =
-    let p = c.before.before.requires in
-    let o = c.before.loop in
-    rw p.2 (walk_room o.at c.before.before.args.i o.j (length c.before.before.args.y.now) o.invariant.0 (omega arith) p.4 o.invariant.3)
+    let p = c.requires in
+    let o = c.loop-j in
+    rw p.2 (walk_room o.at c.args.i o.j (length c.args.y.now) o.invariant.0 (omega arith) p.4 o.invariant.3)
 
-loop-holds : tie.Need-loop-init invariant-loop decreases-loop
+loop-holds : tie.Need-loop-j-init invariant-loop-j decreases-loop-j
 loop-holds c =
     let a = c.args in
     (omega arith, omega arith, refl, c.requires.1, col_none a.l.now a.y.now a.i, kept_none a.l.now a.kept.now a.i)
 
-loop-again : tie.Need-loop-preserved invariant-loop decreases-loop
+loop-again : tie.Need-loop-j-preserved invariant-loop-j decreases-loop-j
 loop-again c =
-    let a = c.before.before.before.before.before.args in
-    let o = c.before.before.before.before.loop in (
+    let a = c.args in
+    let o = c.loop-j in (
       omega arith,
       omega arith,
       o.invariant.2,
@@ -41,25 +41,25 @@ loop-again c =
       kept_more a.l.now a.kept.now o.auto a.i o.j o.at (omega arith) o.invariant.3 o.invariant.5,
     )
 
-returns : tie.Need-returns invariant-loop decreases-loop
+returns : tie.Need-returns invariant-loop-j decreases-loop-j
 returns c =
-    let o = c.before.loop in
-    let e : o.j ≡ length c.before.before.args.y.now = omega arith in
+    let o = c.loop-j in
+    let e : o.j ≡ length c.args.y.now = omega arith in
     (rw e at o.invariant.4, rw e at o.invariant.5)
 
-pub col-dot-spec : {M : Type 1} → statement M
-col-dot-spec =
+pub col_dot_spec : {M : Type 1} → statement M
+col_dot_spec =
     tie.close
     (tie.spec
-    invariant-loop
-    decreases-loop
+    invariant-loop-j
+    decreases-loop-j
     (λ c. search rules)
     loop-holds
     (λ c. omega (arith, room c))
     (λ c. omega (arith, room c))
     (λ c. omega (arith, room c.before))
     (λ c. omega arith)
-    (λ c. omega (arith, c.before.before.loop.invariant.5.long))
+    (λ c. omega (arith, c.loop-j.invariant.5.long))
     (λ c. omega (arith, room c.before))
     (λ c. omega (arith, room c.before.before))
     (λ c. search rules)
@@ -69,5 +69,5 @@ col-dot-spec =
     (λ c. search rules)
     (λ c. omega arith)
     loop-again
-    (λ c. c.before.loop.invariant.5.long)
+    (λ c. c.loop-j.invariant.5.long)
     returns)

@@ -8,8 +8,8 @@ use borrow.Author.Rules.{rules}
 use Rattle.coarse_solve.proofs.solve.row_dot.Statement.{statement}
 use Rattle.coarse_solve.proofs.solve.row_dot.Tie as tie
 
-row-more-requires : tie.Need-row-more-requires
-row-more-requires c κs = let a = c.before.before.args in (omega arith, omega arith, omega arith, summed_none (λ k. get_or a.l.now (a.start + k) nan *ᶠ get_or a.y.now k nan))
+row-more-requires : tie.Need-row_more-requires
+row-more-requires c κs = let a = c.args in (omega arith, omega arith, omega arith, summed_none (λ k. get_or a.l.now (a.start + k) nan *ᶠ get_or a.y.now k nan))
 
-pub row-dot-spec : {M : Type 1} → statement M
-row-dot-spec = tie.close (tie.spec row-more-requires (λ c. search rules))
+pub row_dot_spec : {M : Type 1} → statement M
+row_dot_spec = tie.close (tie.spec row-more-requires (λ c. search rules))

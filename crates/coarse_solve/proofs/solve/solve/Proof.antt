@@ -8,17 +8,16 @@ use Rattle.coarse_solve.proofs.solve.solve.Tie as tie
 
 backward-requires : tie.Need-backward-requires
 backward-requires c κs =
-    let s = c.before.before.before.before.before.before.before in
-    let f = c.before.before.before.forward in
-    let e : length f.new.1.0 ≡ length s.args.y.now = ap length f.ensures ∙ length_forward s.args.l.now s.args.y.now (length s.args.y.now) in
-    rw e s.requires
+    let f = c.forward in
+    let e : length f.new.y ≡ length c.args.y.now = ap length f.ensures ∙ length_forward c.args.l.now c.args.y.now (length c.args.y.now) in
+    rw e c.requires
 
 returns : tie.Need-returns
 returns c =
-    let a = c.before.before.before.before.before.before.before.before.before.before.args in
-    let f = c.before.before.before.before.before.before.forward in
-    let b = c.before.before.backward in
-    solve_law a.l.now a.y.now f.new.1.0 b.new.1.0 f.ensures b.ensures
+    let a = c.args in
+    let f = c.forward in
+    let b = c.backward in
+    solve_law a.l.now a.y.now f.new.y b.new.y f.ensures b.ensures
 
-pub solve-spec : {M : Type 1} → statement M
-solve-spec = tie.close (tie.spec (λ c κs. search rules) backward-requires (λ c. search rules) returns)
+pub solve_spec : {M : Type 1} → statement M
+solve_spec = tie.close (tie.spec (λ c κs. search rules) backward-requires (λ c. search rules) returns)

@@ -12,18 +12,18 @@ use Rattle.coarse_solve.proofs.stored.by_factor.Tie as tie
 
 solve-requires : tie.Need-solve-requires
 solve-requires c κs =
-    let a = c.before.before.before.args in
-    let p = c.before.before.before.requires in
+    let a = c.args in
+    let p = c.requires in
     let n = front_length a.work.now a.c (omega arith) in
     (p.0 ∙ ap (λ t. packed_length t) (sym n), omega (arith, n))
 
 returns : tie.Need-returns
 returns c =
-    let a = c.before.before.before.before.before.before.before.before.before.before.args in
-    factor_law a.c a.part.now a.work.now c.before.before.before.before.before.before.solve.new.1.0 c.before.before.zero-floats.new.0 (c.before.before.before.before.before.before.solve.new.1.0 ++ drop (a.c - 0) a.work.now) (omega arith) refl c.before.before.before.before.before.before.solve.ensures c.before.before.zero-floats.ensures
+    let a = c.args in
+    factor_law a.c a.part.now a.work.now c.solve.new.y c.zero_floats.new.s (c.solve.new.y ++ drop (a.c - 0) a.work.now) (omega arith) refl c.solve.ensures c.zero_floats.ensures
 
-pub by-factor-spec : {M : Type 1} → statement M
-by-factor-spec =
+pub by_factor_spec : {M : Type 1} → statement M
+by_factor_spec =
     tie.close
     (tie.spec
     (λ c. search rules)

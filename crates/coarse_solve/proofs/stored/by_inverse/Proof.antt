@@ -4,23 +4,23 @@ use borrow.Author.Rules.{rules}
 use Rattle.coarse_solve.proofs.stored.by_inverse.Statement.{statement}
 use Rattle.coarse_solve.proofs.stored.by_inverse.Tie as tie
 
-mul-zero-floats : tie.Need-overflow-mul-zero-floats
-mul-zero-floats c = omega (arith, c.before.before.move_front_lem.ensures.long, c.before.before.before.before.before.before.inverse-rows.ensures.long)
+mul-zero-floats : tie.Need-offset_bounds-work-c
+mul-zero-floats c = omega (arith, c.move_front.ensures.long, c.inverse_rows.ensures.long)
 
-part-zero-floats-start : tie.Need-slice-bounds-zero-floats-start
-part-zero-floats-start c = omega (arith, c.before.before.move_front_lem.ensures.long, c.before.before.before.before.before.before.inverse-rows.ensures.long)
+part-zero-floats-start : tie.Need-slice_bounds-zero_floats-start
+part-zero-floats-start c = omega (arith, c.move_front.ensures.long, c.inverse_rows.ensures.long)
 
 returns : tie.Need-returns
 returns c =
-    let a = c.before.before.before.before.before.before.before.before.before.before.before.before.before.before.args in
-    inverse_all a.c a.part.now a.work.now c.before.before.before.before.before.before.before.before.before.before.inverse-rows.new.1.1.0 c.before.before.before.before.before.before.move_front_lem.new.1.0 c.before.before.zero-floats.new.0 c.before.before.before.before.before.before.before.before.before.before.before.before.before.before.requires.1 c.before.before.before.before.before.before.before.before.before.before.inverse-rows.ensures c.before.before.before.before.before.before.move_front_lem.ensures c.before.before.zero-floats.ensures
+    let a = c.args in
+    inverse_all a.c a.part.now a.work.now c.inverse_rows.new.work c.move_front.new.work c.zero_floats.new.s c.requires.1 c.inverse_rows.ensures c.move_front.ensures c.zero_floats.ensures
 
-pub by-inverse-spec : {M : Type 1} → statement M
-by-inverse-spec =
+pub by_inverse_spec : {M : Type 1} → statement M
+by_inverse_spec =
     tie.close
     (tie.spec
     (λ c κs. search rules)
-    (λ c κs. omega (arith, c.before.before.before.inverse-rows.ensures.long))
+    (λ c κs. omega (arith, c.inverse_rows.ensures.long))
     mul-zero-floats
     (λ c. search rules)
     part-zero-floats-start

@@ -8,57 +8,54 @@ use Rattle.coarse_solve.proofs.Products.{products_none}
 use Rattle.coarse_solve.proofs.stored.inverse_rows.Statement.{statement}
 use Rattle.coarse_solve.proofs.stored.inverse_rows.Tie as tie
 
-abbrev invariant-loop : tie.invariant-loop
-invariant-loop c part work₀ base₀ i₀ work base i = (i ≤ c) × (base ≡ i * c) × Products c part work₀ work i
+abbrev invariant-loop-i : tie.invariant-loop-i
+invariant-loop-i c part work₀ base₀ i₀ work base i = (i ≤ c) × (base ≡ i * c) × Products c part work₀ work i
 
-abbrev decreases-loop : tie.decreases-loop
-decreases-loop c part work₀ base₀ i₀ work base i = c - i
+abbrev decreases-loop-i : tie.decreases-loop-i
+decreases-loop-i c part work₀ base₀ i₀ work base i = c - i
 
 -- the row after the eight begins there, and they lie within the inverse
-next : (c : tie.In-loop invariant-loop decreases-loop) → (c.before.loop.base + 8 * c.before.before.before.before.args.c ≡ (c.before.loop.i + 8) * c.before.before.before.before.args.c) × (c.before.loop.base + 8 * c.before.before.before.before.args.c ≤ length c.before.before.before.before.args.part.now) × (c.before.loop.i + 8 ≤ c.before.before.before.before.args.c)
+next : (c : tie.In-loop-i invariant-loop-i decreases-loop-i) → (c.loop-i.base + 8 * c.args.c ≡ (c.loop-i.i + 8) * c.args.c) × (c.loop-i.base + 8 * c.args.c ≤ length c.args.part.now) × (c.loop-i.i + 8 ≤ c.args.c)
 next c =
-    let s = c.before.before.before.before in
-    let o = c.before.loop in
-    let h : o.i + 8 ≤ s.args.c = omega (arith, c.loop-test.true) in
-    let e : o.base + 8 * s.args.c ≡ (o.i + 8) * s.args.c = omega (arith, o.invariant.1) in
-    let b : (o.i + 8) * s.args.c ≤ s.args.c * s.args.c = mul-le-mul h (le_refl s.args.c) in
-    (e, omega (arith, e, b, s.requires.0), h)
+    let o = c.loop-i in
+    let h : o.i + 8 ≤ c.args.c = omega (arith, c.loop-i-test.true) in
+    let e : o.base + 8 * c.args.c ≡ (o.i + 8) * c.args.c = omega (arith, o.invariant.1) in
+    let b : (o.i + 8) * c.args.c ≤ c.args.c * c.args.c = mul-le-mul h (le_refl c.args.c) in
+    (e, omega (arith, e, b, c.requires.0), h)
 
-loop-holds : tie.Need-loop-init invariant-loop decreases-loop
-loop-holds c = (omega arith, omega arith, products_none c.before.before.args.c c.before.before.args.part.now c.before.before.args.work.now)
+loop-holds : tie.Need-loop-i-init invariant-loop-i decreases-loop-i
+loop-holds c = (omega arith, omega arith, products_none c.args.c c.args.part.now c.args.work.now)
 
-products-eight-requires : tie.Need-products-eight-requires invariant-loop decreases-loop
+products-eight-requires : tie.Need-products_eight-requires invariant-loop-i decreases-loop-i
 products-eight-requires c κs =
-    let s = c.before.before.before.before.before in
-    let o = c.before.before.loop in
-    ((next c.before).2, o.invariant.1, s.requires.0, omega (arith, s.requires.1, o.invariant.2.long), s.requires.2)
+    let o = c.loop-i in
+    ((next c.before).2, o.invariant.1, c.requires.0, omega (arith, c.requires.1, o.invariant.2.long), c.requires.2)
 
-loop-again : tie.Need-loop-preserved invariant-loop decreases-loop
+loop-again : tie.Need-loop-i-preserved invariant-loop-i decreases-loop-i
 loop-again c =
-    let a = c.before.before.before.before.before.before.before.before.args in
-    let o = c.before.before.before.before.before.loop in
+    let a = c.args in
+    let o = c.loop-i in
     let f = next c.before.before.before.before in
-    (f.2, f.0, c.before.before.products-eight.ensures.made a.work.now o.invariant.2)
+    (f.2, f.0, c.products_eight.ensures.made a.work.now o.invariant.2)
 
-products-rest-requires : tie.Need-products-rest-requires invariant-loop decreases-loop
+products-rest-requires : tie.Need-products_rest-requires invariant-loop-i decreases-loop-i
 products-rest-requires c κs =
-    let s = c.before.before.before.before.before in
-    let o = c.before.before.loop in
-    (o.invariant.0, o.invariant.1, s.requires.0, omega (arith, s.requires.1, o.invariant.2.long), s.requires.2)
+    let o = c.loop-i in
+    (o.invariant.0, o.invariant.1, c.requires.0, omega (arith, c.requires.1, o.invariant.2.long), c.requires.2)
 
-returns : tie.Need-returns invariant-loop decreases-loop
+returns : tie.Need-returns invariant-loop-i decreases-loop-i
 returns c =
-    let a = c.before.before.before.before.before.before.before.before.args in
-    c.before.before.products-rest.ensures.made a.work.now c.before.before.before.before.before.loop.invariant.2
+    let a = c.args in
+    c.products_rest.ensures.made a.work.now c.loop-i.invariant.2
 
-pub inverse-rows-spec : {M : Type 1} → statement M
-inverse-rows-spec =
+pub inverse_rows_spec : {M : Type 1} → statement M
+inverse_rows_spec =
     tie.close
     (tie.spec
-    invariant-loop
-    decreases-loop
+    invariant-loop-i
+    decreases-loop-i
     loop-holds
-    (λ c. omega (arith, c.before.before.before.requires.2))
+    (λ c. omega (arith, c.requires.2))
     products-eight-requires
     (λ c. omega (arith, next c.before.before.before.before))
     (λ c. omega (arith, next c.before.before.before.before))
@@ -66,5 +63,5 @@ inverse-rows-spec =
     (λ c. omega (arith, next c.before.before.before.before))
     loop-again
     products-rest-requires
-    (λ c. c.before.before.products-rest.ensures.long ∙ c.before.before.before.before.before.loop.invariant.2.long)
+    (λ c. c.products_rest.ensures.long ∙ c.loop-i.invariant.2.long)
     returns)

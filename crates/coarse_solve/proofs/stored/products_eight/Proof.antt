@@ -8,56 +8,53 @@ use borrow.Author.Rules.{rules}
 use Rattle.coarse_solve.proofs.stored.products_eight.Statement.{statement}
 use Rattle.coarse_solve.proofs.stored.products_eight.Tie as tie
 
-abbrev invariant-loop : tie.invariant-loop
-invariant-loop c part work₀ i base sums r₀ work r = (r ≤ 8) × ProductsOn c part work₀ work i (i + r)
+abbrev invariant-loop-r : tie.invariant-loop-r
+invariant-loop-r c part work₀ i base sums r₀ work r = (r ≤ 8) × ProductsOn c part work₀ work i (i + r)
 
-abbrev decreases-loop : tie.decreases-loop
-decreases-loop c part work₀ i base sums r₀ work r = 8 - r
+abbrev decreases-loop-r : tie.decreases-loop-r
+decreases-loop-r c part work₀ i base sums r₀ work r = 8 - r
 
-row-starts-requires : tie.Need-row-starts-requires invariant-loop decreases-loop
+row-starts-requires : tie.Need-row_starts-starts-requires invariant-loop-r decreases-loop-r
 row-starts-requires c κs =
-    let s = c.before.before in
-    (omega (arith, square_end s.args.part.now 8 s.args.c s.args.i s.args.base s.requires.0 s.requires.2 s.requires.1), omega arith)
+    (omega (arith, square_end c.args.part.now 8 c.args.c c.args.i c.args.base c.requires.0 c.requires.2 c.requires.1), omega arith)
 
-row-sums-requires : tie.Need-row-sums-requires invariant-loop decreases-loop
+row-sums-requires : tie.Need-row_sums-sums-requires invariant-loop-r decreases-loop-r
 row-sums-requires c κs =
-    let s = c.before.before.before.before in
-    (omega arith, λ r h. (square_rows s.args.part.now 8 s.args.c s.args.i s.args.base r c.before.row-starts.result s.requires.0 s.requires.2 s.requires.1 c.before.row-starts.ensures h).within)
+    (omega arith, λ r h. (square_rows c.args.part.now 8 c.args.c c.args.i c.args.base r c.row_starts-starts.result c.requires.0 c.requires.2 c.requires.1 c.row_starts-starts.ensures h).within)
 
-loop-holds : tie.Need-loop-init invariant-loop decreases-loop
+loop-holds : tie.Need-loop-r-init invariant-loop-r decreases-loop-r
 loop-holds c =
-    let a = c.before.before.before.before.before.args in
+    let a = c.args in
     let n : a.i + 0 ≡ a.i = omega arith in
     (omega arith, rw n (on_none a.c a.part.now a.work.now a.i))
 
 -- the product stands within the list
-inside : (c : tie.In-loop invariant-loop decreases-loop) → (c.before.before.before.before.before.before.before.args.c + c.before.before.before.before.before.before.before.args.i + c.before.loop.r < length c.before.loop.work) × (c.before.before.before.before.before.before.before.args.c ≤ 2_048) × (c.before.loop.r < 8)
-inside c = let s = c.before.before.before.before.before.before.before in (omega (arith, s.requires.0, s.requires.3, c.before.loop.invariant.1.long), s.requires.4, omega arith)
+inside : (c : tie.In-loop-r invariant-loop-r decreases-loop-r) → (c.args.c + c.args.i + c.loop-r.r < length c.loop-r.work) × (c.args.c ≤ 2_048) × (c.loop-r.r < 8)
+inside c = (omega (arith, c.requires.0, c.requires.3, c.loop-r.invariant.1.long), c.requires.4, omega arith)
 
-loop-again : tie.Need-loop-preserved invariant-loop decreases-loop
+loop-again : tie.Need-loop-r-preserved invariant-loop-r decreases-loop-r
 loop-again c =
-    let s = c.before.before.before.before.before.before.before in
-    let a = s.args in
-    let o = c.before.loop in
-    let starts = c.before.before.before.before.row-starts in
-    let sums = c.before.before.row-sums in
-    let at = square_rows a.part.now 8 a.c a.i a.base o.r starts.result s.requires.0 s.requires.2 s.requires.1 starts.ensures (omega arith) in
+    let a = c.args in
+    let o = c.loop-r in
+    let starts = c.row_starts-starts in
+    let sums = c.row_sums-sums in
+    let at = square_rows a.part.now 8 a.c a.i a.base o.r starts.result c.requires.0 c.requires.2 c.requires.1 starts.ensures (omega arith) in
     let n : a.i + (o.r + 1) ≡ a.i + o.r + 1 = omega arith in
     let p : a.c + a.i + o.r ≡ a.c + (a.i + o.r) = omega arith in (
       omega arith,
-      rw (n, p) (on_row a.c a.part.now a.work.now o.work a.i (a.i + o.r) _ _ (omega (arith, s.requires.0)) s.requires.3 at.begins o.invariant.1
+      rw (n, p) (on_row a.c a.part.now a.work.now o.work a.i (a.i + o.r) _ _ (omega (arith, c.requires.0)) c.requires.3 at.begins o.invariant.1
           (sum_kept a.part.now a.work.now o.work a.c _ _ o.invariant.1.kept (sum_at_lem a.part.now a.work.now 8 a.c o.r starts.result sums.result (omega arith) sums.ensures))),
     )
 
-returns : tie.Need-returns invariant-loop decreases-loop
-returns c = let e : c.before.loop.r ≡ 8 = omega arith in rw e at c.before.loop.invariant.1
+returns : tie.Need-returns invariant-loop-r decreases-loop-r
+returns c = let e : c.loop-r.r ≡ 8 = omega arith in rw e at c.loop-r.invariant.1
 
-pub products-eight-spec : {M : Type 1} → statement M
-products-eight-spec =
+pub products_eight_spec : {M : Type 1} → statement M
+products_eight_spec =
     tie.close
     (tie.spec
-    invariant-loop
-    decreases-loop
+    invariant-loop-r
+    decreases-loop-r
     row-starts-requires
     row-sums-requires
     loop-holds
@@ -70,5 +67,5 @@ products-eight-spec =
     (λ c. omega arith)
     (λ c. omega arith)
     loop-again
-    (λ c. c.before.loop.invariant.1.long)
+    (λ c. c.loop-r.invariant.1.long)
     returns)

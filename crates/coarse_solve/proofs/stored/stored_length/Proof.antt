@@ -7,7 +7,7 @@ use Rattle.coarse_solve.proofs.stored.stored_length.Tie as tie
 
 returns : tie.Need-returns
 unfolding part_length
-returns c = rw (c.part_length.ensures, le-leb c.before.args.c 2048 c.before.requires, part_length)
+returns c = rw (c.part_length.ensures, le-leb c.args.c 2048 c.requires, part_length)
 
-pub stored-length-spec : {M : Type 1} → statement M
-stored-length-spec = tie.close (tie.spec (λ c κs. search rules) returns)
+pub stored_length_spec : {M : Type 1} → statement M
+stored_length_spec = tie.close (tie.spec (λ c κs. search rules) returns)

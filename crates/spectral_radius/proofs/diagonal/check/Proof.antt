@@ -10,48 +10,48 @@ use borrow.Author.Rules.{rules}
 use Rattle.spectral_radius.proofs.diagonal.check.Statement.{statement}
 use Rattle.spectral_radius.proofs.diagonal.check.Tie as tie
 
-abbrev invariant-loop : tie.invariant-loop
-invariant-loop d i₀ i = (i ≤ length d) × (usable_from i (drop i d) ≡ usable_from 0 d)
+abbrev invariant-loop-i : tie.invariant-loop-i
+invariant-loop-i d i₀ i = (i ≤ length d) × (usable_from i (drop i d) ≡ usable_from 0 d)
 
-abbrev decreases-loop : tie.decreases-loop
-decreases-loop d i₀ i = length d - i
+abbrev decreases-loop-i : tie.decreases-loop-i
+decreases-loop-i d i₀ i = length d - i
 
-loop-holds : tie.Need-loop-init invariant-loop decreases-loop
+loop-holds : tie.Need-loop-i-init invariant-loop-i decreases-loop-i
 loop-holds c = (omega arith, refl)
 
-returns : tie.Need-returns invariant-loop decreases-loop
+returns : tie.Need-returns-then-v invariant-loop-i decreases-loop-i
 unfolding answer_of
 returns c =
-    let d = c.before.before.before.before.before.before.before.args.d.now in
-    let l = c.before.before.before.before.before.loop in
-    ap answer_of (sym (row_negative d l.i (omega arith) (sym c.before.before.usable.ensures ∙ c.before.if1.true) c.if2.true) ∙ l.invariant.1)
+    let d = c.args.d.now in
+    let l = c.loop-i in
+    ap answer_of (sym (row_negative d l.i (omega arith) (sym c.usable.ensures ∙ c.if-usable.true) c.if-v.true) ∙ l.invariant.1)
 
-loop-again : tie.Need-loop-preserved invariant-loop decreases-loop
+loop-again : tie.Need-loop-i-preserved invariant-loop-i decreases-loop-i
 loop-again c =
-    let d = c.before.before.before.before.before.before.before.args.d.now in
-    let l = c.before.before.before.before.before.loop in
-    (omega arith, row_passes d l.i (omega arith) (sym c.before.before.usable.ensures ∙ c.before.if1.true) c.if2.false ∙ l.invariant.1)
+    let d = c.args.d.now in
+    let l = c.loop-i in
+    (omega arith, row_passes d l.i (omega arith) (sym c.usable.ensures ∙ c.if-usable.true) c.if-v.false ∙ l.invariant.1)
 
-returns-2 : tie.Need-returns-2 invariant-loop decreases-loop
+returns-2 : tie.Need-returns-else-usable invariant-loop-i decreases-loop-i
 unfolding answer_of
 returns-2 c =
-    let d = c.before.before.before.before.before.before.args.d.now in
-    let l = c.before.before.before.before.loop in
-    ap answer_of (sym (row_zero d l.i (omega arith) (sym c.before.usable.ensures ∙ c.if1.false)) ∙ l.invariant.1)
+    let d = c.args.d.now in
+    let l = c.loop-i in
+    ap answer_of (sym (row_zero d l.i (omega arith) (sym c.usable.ensures ∙ c.if-usable.false)) ∙ l.invariant.1)
 
-returns-3 : tie.Need-returns-3 invariant-loop decreases-loop
+returns-3 : tie.Need-returns invariant-loop-i decreases-loop-i
 unfolding answer_of
 returns-3 c =
-    let d = c.before.before.before.args.d.now in
-    let l = c.before.loop in
+    let d = c.args.d.now in
+    let l = c.loop-i in
     ap answer_of (sym (rows_done d l.i (omega arith)) ∙ l.invariant.1)
 
-pub check-spec : {M : Type 1} → statement M
-check-spec =
+pub check_spec : {M : Type 1} → statement M
+check_spec =
     tie.close
     (tie.spec
-    invariant-loop
-    decreases-loop
+    invariant-loop-i
+    decreases-loop-i
     loop-holds
     (λ c. search rules)
     (λ c. search rules)

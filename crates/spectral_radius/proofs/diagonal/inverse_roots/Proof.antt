@@ -14,42 +14,41 @@ use borrow.Author.Rules.{rules}
 use Rattle.spectral_radius.proofs.diagonal.inverse_roots.Statement.{statement}
 use Rattle.spectral_radius.proofs.diagonal.inverse_roots.Tie as tie
 
-abbrev invariant-loop : tie.invariant-loop
-invariant-loop d s₀ table i₀ i-end s i = (i ≤ i-end) × (i-end ≡ length s₀) × (length s ≡ length s₀) × (s ≡ tab (λ k. oneᶠ /ᶠ rootᶠ (get_or d k nan)) i ++ drop i s₀)
+abbrev invariant-loop-i : tie.invariant-loop-i
+invariant-loop-i d s₀ table i₀ i-end s i = (i ≤ i-end) × (i-end ≡ length s₀) × (length s ≡ length s₀) × (s ≡ tab (λ k. oneᶠ /ᶠ rootᶠ (get_or d k nan)) i ++ drop i s₀)
 
-abbrev decreases-loop : tie.decreases-loop
-decreases-loop d s₀ table i₀ i-end s i = i-end - i
+abbrev decreases-loop-i : tie.decreases-loop-i
+decreases-loop-i d s₀ table i₀ i-end s i = i-end - i
 
-loop-holds : tie.Need-loop-init invariant-loop decreases-loop
+loop-holds : tie.Need-loop-i-init invariant-loop-i decreases-loop-i
 loop-holds c =
-    let a = c.before.before.before.args in
+    let a = c.args in
     (omega arith, refl, refl, tab_none (λ k. oneᶠ /ᶠ rootᶠ (get_or a.d.now k nan)) a.s.now)
 
-loop-again : tie.Need-loop-preserved invariant-loop decreases-loop
+loop-again : tie.Need-loop-i-preserved invariant-loop-i decreases-loop-i
 loop-again c =
-    let a = c.before.before.before.before.before.before.before.before.args in
-    let l = c.before.before.before.before.loop in (
+    let a = c.args in
+    let l = c.loop-i in (
       omega arith,
       refl,
       simp length-set l.invariant.2,
       tab_more (λ k. oneᶠ /ᶠ rootᶠ (get_or a.d.now k nan)) l.i l.s a.s.now (oneᶠ /ᶠ c.root_by.result) (omega arith) l.invariant.3 (ap (λ v. oneᶠ /ᶠ v) c.root_by.ensures),
     )
 
-returns : tie.Need-returns invariant-loop decreases-loop
+returns : tie.Need-returns invariant-loop-i decreases-loop-i
 unfolding inverse_roots
 returns c =
-    let s = c.before.before.before.before.before in
-    let a = s.args in
-    let l = c.before.loop in
+    let a = c.args in
+    let l = c.loop-i in
     let e : length a.s.now ≡ length a.d.now = omega arith in
     tab_all (λ k. oneᶠ /ᶠ rootᶠ (get_or a.d.now k nan)) l.i l.s a.s.now (omega arith) l.invariant.3 ∙ rw e (map_tab nan (λ x. oneᶠ /ᶠ rootᶠ x) a.d.now)
 
-pub inverse-roots-spec : {M : Type 1} → statement M
-inverse-roots-spec =
+pub inverse_roots_spec : {M : Type 1} → statement M
+inverse_roots_spec =
     tie.close
     (tie.spec
-    invariant-loop
-    decreases-loop
+    invariant-loop-i
+    decreases-loop-i
     (λ c κs. search rules)
     loop-holds
     (λ c. search rules)

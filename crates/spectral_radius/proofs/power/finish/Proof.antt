@@ -10,32 +10,31 @@ use Rattle.spectral_radius.proofs.power.finish.Statement.{statement}
 use Rattle.spectral_radius.proofs.power.finish.Tie as tie
 
 -- what the code divides is rho
-rho_ok : (c : tie.After-quotient) → c.quotient.result ≡ rho_of (csr c.before.before.before.before.before.before.before.before.before.before.args.rows c.before.before.before.before.before.before.before.before.before.before.args.rows c.before.before.before.before.before.before.before.before.before.before.args.ptr.now c.before.before.before.before.before.before.before.before.before.before.args.idx.now c.before.before.before.before.before.before.before.before.before.before.args.vals.now) (take c.before.before.before.before.before.before.before.before.before.before.args.rows c.before.before.before.before.before.before.before.before.before.before.args.w.now) (vector_in c.before.before.before.before.before.before.before.before.before.before.args.rows c.before.before.before.before.before.before.before.before.before.before.args.w.now)
+rho_ok : (c : tie.After-quotient-rho) → c.quotient-rho.result ≡ rho_of (csr c.args.rows c.args.rows c.args.ptr.now c.args.idx.now c.args.vals.now) (take c.args.rows c.args.w.now) (vector_in c.args.rows c.args.w.now)
 rho_ok c =
-    let s = c.before.before.before.before.before.before.before.before.before.before in
-    let a = s.args in
+    let a = c.args in
     let m = csr a.rows a.rows a.ptr.now a.idx.now a.vals.now in
-    let d = c.before.before.before.before.map-vector in
-    let w = d.new.1.1.1.1.0 in
-    rho_is m (take a.rows a.w.now) (vector_in a.rows a.w.now) (vector_in a.rows w) (image_in a.rows w) c.quotient.result c.quotient.ensures
-    (kept_vector a.rows m a.w.now w s.requires.1 d.ensures.0) (image_made a.rows m a.w.now w s.requires.1 d.ensures.0)
+    let d = c.map_vector in
+    let w = d.new.w in
+    rho_is m (take a.rows a.w.now) (vector_in a.rows a.w.now) (vector_in a.rows w) (image_in a.rows w) c.quotient-rho.result c.quotient-rho.ensures
+    (kept_vector a.rows m a.w.now w c.requires.1 d.ensures.0) (image_made a.rows m a.w.now w c.requires.1 d.ensures.0)
 
-returns : tie.Need-returns
+returns : tie.Need-returns-then-above-2
 unfolding damping_of
 returns c =
-    let a = c.before.before.before.before.before.before.before.before.before.before.before.before.before.before.args in
-    finished (csr a.rows a.rows a.ptr.now a.idx.now a.vals.now) (take a.rows a.w.now) (vector_in a.rows a.w.now) c.before.before.before.before.quotient.result (rho_ok c.before.before.before.before) (sym c.before.before.before.above.ensures ∙ c.before.before.if1.true) (sym c.before.above2.ensures ∙ c.if2.true)
+    let a = c.args in
+    finished (csr a.rows a.rows a.ptr.now a.idx.now a.vals.now) (take a.rows a.w.now) (vector_in a.rows a.w.now) c.quotient-rho.result (rho_ok c.before.before.before.before) (sym c.above.ensures ∙ c.if-above.true) (sym c.above-then-above.ensures ∙ c.if-above-2.true)
 
-returns-2 : tie.Need-returns-2
+returns-2 : tie.Need-returns-then-above
 unfolding damping_of
 returns-2 c =
-    let a = c.before.before.before.before.before.before.before.before.before.before.before.before.before.before.args in
-    fails_at_4 (csr a.rows a.rows a.ptr.now a.idx.now a.vals.now) (take a.rows a.w.now) (vector_in a.rows a.w.now) c.before.before.before.before.quotient.result (rho_ok c.before.before.before.before) (sym c.before.before.before.above.ensures ∙ c.before.before.if1.true) (sym c.before.above2.ensures ∙ c.if2.false)
+    let a = c.args in
+    fails_at_4 (csr a.rows a.rows a.ptr.now a.idx.now a.vals.now) (take a.rows a.w.now) (vector_in a.rows a.w.now) c.quotient-rho.result (rho_ok c.before.before.before.before) (sym c.above.ensures ∙ c.if-above.true) (sym c.above-then-above.ensures ∙ c.if-above-2.false)
 
-returns-3 : tie.Need-returns-3
+returns-3 : tie.Need-returns
 returns-3 c =
-    let a = c.before.before.before.before.before.before.before.before.before.before.before.before.args in
-    fails_at_3 (csr a.rows a.rows a.ptr.now a.idx.now a.vals.now) (take a.rows a.w.now) (vector_in a.rows a.w.now) c.before.before.quotient.result (rho_ok c.before.before) (sym c.before.above.ensures ∙ c.if1.false)
+    let a = c.args in
+    fails_at_3 (csr a.rows a.rows a.ptr.now a.idx.now a.vals.now) (take a.rows a.w.now) (vector_in a.rows a.w.now) c.quotient-rho.result (rho_ok c.before.before) (sym c.above.ensures ∙ c.if-above.false)
 
 pub finish_spec : {M : Type 1} → statement M
 finish_spec =

@@ -7,15 +7,15 @@ use Rattle.spectral_radius.proofs.power.quotient.Statement.{statement}
 use Rattle.spectral_radius.proofs.power.quotient.Tie as tie
 
 dot-requires : tie.Need-dot-requires
-dot-requires c κs = halves c.before.before.before.args.rows c.before.before.before.args.w.now c.before.before.before.requires
+dot-requires c κs = halves c.args.rows c.args.w.now c.requires
 
 returns : tie.Need-returns
 returns c =
-    let a = c.before.before.before.before.args in
-    dot_zip (vector_in a.rows a.w.now) (image_in a.rows a.w.now) c.dot.result (halves a.rows a.w.now c.before.before.before.before.requires) c.dot.ensures
+    let a = c.args in
+    dot_zip (vector_in a.rows a.w.now) (image_in a.rows a.w.now) c.dot.result (halves a.rows a.w.now c.requires) c.dot.ensures
 
-pub quotient-spec : {M : Type 1} → statement M
-quotient-spec =
+pub quotient_spec : {M : Type 1} → statement M
+quotient_spec =
     tie.close
     (tie.spec
     (λ c. search rules)

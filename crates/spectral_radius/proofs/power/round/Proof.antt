@@ -6,28 +6,26 @@ use borrow.Author.Rules.{rules}
 use Rattle.spectral_radius.proofs.power.round.Statement.{statement}
 use Rattle.spectral_radius.proofs.power.round.Tie as tie
 
-returns : tie.Need-returns
+returns : tie.Need-returns-then-usable
 returns c =
-    let s = c.before.before.before.before.before.before.before.before.before.before.before.before.before.before.before in
-    let a = s.args in
+    let a = c.args in
     let m = csr a.rows a.rows a.ptr.now a.idx.now a.vals.now in
-    let k = c.before.before.before.before.before.before.before.before.before.map-vector in
-    let n = c.before.before.before.before.before.before.root in
-    let e = norm_on_way a.rows m a.w.now k.new.1.1.1.1.0 s.requires.1 k.ensures.0 k.result n.result k.ensures.1 n.ensures in
-    round_passes a.rows m a.w.now k.new.1.1.1.1.0 s.requires.1 k.ensures.0 n.result e c.before.before.scale.new.1.1.0 (sym c.before.before.before.before.before.usable.ensures ∙ c.before.before.before.before.if1.true) c.before.before.scale.ensures
+    let k = c.map_vector-squares in
+    let n = c.root-n in
+    let e = norm_on_way a.rows m a.w.now k.new.w c.requires.1 k.ensures.0 k.result n.result k.ensures.1 n.ensures in
+    round_passes a.rows m a.w.now k.new.w c.requires.1 k.ensures.0 n.result e c.scale.new.w (sym c.usable.ensures ∙ c.if-usable.true) c.scale.ensures
 
-returns-2 : tie.Need-returns-2
+returns-2 : tie.Need-returns
 returns-2 c =
-    let s = c.before.before.before.before.before.before.before.before.before.before.before in
-    let a = s.args in
+    let a = c.args in
     let m = csr a.rows a.rows a.ptr.now a.idx.now a.vals.now in
-    let k = c.before.before.before.before.before.map-vector in
-    let n = c.before.before.root in
-    let e = norm_on_way a.rows m a.w.now k.new.1.1.1.1.0 s.requires.1 k.ensures.0 k.result n.result k.ensures.1 n.ensures in
-    round_fails a.rows m a.w.now k.new.1.1.1.1.0 s.requires.1 k.ensures.0 n.result e (sym c.before.usable.ensures ∙ c.if1.false)
+    let k = c.map_vector-squares in
+    let n = c.root-n in
+    let e = norm_on_way a.rows m a.w.now k.new.w c.requires.1 k.ensures.0 k.result n.result k.ensures.1 n.ensures in
+    round_fails a.rows m a.w.now k.new.w c.requires.1 k.ensures.0 n.result e (sym c.usable.ensures ∙ c.if-usable.false)
 
-pub round-spec : {M : Type 1} → statement M
-round-spec =
+pub round_spec : {M : Type 1} → statement M
+round_spec =
     tie.close
     (tie.spec
     (λ c κs. search rules)

@@ -11,33 +11,33 @@ use borrow.Author.Rules.{rules}
 use Rattle.spectral_radius.proofs.vectors.dot.Statement.{statement}
 use Rattle.spectral_radius.proofs.vectors.dot.Tie as tie
 
-abbrev invariant-loop : tie.invariant-loop
-invariant-loop x y sum₀ k₀ k-end sum k = (k ≤ k-end) × (k-end ≡ length x) × (sum ≡ summed (tab (λ i. get_or x i nan *ᶠ get_or y i nan) k))
+abbrev invariant-loop-k : tie.invariant-loop-k
+invariant-loop-k x y sum₀ k₀ k-end sum k = (k ≤ k-end) × (k-end ≡ length x) × (sum ≡ summed (tab (λ i. get_or x i nan *ᶠ get_or y i nan) k))
 
-abbrev decreases-loop : tie.decreases-loop
-decreases-loop x y sum₀ k₀ k-end sum k = k-end - k
+abbrev decreases-loop-k : tie.decreases-loop-k
+decreases-loop-k x y sum₀ k₀ k-end sum k = k-end - k
 
-loop-holds : tie.Need-loop-init invariant-loop decreases-loop
+loop-holds : tie.Need-loop-k-init invariant-loop-k decreases-loop-k
 loop-holds c = let a = c.args in (omega arith, omega arith, summed_none (λ k. get_or a.x.now k nan *ᶠ get_or a.y.now k nan))
 
-loop-again : tie.Need-loop-preserved invariant-loop decreases-loop
+loop-again : tie.Need-loop-k-preserved invariant-loop-k decreases-loop-k
 loop-again c =
-    let a = c.before.before.before.before.args in
-    let l = c.before.before.before.loop in
+    let a = c.args in
+    let l = c.loop-k in
     (omega arith, omega arith, summed_more (λ k. get_or a.x.now k nan *ᶠ get_or a.y.now k nan) l.k l.sum _ _ l.invariant.2 refl refl)
 
-returns : tie.Need-returns invariant-loop decreases-loop
+returns : tie.Need-returns invariant-loop-k decreases-loop-k
 returns c =
-    let l = c.before.loop in
-    let e : l.k ≡ length c.before.before.args.x.now = omega arith in
+    let l = c.loop-k in
+    let e : l.k ≡ length c.args.x.now = omega arith in
     rw e at l.invariant.2
 
-pub dot-spec : {M : Type 1} → statement M
-dot-spec =
+pub dot_spec : {M : Type 1} → statement M
+dot_spec =
     tie.close
     (tie.spec
-    invariant-loop
-    decreases-loop
+    invariant-loop-k
+    decreases-loop-k
     loop-holds
     (λ c. search rules)
     (λ c. search rules)

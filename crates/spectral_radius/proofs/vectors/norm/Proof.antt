@@ -5,7 +5,7 @@ use Rattle.spectral_radius.proofs.vectors.norm.Statement.{statement}
 use Rattle.spectral_radius.proofs.vectors.norm.Tie as tie
 
 returns : tie.Need-returns
-returns c = norm_is c.before.before.before.args.x.now c.before.dot.result c.root.result c.before.dot.ensures c.root.ensures
+returns c = norm_is c.args.x.now c.dot.result c.root.result c.dot.ensures c.root.ensures
 
-pub norm-spec : {M : Type 1} → statement M
-norm-spec = tie.close (tie.spec (λ c κs. search rules) (λ c κs. search rules) returns)
+pub norm_spec : {M : Type 1} → statement M
+norm_spec = tie.close (tie.spec (λ c κs. search rules) (λ c κs. search rules) returns)

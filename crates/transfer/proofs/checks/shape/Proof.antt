@@ -5,29 +5,29 @@ use borrow.Author.Rules.{rules}
 use Rattle.transfer.proofs.checks.shape.Statement.{statement}
 use Rattle.transfer.proofs.checks.shape.Tie as tie
 
-returns : tie.Need-returns
-returns c = let a = c.before.args in not_square a.rows a.cols a.entries a.size a.ints a.floats c.if1.true
+returns : tie.Need-returns-then-cols-rows
+returns c = let a = c.args in not_square a.rows a.cols a.entries a.size a.ints a.floats c.if-cols-rows.true
 
-returns-2 : tie.Need-returns-2
-returns-2 c = let a = c.before.before.args in size_none a.rows a.cols a.entries a.size a.ints a.floats c.before.if1.false c.if2.true
+returns-2 : tie.Need-returns-then-size-lt1
+returns-2 c = let a = c.args in size_none a.rows a.cols a.entries a.size a.ints a.floats c.if-cols-rows.false c.if-size-lt1.true
 
-returns-3 : tie.Need-returns-3
-returns-3 c = let a = c.before.before.before.args in size_large a.rows a.cols a.entries a.size a.ints a.floats c.before.before.if1.false c.before.if2.false c.if3.true
+returns-3 : tie.Need-returns-then-size-gt-MAX_BLOCK
+returns-3 c = let a = c.args in size_large a.rows a.cols a.entries a.size a.ints a.floats c.if-cols-rows.false c.if-size-lt1.false c.if-size-gt-MAX_BLOCK.true
 
-returns-4 : tie.Need-returns-4
-returns-4 c = let a = c.before.before.before.before.args in not_multiple a.rows a.cols a.entries a.size a.ints a.floats c.before.before.before.if1.false c.before.before.if2.false c.before.if3.false c.if4.true
+returns-4 : tie.Need-returns-then-rows-size-ne0
+returns-4 c = let a = c.args in not_multiple a.rows a.cols a.entries a.size a.ints a.floats c.if-cols-rows.false c.if-size-lt1.false c.if-size-gt-MAX_BLOCK.false c.if-rows-size-ne0.true
 
-returns-5 : tie.Need-returns-5
-returns-5 c = let a = c.before.before.before.before.before.args in ints_short a.rows a.cols a.entries a.size a.ints a.floats c.before.before.before.before.if1.false c.before.before.before.if2.false c.before.before.if3.false c.before.if4.false (omega arith)
+returns-5 : tie.Need-returns-then-ints-rows
+returns-5 c = let a = c.args in ints_short a.rows a.cols a.entries a.size a.ints a.floats c.if-cols-rows.false c.if-size-lt1.false c.if-size-gt-MAX_BLOCK.false c.if-rows-size-ne0.false (omega arith)
 
-returns-6 : tie.Need-returns-6
-returns-6 c = let a = c.before.before.before.before.before.before.args in floats_short a.rows a.cols a.entries a.size a.ints a.floats c.before.before.before.before.before.if1.false c.before.before.before.before.if2.false c.before.before.before.if3.false c.before.before.if4.false (omega arith) (omega arith)
+returns-6 : tie.Need-returns-then-floats-rows
+returns-6 c = let a = c.args in floats_short a.rows a.cols a.entries a.size a.ints a.floats c.if-cols-rows.false c.if-size-lt1.false c.if-size-gt-MAX_BLOCK.false c.if-rows-size-ne0.false (omega arith) (omega arith)
 
-returns-7 : tie.Need-returns-7
-returns-7 c = let a = c.before.before.before.before.before.before.args in shape_passed a.rows a.cols a.entries a.size a.ints a.floats c.before.before.before.before.before.if1.false c.before.before.before.before.if2.false c.before.before.before.if3.false c.before.before.if4.false (omega arith) (omega arith)
+returns-7 : tie.Need-returns
+returns-7 c = let a = c.args in shape_passed a.rows a.cols a.entries a.size a.ints a.floats c.if-cols-rows.false c.if-size-lt1.false c.if-size-gt-MAX_BLOCK.false c.if-rows-size-ne0.false (omega arith) (omega arith)
 
-pub shape-spec : {M : Type 1} → statement M
-shape-spec =
+pub shape_spec : {M : Type 1} → statement M
+shape_spec =
     tie.close
     (tie.spec
     returns

@@ -5,11 +5,11 @@ use borrow.Author.Rules.{rules}
 use Rattle.transfer.proofs.short.clear_new.Statement.{statement}
 use Rattle.transfer.proofs.short.clear_new.Tie as tie
 
-returns : tie.Need-returns
-returns c = let a = c.before.args in sym (fresh_old a.n a.more a.j a.w.now c.if1.true)
+returns : tie.Need-returns-then-more-n
+returns c = let a = c.args in sym (fresh_old a.n a.more a.j a.w.now c.if-more-n.true)
 
-returns-2 : tie.Need-returns-2
-returns-2 c = let a = c.before.args in sym (fresh_new a.n a.more a.j a.w.now c.if1.false)
+returns-2 : tie.Need-returns
+returns-2 c = let a = c.args in sym (fresh_new a.n a.more a.j a.w.now c.if-more-n.false)
 
-pub clear-new-spec : {M : Type 1} → statement M
-clear-new-spec = tie.close (tie.spec returns (λ c. search rules) (λ c. search rules) (λ c. search rules) returns-2)
+pub clear_new_spec : {M : Type 1} → statement M
+clear_new_spec = tie.close (tie.spec returns (λ c. search rules) (λ c. search rules) (λ c. search rules) returns-2)

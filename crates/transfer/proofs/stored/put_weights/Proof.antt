@@ -11,32 +11,32 @@ use borrow.Author.Rules.{rules}
 use Rattle.transfer.proofs.stored.put_weights.Statement.{statement}
 use Rattle.transfer.proofs.stored.put_weights.Tie as tie
 
-abbrev invariant-loop : tie.invariant-loop
-invariant-loop l₀ to base t k₀ k-end l k = (k ≤ k-end) × (k-end ≡ length t) × (length l ≡ length l₀) × (drop base l ≡ drop base l₀) × (take (to + k) l ≡ take to l₀ ++ map (λ j. get_or (drop base l₀) j nan) (take k t))
+abbrev invariant-loop-k : tie.invariant-loop-k
+invariant-loop-k l₀ to base t k₀ k-end l k = (k ≤ k-end) × (k-end ≡ length t) × (length l ≡ length l₀) × (drop base l ≡ drop base l₀) × (take (to + k) l ≡ take to l₀ ++ map (λ j. get_or (drop base l₀) j nan) (take k t))
 
-abbrev decreases-loop : tie.decreases-loop
-decreases-loop l₀ to base t k₀ k-end l k = k-end - k
+abbrev decreases-loop-k : tie.decreases-loop-k
+decreases-loop-k l₀ to base t k₀ k-end l k = k-end - k
 
-place_ok : (c : tie.After-wide invariant-loop decreases-loop) → c.wide.result < length c.before.before.before.before.before.before.args.l.now - c.before.before.before.before.before.before.args.base
-place_ok c = rw c.wide.ensures (c.before.before.before.before.before.before.requires.2 c.before.before.before.loop.k (omega arith))
+place_ok : (c : tie.After-wide invariant-loop-k decreases-loop-k) → c.wide.result < length c.args.l.now - c.args.base
+place_ok c = rw c.wide.ensures (c.requires.2 c.loop-k.k (omega arith))
 
-loop-holds : tie.Need-loop-init invariant-loop decreases-loop
-loop-holds c = let a = c.before.before.args in (omega arith, refl, refl, refl, front_none a.to a.l.now)
+loop-holds : tie.Need-loop-k-init invariant-loop-k decreases-loop-k
+loop-holds c = let a = c.args in (omega arith, refl, refl, refl, front_none a.to a.l.now)
 
-add-v : tie.Need-overflow-add-v invariant-loop decreases-loop
+add-v : tie.Need-overflow_add-v invariant-loop-k decreases-loop-k
 add-v c = omega (arith, place_ok c)
 
-mul-v : tie.Need-overflow-mul-v invariant-loop decreases-loop
+mul-v : tie.Need-offset_bounds-l-base invariant-loop-k decreases-loop-k
 mul-v c = omega (arith, place_ok c)
 
-slice-read-v : tie.Need-slice-read-v invariant-loop decreases-loop
+slice-read-v : tie.Need-bounds-l-base invariant-loop-k decreases-loop-k
 slice-read-v c = omega (arith, place_ok c.before)
 
-loop-again : tie.Need-loop-preserved invariant-loop decreases-loop
+loop-again : tie.Need-loop-k-preserved invariant-loop-k decreases-loop-k
 loop-again c =
-    let a = c.before.before.before.before.before.before.before.args in
-    let l = c.before.before.before.before.loop in
-    let w = c.before.wide in (
+    let a = c.args in
+    let l = c.loop-k in
+    let w = c.wide in (
       omega arith,
       refl,
       simp length-set l.invariant.2,
@@ -46,19 +46,19 @@ loop-again c =
           ∙ ap (λ q. take a.to a.l.now ++ q) (sym (map_more 0 (λ j. get_or (drop a.base a.l.now) j nan) a.t.now l.k (omega arith))),
     )
 
-returns : tie.Need-returns invariant-loop decreases-loop
+returns : tie.Need-returns invariant-loop-k decreases-loop-k
 returns c =
-    let a = c.before.before.before.before.args in
-    let l = c.before.loop in
+    let a = c.args in
+    let l = c.loop-k in
     let e : l.k ≡ length a.t.now = omega arith in
     (rw e at l.invariant.4) ∙ ap (λ t. take a.to a.l.now ++ map (λ j. get_or (drop a.base a.l.now) j nan) t) (take-length a.t.now)
 
-pub put-weights-spec : {M : Type 1} → statement M
-put-weights-spec =
+pub put_weights_spec : {M : Type 1} → statement M
+put_weights_spec =
     tie.close
     (tie.spec
-    invariant-loop
-    decreases-loop
+    invariant-loop-k
+    decreases-loop-k
     loop-holds
     (λ c. search rules)
     (λ c. search rules)

@@ -9,57 +9,56 @@ use borrow.Author.Rules.{rules}
 use Rattle.transfer.proofs.weights.smooth.Statement.{statement}
 use Rattle.transfer.proofs.weights.smooth.Tie as tie
 
-abbrev invariant-loop : tie.invariant-loop
-invariant-loop idx vals ids size cols from to damping inv w₀ k₀ w k = (from ≤ k) × (k ≤ to) × (length w ≡ length w₀) × (rest idx vals (coarse_column size ids) damping inv to k w ≡ rest idx vals (coarse_column size ids) damping inv to from w₀)
+abbrev invariant-loop-k : tie.invariant-loop-k
+invariant-loop-k idx vals ids size cols from to damping inv w₀ k₀ w k = (from ≤ k) × (k ≤ to) × (length w ≡ length w₀) × (rest idx vals (coarse_column size ids) damping inv to k w ≡ rest idx vals (coarse_column size ids) damping inv to from w₀)
 
-abbrev decreases-loop : tie.decreases-loop
-decreases-loop idx vals ids size cols from to damping inv w₀ k₀ w k = to - k
+abbrev decreases-loop-k : tie.decreases-loop-k
+decreases-loop-k idx vals ids size cols from to damping inv w₀ k₀ w k = to - k
 
 -- the column read is one of the matrix's, and its coarse column a place of the weights
-column_ok : (c : tie.After-wide invariant-loop decreases-loop) → c.wide.result < c.before.before.before.before.before.before.before.before.args.cols
-column_ok c = rw c.wide.ensures (c.before.before.before.before.before.before.before.before.requires.1.0 c.before.before.before.loop.k (omega arith))
+column_ok : (c : tie.After-wide invariant-loop-k decreases-loop-k) → c.wide.result < c.args.cols
+column_ok c = rw c.wide.ensures (c.requires.1.0 c.loop-k.k (omega arith))
 
-place_ok : (c : tie.After-coarse-of invariant-loop decreases-loop) → c.coarse-of.result < length c.before.before.before.before.loop.w
-place_ok c = rw (c.coarse-of.ensures, c.before.before.before.before.loop.invariant.2) (c.before.before.before.before.before.before.before.before.before.requires.1.1.within c.before.wide.result (column_ok c.before))
+place_ok : (c : tie.After-coarse_of-j invariant-loop-k decreases-loop-k) → c.coarse_of-j.result < length c.loop-k.w
+place_ok c = rw (c.coarse_of-j.ensures, c.loop-k.invariant.2) (c.requires.1.1.within c.wide.result (column_ok c.before))
 
-loop-holds : tie.Need-loop-init invariant-loop decreases-loop
+loop-holds : tie.Need-loop-k-init invariant-loop-k decreases-loop-k
 loop-holds c = (omega arith, omega arith, refl, refl)
 
-coarse-of-requires : tie.Need-coarse-of-requires invariant-loop decreases-loop
+coarse-of-requires : tie.Need-coarse_of-j-requires invariant-loop-k decreases-loop-k
 coarse-of-requires c κs =
-    let g = c.before.before.before.before.before.before.before.before.requires.1.1 in
+    let g = c.requires.1.1 in
     (g.some, g.known c.wide.result (column_ok c), omega (arith, g.within c.wide.result (column_ok c), g.small))
 
-take-off-requires : tie.Need-take-off-requires invariant-loop decreases-loop
+take-off-requires : tie.Need-take_off-requires invariant-loop-k decreases-loop-k
 take-off-requires c κs = place_ok c.before.before
 
-loop-again : tie.Need-loop-preserved invariant-loop decreases-loop
+loop-again : tie.Need-loop-k-preserved invariant-loop-k decreases-loop-k
 loop-again c =
-    let s = c.before.before.before.before.before.before.before.before.before.before.before.before.before.before in
-    let a = s.args in
-    let l = c.before.before.before.before.before.before.before.before.before.loop in
-    let h = c.before.before.before.before.before.before.before.before.loop-test in
-    let o = c.before.before.take-off in (
+    let a = c.args in
+    let l = c.loop-k in
+    let h = c.loop-k-test in
+    let o = c.take_off in (
       omega (arith, l.invariant.0),
       omega (arith, h),
-      o.auto.0 ∙ l.invariant.2,
-      rw o.ensures (rest_step a.idx.now a.vals.now (coarse_column a.size a.ids.now) a.damping a.inv a.to l.k c.before.before.before.before.before.coarse-of.result l.w (omega (arith, h)) (omega (arith, s.requires.0)) (omega (arith, s.requires.0))
-          (c.before.before.before.before.before.coarse-of.ensures ∙ ap (coarse_column a.size a.ids.now) c.before.before.before.before.before.before.wide.ensures) ∙ l.invariant.3),
+      o.auto.w ∙ l.invariant.2,
+      rw o.ensures (rest_step a.idx.now a.vals.now (coarse_column a.size a.ids.now) a.damping a.inv a.to l.k c.coarse_of-j.result l.w (omega (arith, h)) (omega (arith, c.requires.0)) (omega (arith, c.requires.0))
+          (c.coarse_of-j.ensures ∙ ap (coarse_column a.size a.ids.now) c.wide.ensures) ∙ l.invariant.3),
     )
 
-returns : tie.Need-returns invariant-loop decreases-loop
+returns : tie.Need-returns invariant-loop-k decreases-loop-k
 returns c =
-    let a = c.before.before.before.before.before.before.args in
-    let l = c.before.loop in
+    let a = c.args in
+    let l = c.loop-k in
     let e : l.k ≡ a.to = omega arith in
     sym (rest_done a.idx.now a.vals.now (coarse_column a.size a.ids.now) a.damping a.inv a.to l.w) ∙ (rw e at l.invariant.3)
 
-pub smooth-spec : {M : Type 1} → statement M
-smooth-spec =
+pub smooth_spec : {M : Type 1} → statement M
+smooth_spec =
     tie.close
     (tie.spec
-    invariant-loop
-    decreases-loop
+    invariant-loop-k
+    decreases-loop-k
     loop-holds
     (λ c. search rules)
     (λ c. search rules)

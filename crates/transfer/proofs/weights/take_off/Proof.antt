@@ -7,5 +7,5 @@ use Rattle.transfer.proofs.weights.take_off.Tie as tie
 returns : tie.Need-returns
 returns c = refl
 
-pub take-off-spec : {M : Type 1} → statement M
-take-off-spec = tie.close (tie.spec (λ c. search rules) (λ c. search rules) (λ c. search rules) (λ c. search rules) returns)
+pub take_off_spec : {M : Type 1} → statement M
+take_off_spec = tie.close (tie.spec (λ c. search rules) (λ c. search rules) (λ c. search rules) (λ c. search rules) returns)

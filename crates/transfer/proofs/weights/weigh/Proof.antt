@@ -11,18 +11,17 @@ use Rattle.transfer.proofs.weights.weigh.Tie as tie
 
 smooth-requires : tie.Need-smooth-requires
 smooth-requires c κs =
-    let s = c.before.before.before.before.before.before.before.before.before.before in
-    ((s.requires.0.0, s.requires.0.1, s.requires.0.2), (s.requires.1.0, simp length-set (rw c.before.before.before.zero_at_lem.auto.0 s.requires.1.1.0)))
+    ((c.requires.0.0, c.requires.0.1, c.requires.0.2), (c.requires.1.0, simp length-set (rw c.zero_at.auto.w c.requires.1.1.0)))
 
-same_length : tie.Need-same-length
-same_length c = c.before.before.smooth.auto.1.1.1.1.1.1.1.1.1.0 ∙ simp length-set c.before.before.before.before.before.before.zero_at_lem.auto.0
+same_length : tie.Need-shape_of-w
+same_length c = c.smooth.auto.w ∙ simp length-set c.zero_at.auto.w
 
 returns : tie.Need-returns
 unfolding weighed
 returns c =
-    let a = c.before.before.before.before.before.before.before.before.before.before.before.before.before.args in
-    c.before.before.smooth.ensures ∙ ap (λ w. lowered (smoothing (coarse_column a.size a.ids.now) a.damping (oneᶠ /ᶠ a.d) (stored a.idx.now a.vals.now a.from a.to)) (set w a.own oneᶠ)) c.before.before.before.before.before.before.zero_at_lem.ensures
+    let a = c.args in
+    c.smooth.ensures ∙ ap (λ w. lowered (smoothing (coarse_column a.size a.ids.now) a.damping (oneᶠ /ᶠ a.d) (stored a.idx.now a.vals.now a.from a.to)) (set w a.own oneᶠ)) c.zero_at.ensures
 
-pub weigh-spec : {M : Type 1} → statement M
-weigh-spec =
+pub weigh_spec : {M : Type 1} → statement M
+weigh_spec =
     tie.close (tie.spec (λ c κs. search rules) (λ c. search rules) (λ c. search rules) smooth-requires same_length returns)
