@@ -83,6 +83,10 @@ class Walk:
             old, step = place[2]
             if old:
                 self.steps[old] = step
+        # an arm stands right behind the place at which the match begins
+        for m in re.finditer(r"record (\S+) : Type 0 where\n\s+pub before : (\S+)\n", lts):
+            if m[1] in self.parent:
+                self.parent[m[1]] = m[2]
         self.plain = {k.replace("_", "-"): v for k, v in self.marks.items()}
         self.steps.update({k.replace("_", "-"): v for k, v in list(self.steps.items())})
         self.steps.update({k.replace("-", "_"): v for k, v in list(self.steps.items())})

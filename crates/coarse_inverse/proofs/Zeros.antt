@@ -41,6 +41,10 @@ pub sub_plus : (s : Float) → Zero s → zeroᶠ -ᶠ s ≡ zeroᶠ
 unfolding sub add neg sum of_bits
 sub_plus (fin true zero e) z = rw (nil (up e) 1, nil 1 (down e)) (round_plus (1 * down e) (mul-pos (zero-lt-suc 0) (down_pos e)))
 sub_plus (fin false zero e) z = rw (nil (up e) 1, nil 1 (down e)) (round_plus (1 * down e) (mul-pos (zero-lt-suc 0) (down_pos e)))
+sub_plus nan z = elim z [ ]
+sub_plus (inf _) z = elim z [ ]
+sub_plus (fin false (suc _) e) z = elim z [ ]
+sub_plus (fin true (suc _) e) z = elim z [ ]
 
 pub div_plus : (p : Float) → Finite p → T (lt zeroᶠ p) → zeroᶠ /ᶠ p ≡ zeroᶠ
 unfolding div lt of_bits
@@ -61,6 +65,9 @@ unfolding add
 zero_add (fin s zero e) nan p z = inl refl
 zero_add (fin s zero e) (inf t) p z = inl refl
 zero_add (fin s zero e) (fin t n d) p z = elim (add_zero_l binary64 (fin s zero e) (fin t n d) p z tt) [ inl h ↦ inl h.1 | inr h ↦ inr h ]
+zero_add nan _ p z = elim z [ ]
+zero_add (inf _) _ p z = elim z [ ]
+zero_add (fin s (suc _) e) _ p z = elim z [ ]
 
 alike_add : (s t x : Float) → T (fits binary64 x) → Alike s t → Alike (s +ᶠ x) (t +ᶠ x)
 alike_add s t x p (inl e) = inl (ap (λ u. u +ᶠ x) e)

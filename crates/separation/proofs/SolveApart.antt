@@ -25,9 +25,13 @@ split false = inr tt
 
 pub differ : (p q : Bool) → T p → T (not q) → T (unlike p q)
 differ true false a b = tt
+differ false q a b = elim a [ ]
+differ true true a b = elim b [ ]
 
 pub differ_back : (p q : Bool) → T p → T (not q) → T (unlike q p)
 differ_back true false a b = tt
+differ_back false q a b = elim a [ ]
+differ_back true true a b = elim b [ ]
 
 -- of the entries below the diagonal, those between columns of Q and others vanish
 abbrev pub Parted : ℕ → (ℕ → ℕ → Float) → (ℕ → Bool) → Type 0

@@ -14,28 +14,28 @@ facts : (s : tie.Start) → s.args.basis ≡ JacobiSmoothed → Rowed s.args.s s
 facts s e = let h = s.requires in rowed_of s.args.basis s.args.s s.args.p _ h.0 h.1 e h.2
 
 add-e : tie.Need-overflow_add-e
-add-e c = omega (arith, facts c.before.before.before c.in-JacobiSmoothed.is)
+add-e c = omega (arith, facts c.before.before c.in-JacobiSmoothed.is)
 
 mul-rows-fit : tie.Need-offset_bounds-ints-a
-mul-rows-fit c = omega (arith, facts c.before.before.before c.in-JacobiSmoothed.is)
+mul-rows-fit c = omega (arith, facts c.before.before c.in-JacobiSmoothed.is)
 
 sub-rows-fit : tie.Need-slice_bounds-rows_fit-count
-sub-rows-fit c = omega (arith, facts c.before.before.before c.in-JacobiSmoothed.is)
+sub-rows-fit c = omega (arith, facts c.before.before c.in-JacobiSmoothed.is)
 
 part-rows-fit-start : tie.Need-slice_bounds-rows_fit-start
-part-rows-fit-start c = omega (arith, facts c.before.before.before c.in-JacobiSmoothed.is)
+part-rows-fit-start c = omega (arith, facts c.before.before c.in-JacobiSmoothed.is)
 
 part-rows-fit-end : tie.Need-slice_bounds-rows_fit-end
-part-rows-fit-end c = omega (arith, facts c.before.before.before c.in-JacobiSmoothed.is)
+part-rows-fit-end c = omega (arith, facts c.before.before c.in-JacobiSmoothed.is)
 
 mul-rows-fit-2 : tie.Need-offset_bounds-ints-b
-mul-rows-fit-2 c = omega (arith, facts c.before.before.before.before c.in-JacobiSmoothed.is)
+mul-rows-fit-2 c = omega (arith, facts c.before.before.before c.in-JacobiSmoothed.is)
 
 part-rows-fit-end-2 : tie.Need-slice_bounds-rows_fit-end-in-JacobiSmoothed
-part-rows-fit-end-2 c = omega (arith, facts c.before.before.before.before c.in-JacobiSmoothed.is)
+part-rows-fit-end-2 c = omega (arith, facts c.before.before.before c.in-JacobiSmoothed.is)
 
 rows-fit-requires : tie.Need-rows_fit-requires
-rows-fit-requires c κs = let f = facts c.before.before.before.before.before c.in-JacobiSmoothed.is in (simp (length-take, length-drop) (omega (arith, f)), f.rows)
+rows-fit-requires c κs = let f = facts c.before.before.before.before c.in-JacobiSmoothed.is in (simp (length-take, length-drop) (omega (arith, f)), f.rows)
 
 returns : tie.Need-returns-in-PiecewiseConstant
 unfolding transfer_fits

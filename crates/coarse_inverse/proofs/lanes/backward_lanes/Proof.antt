@@ -40,7 +40,7 @@ column-lanes-requires c κs =
     let o = c.loop-k in
     let f = facts c.before in (
       (omega arith, c.requires.0, omega arith, f.1, c.requires.2, omega (arith, c.requires.0, o.invariant.4)),
-      λ e. kept_here a.l.now o.auto a.c a.c o.k (row c.before) refl f.0 (o.invariant.5 e (omega arith)),
+      λ e. kept_here a.l.now o.kept a.c a.c o.k (row c.before) refl f.0 (o.invariant.5 e (omega arith)),
     )
 
 loop-again : tie.Need-loop-k-preserved invariant-loop-k decreases-loop-k

@@ -42,7 +42,7 @@ loop-again c =
       omega arith,
       next_at o.at a.i o.j o.invariant.2,
       c.add_lanes.ensures ∙ rw o.invariant.2 (sums_more 16 (λ j. packed_entry a.l.now j a.i) a.w.now (suc a.i) o.j o.sums o.invariant.0 o.invariant.3),
-      kept_more a.l.now a.kept.now o.auto a.i o.j o.at (omega arith) o.invariant.2 o.invariant.4,
+      kept_more a.l.now a.kept.now o.kept a.i o.j o.at (omega arith) o.invariant.2 o.invariant.4,
     )
 
 returns : tie.Need-returns invariant-loop-j decreases-loop-j

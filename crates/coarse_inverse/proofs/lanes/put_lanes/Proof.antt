@@ -15,13 +15,13 @@ abbrev decreases-loop-r : tie.decreases-loop-r
 decreases-loop-r w₀ at pivot sums r₀ w r = 16 - r
 
 loop-holds : tie.Need-loop-r-init invariant-loop-r decreases-loop-r
-loop-holds c = let a = c.args in (omega arith, refl, paste-zero a.w.now a.at (lanes_less 16 a.w.now a.at a.t3 a.pivot))
+loop-holds c = let a = c.args in (omega arith, refl, paste-zero a.w.now a.at (lanes_less 16 a.w.now a.at a.sums a.pivot))
 
 loop-again : tie.Need-loop-r-preserved invariant-loop-r decreases-loop-r
 loop-again c =
     let a = c.args in
     let o = c.loop-r in
-    (omega arith, simp length-set o.invariant.1, put_more 16 a.w.now a.at a.t3 a.pivot o.r o.w (omega arith) c.requires o.invariant.2)
+    (omega arith, simp length-set o.invariant.1, put_more 16 a.w.now a.at a.sums a.pivot o.r o.w (omega arith) c.requires o.invariant.2)
 
 returns : tie.Need-returns invariant-loop-r decreases-loop-r
 returns c = let e : c.loop-r.r ≡ 16 = omega arith in rw e at c.loop-r.invariant.2

@@ -45,7 +45,7 @@ col-sum-requires c κs =
     let r = row_is c.before in
     let n = o.invariant.2 in (
       (omega arith, (facts c.before).0, rw n c.requires.0, omega (arith, c.requires.1, n, o.invariant.5), omega (arith, c.requires.1, n)),
-      λ e. kept_here c.args.l.now o.auto (length o.y) (length c.args.y.now) o.k (row c.before) n r.1 (o.invariant.6 e r.0),
+      λ e. kept_here c.args.l.now o.kept (length o.y) (length c.args.y.now) o.k (row c.before) n r.1 (o.invariant.6 e r.0),
     )
 
 slice-read-y : tie.Need-bounds-y-i invariant-loop-k decreases-loop-k

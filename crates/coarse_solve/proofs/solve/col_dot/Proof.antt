@@ -38,7 +38,7 @@ loop-again c =
       o.invariant.2,
       next_at o.at a.i o.j o.invariant.3,
       col_step a.l.now a.y.now a.i o.j o.at o.sum o.invariant.0 o.invariant.3 o.invariant.4,
-      kept_more a.l.now a.kept.now o.auto a.i o.j o.at (omega arith) o.invariant.3 o.invariant.5,
+      kept_more a.l.now a.kept.now o.kept a.i o.j o.at (omega arith) o.invariant.3 o.invariant.5,
     )
 
 returns : tie.Need-returns invariant-loop-j decreases-loop-j

@@ -16,18 +16,18 @@ abbrev decreases-loop-k : tie.decreases-loop-k
 decreases-loop-k l y n starts acc₀ k₀ acc k = n - k
 
 loop-holds : tie.Need-loop-k-init invariant-loop-k decreases-loop-k
-loop-holds c = let a = c.args in (omega arith, sums_none a.l.now a.y.now a.t4 8)
+loop-holds c = let a = c.args in (omega arith, sums_none a.l.now a.y.now a.starts 8)
 
 add-terms-requires : tie.Need-add_terms-requires invariant-loop-k decreases-loop-k
 add-terms-requires c κs =
     let o = c.loop-k in
-    (ap length o.invariant.1 ∙ length_tab (λ r. row_sum c.args.l.now c.args.y.now o.k (get_or c.args.t4 r 0)) 8, λ r h. omega (arith, c.requires.1 r h, c.loop-k-test.true))
+    (ap length o.invariant.1 ∙ length_tab (λ r. row_sum c.args.l.now c.args.y.now o.k (get_or c.args.starts r 0)) 8, λ r h. omega (arith, c.requires.1 r h, c.loop-k-test.true))
 
 loop-again : tie.Need-loop-k-preserved invariant-loop-k decreases-loop-k
 loop-again c =
     let a = c.args in
     let o = c.loop-k in
-    (omega arith, sums_more a.l.now a.y.now a.t4 8 o.acc _ o.k o.invariant.1 c.add_terms.ensures)
+    (omega arith, sums_more a.l.now a.y.now a.starts 8 o.acc _ o.k o.invariant.1 c.add_terms.ensures)
 
 returns : tie.Need-returns invariant-loop-k decreases-loop-k
 returns c = let e : c.loop-k.k ≡ c.args.n = omega arith in rw e at c.loop-k.invariant.1
