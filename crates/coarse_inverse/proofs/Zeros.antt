@@ -81,7 +81,7 @@ alike_add s t x p (inr z) = both (zero_add s x p z.0) (zero_add t x p z.1)
 
 alike_sums : {s t : Float} {xs : List Float} → Each (λ x. T (fits binary64 x)) xs → Alike s t → Alike (foldl (λ a x. a +ᶠ x) s xs) (foldl (λ a x. a +ᶠ x) t xs)
 alike_sums none a = a
-alike_sums {s} {t} (more {x = x} p k) a = alike_sums k (alike_add s t x p a)
+alike_sums {s} {t} (more {x = x} p k) a = alike_sums {s = s +ᶠ x} {t = t +ᶠ x} k (alike_add s t x p a)
 
 zero_sums : (s : Float) {xs : List Float} → Each Zero xs → Zero s → Zero (foldl (λ a x. a +ᶠ x) s xs)
 zero_sums s none z = z

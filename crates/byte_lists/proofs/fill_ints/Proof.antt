@@ -18,7 +18,7 @@ loop-holds : tie.Need-loop-k-init invariant-loop-k decreases-loop-k
 loop-holds c = filled_none (omega arith)
 
 loop-again : tie.Need-loop-k-preserved invariant-loop-k decreases-loop-k
-loop-again c = filled_more c.loop-k.invariant (omega arith) c.Int-at.ensures
+loop-again c = filled_more c.loop-k.invariant (omega arith) c.int_at.ensures
 
 returns : tie.Need-returns invariant-loop-k decreases-loop-k
 unfolding words_of

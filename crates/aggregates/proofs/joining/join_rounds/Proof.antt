@@ -51,7 +51,7 @@ join-one-requires c κs =
     lists_still a.base a.nodes l.w r.w l.invariant.still (λ o n. HasTurn a.nodes a.groups a.base l.g o n l.w) (record {
       rep = l.invariant.rep;
       some = l.invariant.lo;
-      own_val = omega arith;
+      own = omega arith;
       none = l.invariant.none;
       room = lists_still a.base a.nodes r.w a.w.now r.invariant.still (λ o n. 5 * a.nodes + length n + 3 ≤ a.base) c.requires.1.0;
     })
