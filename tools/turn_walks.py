@@ -340,7 +340,7 @@ class Walk:
             if not m:
                 continue
             joined = [n for p, n in zip(self.of["places"], self.of["places_by_name"]) if p[2][1] == m[1] and p[0].startswith("Joined")]
-            ways = re.search(r"data Came-%s : Type 0 where\n((?:\s+\S+ : By-\S+ → \S+\n)+)" % re.escape(joined[0]), self.lts) if joined else None
+            ways = re.search(r"data Came-%s : Type 0 where\n((?:.*\S.*\n)+)" % re.escape(joined[0]), self.lts) if joined else None
             if not ways:
                 self.say("no branches found: %s" % last)
                 continue

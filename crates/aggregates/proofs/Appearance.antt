@@ -1,5 +1,5 @@
 -- Numbers by first appearance, one number further: what the numbers seen so far give the next one.
-use mathlib.Core.Path.{◌≡◌, refl, ap, sym, ◌∙◌}
+use mathlib.Core.Path.{◌≡◌, refl, ap, sym, subst, ◌∙◌}
 use mathlib.Core.Bool.{Bool, true, false, true≢false}
 use mathlib.Core.List.{List, [], ◌∷◌, ◌++◌, map}
 use Prim.Native.Nat.{ℕ, zero, suc, ◌-◌, ◌≤◌, ◌<◌}
@@ -79,8 +79,8 @@ numbers_are : (seen xs : List ℕ) → map (λ x. place x (firsts seen xs)) xs �
 unfolding numbers_from
 numbers_are seen [] = refl
 numbers_are seen (x ∷ xs) = split (has x seen)
-    (λ e. rw (firsts_old seen x xs e, numbers_old seen x xs e, place_kept x seen xs e) (ap (λ l. place x seen ∷ l) (numbers_are seen xs)))
-    (λ e. rw (firsts_new seen x xs e, numbers_new seen x xs e, place_kept x (seen ++ (x ∷ [])) xs (has_last x seen), place_new x seen e) (ap (λ l. length seen ∷ l) (numbers_are (seen ++ (x ∷ [])) xs)))
+    (λ e. subst (λ z. map (λ y. place y z) (x ∷ xs) ≡ numbers_from seen (x ∷ xs)) (sym (firsts_old seen x xs e)) (rw (numbers_old seen x xs e, place_kept x seen xs e) (ap (λ l. place x seen ∷ l) (numbers_are seen xs))))
+    (λ e. subst (λ z. map (λ y. place y z) (x ∷ xs) ≡ numbers_from seen (x ∷ xs)) (sym (firsts_new seen x xs e)) (rw (numbers_new seen x xs e, place_kept x (seen ++ (x ∷ [])) xs (has_last x seen), place_new x seen e) (ap (λ l. length seen ∷ l) (numbers_are (seen ++ (x ∷ [])) xs))))
 
 pub renumbered_ids : (ids : List ℕ) → (renumbered ids).ids ≡ numbers_from [] ids
 unfolding renumbered

@@ -78,7 +78,7 @@ block-into-requires c κs =
     (c.requires.0, (t.fits, t.small, place_long c.loop-k.used _ _ c.loop-k.factors refl (inside c.before)))
 
 same_length : tie.Need-shape_of-factors-in-Refused invariant-loop-k decreases-loop-k
-same_length c = c.zero_floats.auto.s ∙ still c.before.before.before.before.before.before.before.before.before ∙ long c.before.before.before.before.before.before.before.before.before.before.before.before.before
+same_length c = c.zero_floats.auto.s ∙ still c.before.before.before.before.before.before.before ∙ long c.before.before.before.before.before.before.before.before.before.before.before
 
 returns : tie.Need-returns-in-Refused invariant-loop-k decreases-loop-k
 unfolding block_count width_of answer_of
@@ -87,8 +87,8 @@ returns c =
     let l = c.loop-k in
     let w = c.width-w in
     let b = c.block_into-answer in
-    let o = blocks_stop (csr x.rows x.rows x.row_ptr.now x.col_idx.now x.values.now) x.size l.k l.used _ w.result c.loop-k-test.true w.ensures refl l.factors _ (inside c.before.before.before.before.before.before.before.before.before.before.before) b.auto.place b.ensures.1 l.invariant.5 b.result b.ensures.0 _ c.in-Refused.is in
-    (rw (o.0, answer_of), left_cleared (factors_of (csr x.rows x.rows x.row_ptr.now x.col_idx.now x.values.now) x.size) _ _ x.factors.now _ o.0 o.1 (still c.before.before.before.before.before.before.before.before.before ∙ long c.before.before.before.before.before.before.before.before.before.before.before.before.before) c.zero_floats.ensures)
+    let o = blocks_stop (csr x.rows x.rows x.row_ptr.now x.col_idx.now x.values.now) x.size l.k l.used _ w.result c.loop-k-test.true w.ensures refl l.factors _ (inside c.before.before.before.before.before.before.before.before.before) b.auto.place b.ensures.1 l.invariant.5 b.result b.ensures.0 _ c.in-Refused.is in
+    (rw (o.0, answer_of), left_cleared (factors_of (csr x.rows x.rows x.row_ptr.now x.col_idx.now x.values.now) x.size) _ _ x.factors.now _ o.0 o.1 (still c.before.before.before.before.before.before.before ∙ long c.before.before.before.before.before.before.before.before.before.before.before) c.zero_floats.ensures)
 
 add-k : tie.Need-overflow_add-k invariant-loop-k decreases-loop-k
 add-k c = omega (arith, c.loop-k-test.true, div-le_self (c.args.rows + (c.args.size - 1)) c.args.size, c.requires.0.few_rows, c.requires.1.1)
@@ -100,13 +100,13 @@ loop-again c =
     let l = c.loop-k in
     let w = c.width-w in
     let b = c.block_into-answer in
-    let t = here c.before.before.before.before.before.before in (
+    let t = here c.before.before.before.before.before in (
       omega (arith, c.loop-k-test.true),
       refl,
-      still c.before.before.before.before ∙ l.invariant.2,
+      still c.before.before.before ∙ l.invariant.2,
       t.next,
       t.ends,
-      blocks_more (csr x.rows x.rows x.row_ptr.now x.col_idx.now x.values.now) x.size l.k l.used _ w.result c.loop-k-test.true w.ensures refl l.factors _ (inside c.before.before.before.before.before.before) b.auto.place b.ensures.1 l.invariant.5 b.result b.ensures.0 c.in-Accepted.is,
+      blocks_more (csr x.rows x.rows x.row_ptr.now x.col_idx.now x.values.now) x.size l.k l.used _ w.result c.loop-k-test.true w.ensures refl l.factors _ (inside c.before.before.before.before.before) b.auto.place b.ensures.1 l.invariant.5 b.result b.ensures.0 c.in-Accepted.is,
     )
 
 mul-zero-floats : tie.Need-offset_bounds-factors-used-2 invariant-loop-k decreases-loop-k

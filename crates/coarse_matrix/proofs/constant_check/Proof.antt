@@ -12,26 +12,26 @@ use borrow.Author.Rules.{rules}
 use Rattle.coarse_matrix.proofs.constant_check.Statement.{statement}
 use Rattle.coarse_matrix.proofs.constant_check.Tie as tie
 
-returns : tie.Need-returns
+returns : tie.Need-returns-then-groups-gt-MAX_ROWS
 returns c =
-    let a = c.before.before.before.before.before.args in
-    let m = (csr a.rows a.cols a.row-ptr.now a.col-idx.now a.values.now) in
+    let a = c.args in
+    let m = (csr a.rows a.cols a.row_ptr.now a.col_idx.now a.values.now) in
     (many_groups m a.size a.ids.now a.groups a.lent (omega arith), not_accepted TooLarge (Rows m × ConstantFacts a.rows a.cols a.size a.ids.now a.groups a.lent))
 
-returns-2 : tie.Need-returns-2
+returns-2 : tie.Need-returns-in-Refused
 returns-2 c =
-    let a = c.before.before.before.before.before.before.before.before.before.args in
-    let m = (csr a.rows a.cols a.row-ptr.now a.col-idx.now a.values.now) in
-    (first_refused (structure_of m) (constant_checked m a.size a.ids.now a.groups a.lent) (constant_checks a.rows a.cols a.size a.ids.now a.groups a.lent) c.before.before.before.structure.result (answer_of (constant_checks a.rows a.cols a.size a.ids.now a.groups a.lent)) (few_groups m a.size a.ids.now a.groups a.lent (omega arith)) c.before.before.before.structure.ensures _ c.before.structured.given.1, not_accepted _ (Rows m × ConstantFacts a.rows a.cols a.size a.ids.now a.groups a.lent))
+    let a = c.args in
+    let m = (csr a.rows a.cols a.row_ptr.now a.col_idx.now a.values.now) in
+    (first_refused (structure_of m) (constant_checked m a.size a.ids.now a.groups a.lent) (constant_checks a.rows a.cols a.size a.ids.now a.groups a.lent) c.structure-structured.result (answer_of (constant_checks a.rows a.cols a.size a.ids.now a.groups a.lent)) (few_groups m a.size a.ids.now a.groups a.lent (omega arith)) c.structure-structured.ensures _ c.in-Refused.is, not_accepted _ (Rows m × ConstantFacts a.rows a.cols a.size a.ids.now a.groups a.lent))
 
-returns-3 : tie.Need-returns-3
+returns-3 : tie.Need-returns-in-Accepted
 returns-3 c =
-    let a = c.before.before.before.before.before.before.before.before.before.args in
-    let m = (csr a.rows a.cols a.row-ptr.now a.col-idx.now a.values.now) in
-    (then_told (structure_of m) (constant_checked m a.size a.ids.now a.groups a.lent) (constant_checks a.rows a.cols a.size a.ids.now a.groups a.lent) c.before.before.before.structure.result c.constant-checks.result (few_groups m a.size a.ids.now a.groups a.lent (omega arith)) c.before.before.before.structure.ensures c.before.enum_told.given.1 c.constant-checks.ensures.0, λ e. (structured_rows m (sym c.before.before.before.structure.ensures ∙ c.before.enum_told.given.1), c.constant-checks.ensures.1 e))
+    let a = c.args in
+    let m = (csr a.rows a.cols a.row_ptr.now a.col_idx.now a.values.now) in
+    (then_told (structure_of m) (constant_checked m a.size a.ids.now a.groups a.lent) (constant_checks a.rows a.cols a.size a.ids.now a.groups a.lent) c.structure-structured.result c.constant_checks.result (few_groups m a.size a.ids.now a.groups a.lent (omega arith)) c.structure-structured.ensures c.in-Accepted.is c.constant_checks.ensures.0, λ e. (structured_rows m (sym c.structure-structured.ensures ∙ c.in-Accepted.is), c.constant_checks.ensures.1 e))
 
-pub constant-check-spec : {M : Type 1} → statement M
-constant-check-spec =
+pub constant_check_spec : {M : Type 1} → statement M
+constant_check_spec =
     tie.close
     (tie.spec
     returns

@@ -10,23 +10,23 @@ use borrow.Author.Rules.{rules}
 use Rattle.coarse_matrix.proofs.galerkin_check.Statement.{statement}
 use Rattle.coarse_matrix.proofs.galerkin_check.Tie as tie
 
-galerkin-checks-requires : tie.Need-galerkin-checks-requires
-galerkin-checks-requires c κs = let a = c.before.before.before.before.before.before.before.before.args in (structured_rows (csr a.rows a.cols a.row-ptr.now a.col-idx.now a.values.now) (sym c.before.before.structure.ensures ∙ c.enum_told.given.1)).few_rows
+galerkin-checks-requires : tie.Need-galerkin_checks-requires
+galerkin-checks-requires c κs = let a = c.args in (structured_rows (csr a.rows a.cols a.row_ptr.now a.col_idx.now a.values.now) (sym c.structure-structured.ensures ∙ c.in-Accepted.is)).few_rows
 
-returns : tie.Need-returns
+returns : tie.Need-returns-in-Refused
 returns c =
-    let a = c.before.before.before.before.before.before.before.before.before.args in
-    let m = (csr a.rows a.cols a.row-ptr.now a.col-idx.now a.values.now) in
-    (first_refused (structure_of m) (galerkin_checked m a.c a.ptr.now a.idx.now a.count a.ints a.floats) (galerkin_checks a.rows a.cols a.c a.ptr.now a.idx.now a.count a.ints a.floats) c.before.before.before.structure.result (answer_of (galerkin_checks a.rows a.cols a.c a.ptr.now a.idx.now a.count a.ints a.floats)) (galerkin_checked_lem m a.c a.ptr.now a.idx.now a.count a.ints a.floats) c.before.before.before.structure.ensures _ c.before.structured.given.1, not_accepted _ (Rows m × GalerkinFacts a.rows a.cols a.c a.ptr.now a.idx.now a.count a.ints a.floats))
+    let a = c.args in
+    let m = (csr a.rows a.cols a.row_ptr.now a.col_idx.now a.values.now) in
+    (first_refused (structure_of m) (galerkin_checked m a.c a.ptr.now a.idx.now a.count a.ints a.floats) (galerkin_checks a.rows a.cols a.c a.ptr.now a.idx.now a.count a.ints a.floats) c.structure-structured.result (answer_of (galerkin_checks a.rows a.cols a.c a.ptr.now a.idx.now a.count a.ints a.floats)) (galerkin_checked_lem m a.c a.ptr.now a.idx.now a.count a.ints a.floats) c.structure-structured.ensures _ c.in-Refused.is, not_accepted _ (Rows m × GalerkinFacts a.rows a.cols a.c a.ptr.now a.idx.now a.count a.ints a.floats))
 
-returns-2 : tie.Need-returns-2
+returns-2 : tie.Need-returns-in-Accepted
 returns-2 c =
-    let a = c.before.before.before.before.before.before.before.before.before.args in
-    let m = (csr a.rows a.cols a.row-ptr.now a.col-idx.now a.values.now) in
-    (then_told (structure_of m) (galerkin_checked m a.c a.ptr.now a.idx.now a.count a.ints a.floats) (galerkin_checks a.rows a.cols a.c a.ptr.now a.idx.now a.count a.ints a.floats) c.before.before.before.structure.result c.galerkin-checks.result (galerkin_checked_lem m a.c a.ptr.now a.idx.now a.count a.ints a.floats) c.before.before.before.structure.ensures c.before.enum_told.given.1 c.galerkin-checks.ensures.0, λ e. (structured_rows m (sym c.before.before.before.structure.ensures ∙ c.before.enum_told.given.1), c.galerkin-checks.ensures.1 e))
+    let a = c.args in
+    let m = (csr a.rows a.cols a.row_ptr.now a.col_idx.now a.values.now) in
+    (then_told (structure_of m) (galerkin_checked m a.c a.ptr.now a.idx.now a.count a.ints a.floats) (galerkin_checks a.rows a.cols a.c a.ptr.now a.idx.now a.count a.ints a.floats) c.structure-structured.result c.galerkin_checks.result (galerkin_checked_lem m a.c a.ptr.now a.idx.now a.count a.ints a.floats) c.structure-structured.ensures c.in-Accepted.is c.galerkin_checks.ensures.0, λ e. (structured_rows m (sym c.structure-structured.ensures ∙ c.in-Accepted.is), c.galerkin_checks.ensures.1 e))
 
-pub galerkin-check-spec : {M : Type 1} → statement M
-galerkin-check-spec =
+pub galerkin_check_spec : {M : Type 1} → statement M
+galerkin_check_spec =
     tie.close
     (tie.spec
     (λ c κs. search rules)

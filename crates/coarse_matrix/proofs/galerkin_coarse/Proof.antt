@@ -11,34 +11,34 @@ use borrow.Author.Rules.{rules}
 use Rattle.coarse_matrix.proofs.galerkin_coarse.Statement.{statement}
 use Rattle.coarse_matrix.proofs.galerkin_coarse.Tie as tie
 
-galerkin-into-requires : tie.Need-galerkin-into-requires
+galerkin-into-requires : tie.Need-galerkin_into-requires
 galerkin-into-requires c κs =
-    let a = c.before.before.before.before.before.before.before.before.before.before.before.before.before.args in
-    let k = c.before.before.before.before.galerkin-check.ensures.1 c.before.before.enum_told.given.1 in
+    let a = c.args in
+    let k = c.galerkin_check-checked.ensures.1 c.in-Accepted.is in
     let f = k.1 in
-    ((k.0.few_rows, f.small, f.ints_room, f.floats_room), (walk_of a.rows a.cols a.row-ptr.now a.col-idx.now a.values.now f.same k.0, f.walk))
+    ((k.0.few_rows, f.small, f.ints_room, f.floats_room), (walk_of a.rows a.cols a.row_ptr.now a.col_idx.now a.values.now f.same k.0, f.walk))
 
-returns : tie.Need-returns
+returns : tie.Need-returns-in-Refused
 returns c =
-    let a = c.before.before.before.before.before.before.before.before.before.before.before.before.before.before.before.before.before.before.before.before.args in
-    let m = (csr a.rows a.cols a.row-ptr.now a.col-idx.now a.values.now) in
-    let t = told_refused zeroᶠ (galerkin_checked m a.c a.transfer-ptr.now a.transfer-idx.now (length a.weights.now) (length a.ints.now) (length a.floats.now)) (averaged_square a.c (square a.c (galerkin_entry m (row_of a.transfer-ptr.now a.transfer-idx.now a.weights.now)))) a.floats.now (galerkin_coarse_call m a.c a.transfer-ptr.now a.transfer-idx.now a.weights.now (length a.ints.now) (length a.floats.now)) c.before.before.before.before.before.before.before.before.before.before.before.galerkin-check.result (galerkin_call m a.c a.transfer-ptr.now a.transfer-idx.now a.weights.now (length a.ints.now) (length a.floats.now)) c.before.before.before.before.before.before.before.before.before.before.before.galerkin-check.ensures.0 _ c.before.before.leave-floats.new.1.0 c.before.before.before.before.before.before.before.before.before.checked.given.1 c.before.before.leave-floats.ensures in
-    let w = work_refused zeroᶠ (galerkin_checked m a.c a.transfer-ptr.now a.transfer-idx.now (length a.weights.now) (length a.ints.now) (length a.floats.now)) (averaged_square a.c (square a.c (galerkin_entry m (row_of a.transfer-ptr.now a.transfer-idx.now a.weights.now)))) a.floats.now (galerkin_coarse_call m a.c a.transfer-ptr.now a.transfer-idx.now a.weights.now (length a.ints.now) (length a.floats.now)) c.before.before.before.before.before.before.before.before.before.before.before.galerkin-check.result (galerkin_call m a.c a.transfer-ptr.now a.transfer-idx.now a.weights.now (length a.ints.now) (length a.floats.now)) c.before.before.before.before.before.before.before.before.before.before.before.galerkin-check.ensures.0 0 a.ints.now c.before.before.before.before.before.before.leave-ints.new.1.0 _ c.before.before.before.before.before.before.before.before.before.checked.given.1 c.before.before.before.before.before.before.leave-ints.ensures in
+    let a = c.args in
+    let m = (csr a.rows a.cols a.row_ptr.now a.col_idx.now a.values.now) in
+    let t = told_refused zeroᶠ (galerkin_checked m a.c a.transfer_ptr.now a.transfer_idx.now (length a.weights.now) (length a.ints.now) (length a.floats.now)) (averaged_square a.c (square a.c (galerkin_entry m (row_of a.transfer_ptr.now a.transfer_idx.now a.weights.now)))) a.floats.now (galerkin_coarse_call m a.c a.transfer_ptr.now a.transfer_idx.now a.weights.now (length a.ints.now) (length a.floats.now)) c.galerkin_check-checked.result (galerkin_call m a.c a.transfer_ptr.now a.transfer_idx.now a.weights.now (length a.ints.now) (length a.floats.now)) c.galerkin_check-checked.ensures.0 _ c.leave_floats.new.list c.in-Refused.is c.leave_floats.ensures in
+    let w = work_refused zeroᶠ (galerkin_checked m a.c a.transfer_ptr.now a.transfer_idx.now (length a.weights.now) (length a.ints.now) (length a.floats.now)) (averaged_square a.c (square a.c (galerkin_entry m (row_of a.transfer_ptr.now a.transfer_idx.now a.weights.now)))) a.floats.now (galerkin_coarse_call m a.c a.transfer_ptr.now a.transfer_idx.now a.weights.now (length a.ints.now) (length a.floats.now)) c.galerkin_check-checked.result (galerkin_call m a.c a.transfer_ptr.now a.transfer_idx.now a.weights.now (length a.ints.now) (length a.floats.now)) c.galerkin_check-checked.ensures.0 0 a.ints.now c.leave_ints.new.list _ c.in-Refused.is c.leave_ints.ensures in
     (t.0, w, t.1)
 
-returns-2 : tie.Need-returns-2
+returns-2 : tie.Need-returns-in-Accepted
 returns-2 c =
-    let a = c.before.before.before.before.before.before.before.before.before.before.before.before.before.before.before.before.before.before.args in
-    let m = (csr a.rows a.cols a.row-ptr.now a.col-idx.now a.values.now) in
-    let f = (c.before.before.before.before.before.before.before.before.before.galerkin-check.ensures.1 c.before.before.before.before.before.before.before.enum_told.given.1).1 in
-    let g = c.before.before.before.before.galerkin-into in
-    let t = told_done zeroᶠ (galerkin_checked m a.c a.transfer-ptr.now a.transfer-idx.now (length a.weights.now) (length a.ints.now) (length a.floats.now)) (averaged_square a.c (square a.c (galerkin_entry m (row_of a.transfer-ptr.now a.transfer-idx.now a.weights.now)))) a.floats.now (galerkin_coarse_call m a.c a.transfer-ptr.now a.transfer-idx.now a.weights.now (length a.ints.now) (length a.floats.now)) c.before.before.before.before.before.before.before.before.before.galerkin-check.result (galerkin_call m a.c a.transfer-ptr.now a.transfer-idx.now a.weights.now (length a.ints.now) (length a.floats.now)) c.before.before.before.before.before.before.before.before.before.galerkin-check.ensures.0 g.new.1.1.1.1.1.1.1.1.1.0 c.before.before.before.before.before.before.before.enum_told.given.1
-    (g.ensures.1 ∙ galerkin_square a.rows a.cols a.row-ptr.now a.col-idx.now a.values.now a.c a.transfer-ptr.now a.transfer-idx.now a.weights.now (length a.floats.now) f.same) in
-    let w = work_done zeroᶠ (galerkin_checked m a.c a.transfer-ptr.now a.transfer-idx.now (length a.weights.now) (length a.ints.now) (length a.floats.now)) (averaged_square a.c (square a.c (galerkin_entry m (row_of a.transfer-ptr.now a.transfer-idx.now a.weights.now)))) a.floats.now (galerkin_coarse_call m a.c a.transfer-ptr.now a.transfer-idx.now a.weights.now (length a.ints.now) (length a.floats.now)) c.before.before.before.before.before.before.before.before.before.galerkin-check.result (galerkin_call m a.c a.transfer-ptr.now a.transfer-idx.now a.weights.now (length a.ints.now) (length a.floats.now)) c.before.before.before.before.before.before.before.before.before.galerkin-check.ensures.0 0 a.ints.now g.new.1.1.1.1.1.1.1.1.0 c.before.before.before.before.before.before.before.enum_told.given.1 g.ensures.0 in
+    let a = c.args in
+    let m = (csr a.rows a.cols a.row_ptr.now a.col_idx.now a.values.now) in
+    let f = (c.galerkin_check-checked.ensures.1 c.in-Accepted.is).1 in
+    let g = c.galerkin_into in
+    let t = told_done zeroᶠ (galerkin_checked m a.c a.transfer_ptr.now a.transfer_idx.now (length a.weights.now) (length a.ints.now) (length a.floats.now)) (averaged_square a.c (square a.c (galerkin_entry m (row_of a.transfer_ptr.now a.transfer_idx.now a.weights.now)))) a.floats.now (galerkin_coarse_call m a.c a.transfer_ptr.now a.transfer_idx.now a.weights.now (length a.ints.now) (length a.floats.now)) c.galerkin_check-checked.result (galerkin_call m a.c a.transfer_ptr.now a.transfer_idx.now a.weights.now (length a.ints.now) (length a.floats.now)) c.galerkin_check-checked.ensures.0 g.new.floats c.in-Accepted.is
+    (g.ensures.1 ∙ galerkin_square a.rows a.cols a.row_ptr.now a.col_idx.now a.values.now a.c a.transfer_ptr.now a.transfer_idx.now a.weights.now (length a.floats.now) f.same) in
+    let w = work_done zeroᶠ (galerkin_checked m a.c a.transfer_ptr.now a.transfer_idx.now (length a.weights.now) (length a.ints.now) (length a.floats.now)) (averaged_square a.c (square a.c (galerkin_entry m (row_of a.transfer_ptr.now a.transfer_idx.now a.weights.now)))) a.floats.now (galerkin_coarse_call m a.c a.transfer_ptr.now a.transfer_idx.now a.weights.now (length a.ints.now) (length a.floats.now)) c.galerkin_check-checked.result (galerkin_call m a.c a.transfer_ptr.now a.transfer_idx.now a.weights.now (length a.ints.now) (length a.floats.now)) c.galerkin_check-checked.ensures.0 0 a.ints.now g.new.ints c.in-Accepted.is g.ensures.0 in
     (t.0, w, t.1)
 
-pub galerkin-coarse-spec : {M : Type 1} → statement M
-galerkin-coarse-spec =
+pub galerkin_coarse_spec : {M : Type 1} → statement M
+galerkin_coarse_spec =
     tie.close
     (tie.spec
     (λ c κs. search rules)

@@ -10,33 +10,33 @@ use borrow.Author.Rules.{rules}
 use Rattle.coarse_matrix.proofs.nonzeros.Statement.{statement}
 use Rattle.coarse_matrix.proofs.nonzeros.Tie as tie
 
-abbrev invariant-loop : tie.invariant-loop
-invariant-loop m count₀ k₀ k-end count k = (k ≤ k-end) × (k-end ≡ length m) × (count ≤ k) × (count ≡ nonzeros (take k m))
+abbrev invariant-loop-k : tie.invariant-loop-k
+invariant-loop-k m count₀ k₀ k-end count k = (k ≤ k-end) × (k-end ≡ length m) × (count ≤ k) × (count ≡ nonzeros (take k m))
 
-abbrev decreases-loop : tie.decreases-loop
-decreases-loop m count₀ k₀ k-end count k = k-end - k
+abbrev decreases-loop-k : tie.decreases-loop-k
+decreases-loop-k m count₀ k₀ k-end count k = k-end - k
 
-loop-holds : tie.Need-loop-init invariant-loop decreases-loop
+loop-holds : tie.Need-loop-k-init invariant-loop-k decreases-loop-k
 loop-holds c = (omega arith, refl, omega arith, nonzeros_none c.args.m.now)
 
-loop-again : tie.Need-loop-preserved invariant-loop decreases-loop
+loop-again : tie.Need-loop-k-preserved invariant-loop-k decreases-loop-k
 loop-again c =
-    let m = c.before.before.before.before.args.m.now in
-    let l = c.before.before.before.loop in
+    let m = c.args.m.now in
+    let l = c.loop-k in
     ⊎_elim
-    (λ w. rw w.1 (omega arith, refl, omega arith, nonzeros_more m l.k (omega arith) l.invariant.3 w.0.taken))
-    (λ w. rw w.1 (omega arith, refl, omega arith, nonzeros_same m l.k (omega arith) l.invariant.3 w.0.left))
-    c.if1.branch
+    (λ w. rw w.count-is (omega arith, refl, omega arith, nonzeros_more m l.k (omega arith) l.invariant.3 w.if-m-k.true))
+    (λ w. rw w.count-is (omega arith, refl, omega arith, nonzeros_same m l.k (omega arith) l.invariant.3 w.if-m-k.false))
+    c.if-m-k.branch-raw
 
-returns : tie.Need-returns invariant-loop decreases-loop
-returns c = nonzeros_all c.before.before.args.m.now c.before.loop.k (omega arith) c.before.loop.invariant.3
+returns : tie.Need-returns invariant-loop-k decreases-loop-k
+returns c = nonzeros_all c.args.m.now c.loop-k.k (omega arith) c.loop-k.invariant.3
 
-pub nonzeros-spec : {M : Type 1} → statement M
-nonzeros-spec =
+pub nonzeros_spec : {M : Type 1} → statement M
+nonzeros_spec =
     tie.close
     (tie.spec
-    invariant-loop
-    decreases-loop
+    invariant-loop-k
+    decreases-loop-k
     loop-holds
     (λ c. search rules)
     (λ c. search rules)

@@ -9,51 +9,51 @@ use borrow.Author.Rules.{rules}
 use Rattle.two_level_apply.proofs.apply.Statement.{statement}
 use Rattle.two_level_apply.proofs.apply.Tie as tie
 
-returns : tie.Need-returns
+returns : tie.Need-returns-in-Misfit
 returns c =
-    let a = c.before.before.before.before.before.before.before.before.before.before.args in
-    refused_call a.setup a.ints.now a.floats.now a.residual.now a.correction.now a.work.now SetupMisfit misfit_keeps (misfit a.setup a.ints.now a.floats.now a.residual.now (length a.correction.now) (length a.work.now) c.before.before.before.before.if1.true c.before.before.before.if2.true (misfit_tells a.setup a.ints.now a.floats.now _ c.before.before.setup_fits_lem.ensures c.enum_told.given.1))
+    let a = c.args in
+    refused_call a.setup a.ints.now a.floats.now a.residual.now a.correction.now a.work.now SetupMisfit misfit_keeps (misfit a.setup a.ints.now a.floats.now a.residual.now (length a.correction.now) (length a.work.now) c.if-given-rows.true c.if-room-rows.true (misfit_tells a.setup a.ints.now a.floats.now _ c.setup_fits-fitting.ensures c.in-Misfit.is))
 
-mul-if3 : tie.Need-overflow-mul-if3
+mul-if3 : tie.Need-overflow_mul-setup
 mul-if3 c =
-    let a = c.before.before.before.before.before.before.before.before.before.before.before.before.args in
-    let f = fits_tell a.setup a.ints.now a.floats.now _ c.before.before.before.before.setup_fits_lem.ensures _ c.before.before.fitting.given.1 in
+    let a = c.args in
+    let f = fits_tell a.setup a.ints.now a.floats.now _ c.setup_fits-fitting.ensures _ c.in-Fits.is in
     omega (arith, (bounds a.setup a.ints.now a.floats.now f.0).coarse)
 
 correct-requires : tie.Need-correct-requires
 correct-requires c κs =
-    let a = c.before.before.before.before.before.before.before.before.before.before.before.before.before.before.before.args in
-    let f = fits_tell a.setup a.ints.now a.floats.now _ c.before.before.before.before.before.before.before.setup_fits_lem.ensures _ c.before.before.before.before.before.fitting.given.1 in
-    (record { fits = f.0; places = f.1 }, c.before.before.before.before.before.before.before.before.before.if1.true, c.before.before.before.before.before.before.before.before.if2.true, c.before.before.if3.true)
+    let a = c.args in
+    let f = fits_tell a.setup a.ints.now a.floats.now _ c.setup_fits-fitting.ensures _ c.in-Fits.is in
+    (record { fits = f.0; places = f.1 }, c.if-given-rows.true, c.if-room-rows.true, c.if-setup-work.true)
 
-returns-2 : tie.Need-returns-2
+returns-2 : tie.Need-returns-then-setup-work
 returns-2 c =
-    let a = c.before.before.before.before.before.before.before.before.before.before.before.before.before.before.before.before.before.before.before.before.args in
-    let d = c.before.before.before.before.correct in
-    let f = fits_tell a.setup a.ints.now a.floats.now _ c.before.before.before.before.before.before.before.before.before.before.before.before.setup_fits_lem.ensures _ c.before.before.before.before.before.before.before.before.before.before.fitting.given.1 in
-    let g = c.before.before.before.before.before.before.before.before.before.before.before.before.before.if2.true in
-    done_call a.setup a.ints.now a.floats.now a.residual.now a.correction.now a.work.now d.new.1.1.1.1.1.0 d.new.1.1.1.1.1.1.0 (accepted a.setup a.ints.now a.floats.now a.residual.now (length a.correction.now) (length a.work.now) c.before.before.before.before.before.before.before.before.before.before.before.before.before.before.if1.true g f.0 c.before.before.before.before.before.before.before.if3.true) g d.ensures.0 d.ensures.1
+    let a = c.args in
+    let d = c.correct in
+    let f = fits_tell a.setup a.ints.now a.floats.now _ c.setup_fits-fitting.ensures _ c.in-Fits.is in
+    let g = c.if-room-rows.true in
+    done_call a.setup a.ints.now a.floats.now a.residual.now a.correction.now a.work.now d.new.z d.new.work (accepted a.setup a.ints.now a.floats.now a.residual.now (length a.correction.now) (length a.work.now) c.if-given-rows.true g f.0 c.if-setup-work.true) g d.ensures.0 d.ensures.1
 
-returns-3 : tie.Need-returns-3
+returns-3 : tie.Need-returns-in-Fits
 returns-3 c =
-    let a = c.before.before.before.before.before.before.before.before.before.before.before.before.before.args in
-    let f = fits_tell a.setup a.ints.now a.floats.now _ c.before.before.before.before.before.setup_fits_lem.ensures _ c.before.before.before.fitting.given.1 in
-    refused_call a.setup a.ints.now a.floats.now a.residual.now a.correction.now a.work.now ListTooShort short_keeps (work_short a.setup a.ints.now a.floats.now a.residual.now (length a.correction.now) (length a.work.now) c.before.before.before.before.before.before.before.if1.true c.before.before.before.before.before.before.if2.true f.0 c.if3.false)
+    let a = c.args in
+    let f = fits_tell a.setup a.ints.now a.floats.now _ c.setup_fits-fitting.ensures _ c.in-Fits.is in
+    refused_call a.setup a.ints.now a.floats.now a.residual.now a.correction.now a.work.now ListTooShort short_keeps (work_short a.setup a.ints.now a.floats.now a.residual.now (length a.correction.now) (length a.work.now) c.if-given-rows.true c.if-room-rows.true f.0 c.if-setup-work.false)
 
-returns-4 : tie.Need-returns-4
+returns-4 : tie.Need-returns-then-given-rows
 returns-4 c =
-    let a = c.before.before.before.before.before.before.before.args in
+    let a = c.args in
     let n = length a.correction.now in
-    refused_call a.setup a.ints.now a.floats.now a.residual.now a.correction.now a.work.now (WrongLength a.setup.rows n) (length_keeps a.setup.rows n) (correction_wrong a.setup a.ints.now a.floats.now a.residual.now (length a.correction.now) (length a.work.now) c.before.if1.true c.if2.false)
+    refused_call a.setup a.ints.now a.floats.now a.residual.now a.correction.now a.work.now (WrongLength a.setup.rows n) (length_keeps a.setup.rows n) (correction_wrong a.setup a.ints.now a.floats.now a.residual.now (length a.correction.now) (length a.work.now) c.if-given-rows.true c.if-room-rows.false)
 
-returns-5 : tie.Need-returns-5
+returns-5 : tie.Need-returns
 returns-5 c =
-    let a = c.before.before.before.before.before.before.args in
+    let a = c.args in
     let n = length a.residual.now in
-    refused_call a.setup a.ints.now a.floats.now a.residual.now a.correction.now a.work.now (WrongLength a.setup.rows n) (length_keeps a.setup.rows n) (residual_wrong a.setup a.ints.now a.floats.now a.residual.now (length a.correction.now) (length a.work.now) c.if1.false)
+    refused_call a.setup a.ints.now a.floats.now a.residual.now a.correction.now a.work.now (WrongLength a.setup.rows n) (length_keeps a.setup.rows n) (residual_wrong a.setup a.ints.now a.floats.now a.residual.now (length a.correction.now) (length a.work.now) c.if-given-rows.false)
 
-pub apply-spec : {M : Type 1} → statement M
-apply-spec =
+pub apply_spec : {M : Type 1} → statement M
+apply_spec =
     tie.close
     (tie.spec
     (λ c κs. search rules)

@@ -11,25 +11,24 @@ use Rattle.two_level_apply.proofs.solve_coarse.Tie as tie
 start_within : (s : tie.Start) → s.args.p.coarse ≤ length s.args.floats.now
 start_within s = let l = s.requires.0 in coarse_room s.args.s s.args.ints.now s.args.floats.now l.fits s.args.p l.places
 
-mul-coarse-solve : tie.Need-overflow-mul-coarse-solve
+mul-coarse-solve : tie.Need-offset_bounds-floats-a
 mul-coarse-solve c = omega (arith, start_within c.before.before.before)
 
-sub-coarse-solve : tie.Need-overflow-sub-coarse-solve
+sub-coarse-solve : tie.Need-slice_bounds-coarse_solve-count
 sub-coarse-solve c = omega (arith, start_within c.before.before.before)
 
-part-coarse-solve-start : tie.Need-slice-bounds-coarse-solve-start
+part-coarse-solve-start : tie.Need-slice_bounds-coarse_solve-start
 part-coarse-solve-start c = omega (arith, start_within c.before.before.before)
 
 returns : tie.Need-returns
 returns c =
-    let s = c.before.before.before.before.before.before.before.before in
-    let a = s.args in
-    let l = s.requires.0 in
-    let d = c.before.before.coarse-solve in
-    coarse_left a.s a.ints.now a.floats.now l.fits a.work.now d.new.1.1.1.0 s.requires.1 (rw l.places at d.ensures.1)
+    let a = c.args in
+    let l = c.requires.0 in
+    let d = c.coarse_solve in
+    coarse_left a.s a.ints.now a.floats.now l.fits a.work.now d.new.work c.requires.1 (rw l.places at d.ensures.1)
 
-pub solve-coarse-spec : {M : Type 1} → statement M
-solve-coarse-spec =
+pub solve_coarse_spec : {M : Type 1} → statement M
+solve_coarse_spec =
     tie.close
     (tie.spec
     mul-coarse-solve

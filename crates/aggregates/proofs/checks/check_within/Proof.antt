@@ -94,7 +94,7 @@ answered : (c : tie.After-check_lists-lists) → c.check_lists-lists.result ≡ 
 answered c = let a = c.args in c.check_lists-lists.ensures ∙ ap answer_of (cut_lists_lem a.base a.nodes a.w.now c.lesser-start.result c.lesser-mid.result c.lesser-start.ensures c.lesser-mid.ensures c.if-nodes-mid.count c.lesser-end.result (counted c.before.before.before.before.before) c.lesser-end.ensures a.size)
 
 listed_ok : (c : tie.In-Accepted) → Accepted ≡ answer_of (lists_call c.args.nodes c.args.size (offsets_at c.args.base c.args.nodes c.args.w.now) (neighbours_at c.args.base c.args.nodes c.args.w.now))
-listed_ok c = sym c.in-Accepted.is ∙ answered c.before.before
+listed_ok c = sym c.in-Accepted.is ∙ answered c.before
 
 sub-room-for : tie.Need-overflow_sub-end
 sub-room-for c = omega (arith, c.lesser-start.ensures, c.lesser-mid.ensures, c.lesser-end.ensures)
@@ -102,22 +102,22 @@ sub-room-for c = omega (arith, c.lesser-start.ensures, c.lesser-mid.ensures, c.l
 room-for-requires : tie.Need-room_for-requires
 room-for-requires c κs =
     let a = c.args in
-    omega (arith, accepted_few a.nodes a.size (offsets_at a.base a.nodes a.w.now) (neighbours_at a.base a.nodes a.w.now) (listed_ok c), cut_count a.base a.nodes a.w.now c.lesser-start.result c.lesser-mid.result c.lesser-start.ensures c.lesser-mid.ensures c.if-nodes-mid.count c.lesser-end.result (counted c.before.before.before.before.before.before.before) c.lesser-end.ensures)
+    omega (arith, accepted_few a.nodes a.size (offsets_at a.base a.nodes a.w.now) (neighbours_at a.base a.nodes a.w.now) (listed_ok c), cut_count a.base a.nodes a.w.now c.lesser-start.result c.lesser-mid.result c.lesser-start.ensures c.lesser-mid.ensures c.if-nodes-mid.count c.lesser-end.result (counted c.before.before.before.before.before.before) c.lesser-end.ensures)
 
 returns-2 : tie.Need-returns-then-base-room_for
 returns-2 c =
     let a = c.args in
-    rw (within_is a.nodes a.size a.base a.w.now) (room_short (lists_call a.nodes a.size (offsets_at a.base a.nodes a.w.now) (neighbours_at a.base a.nodes a.w.now)) (in_room a.nodes a.size a.base a.w.now) (graph_grouping (lists_at a.base a.nodes a.w.now) no_anchor a.nodes a.size) (listed_ok c.before.before) (lt-leb (room_for a.nodes (length (neighbours_at a.base a.nodes a.w.now))) a.base (omega (arith, c.if-base-room_for.true, c.room_for.ensures, cut_count a.base a.nodes a.w.now c.lesser-start.result c.lesser-mid.result c.lesser-start.ensures c.lesser-mid.ensures c.if-nodes-mid.count c.lesser-end.result (counted c.before.before.before.before.before.before.before.before.before) c.lesser-end.ensures))))
+    rw (within_is a.nodes a.size a.base a.w.now) (room_short (lists_call a.nodes a.size (offsets_at a.base a.nodes a.w.now) (neighbours_at a.base a.nodes a.w.now)) (in_room a.nodes a.size a.base a.w.now) (graph_grouping (lists_at a.base a.nodes a.w.now) no_anchor a.nodes a.size) (listed_ok c.before.before) (lt-leb (room_for a.nodes (length (neighbours_at a.base a.nodes a.w.now))) a.base (omega (arith, c.if-base-room_for.true, c.room_for.ensures, cut_count a.base a.nodes a.w.now c.lesser-start.result c.lesser-mid.result c.lesser-start.ensures c.lesser-mid.ensures c.if-nodes-mid.count c.lesser-end.result (counted c.before.before.before.before.before.before.before.before) c.lesser-end.ensures))))
 
 returns-3 : tie.Need-returns-in-Refused
 returns-3 c =
     let a = c.args in
-    rw (within_is a.nodes a.size a.base a.w.now) (room_refused (lists_call a.nodes a.size (offsets_at a.base a.nodes a.w.now) (neighbours_at a.base a.nodes a.w.now)) (in_room a.nodes a.size a.base a.w.now) (graph_grouping (lists_at a.base a.nodes a.w.now) no_anchor a.nodes a.size) c.in-Refused.cause (sym c.in-Refused.is ∙ answered c.before.before.before))
+    rw (within_is a.nodes a.size a.base a.w.now) (room_refused (lists_call a.nodes a.size (offsets_at a.base a.nodes a.w.now) (neighbours_at a.base a.nodes a.w.now)) (in_room a.nodes a.size a.base a.w.now) (graph_grouping (lists_at a.base a.nodes a.w.now) no_anchor a.nodes a.size) c.in-Refused.cause (sym c.in-Refused.is ∙ answered c.before))
 
 returns-4 : tie.Need-returns-else-base-room_for
 returns-4 c =
     let a = c.args in
-    rw (within_is a.nodes a.size a.base a.w.now) (room_enough (lists_call a.nodes a.size (offsets_at a.base a.nodes a.w.now) (neighbours_at a.base a.nodes a.w.now)) (in_room a.nodes a.size a.base a.w.now) (graph_grouping (lists_at a.base a.nodes a.w.now) no_anchor a.nodes a.size) (listed_ok c.before.before) (le-leb (room_for a.nodes (length (neighbours_at a.base a.nodes a.w.now))) a.base (omega (arith, c.if-base-room_for.false, c.room_for.ensures, cut_count a.base a.nodes a.w.now c.lesser-start.result c.lesser-mid.result c.lesser-start.ensures c.lesser-mid.ensures c.if-nodes-mid.count c.lesser-end.result (counted c.before.before.before.before.before.before.before.before.before) c.lesser-end.ensures))))
+    rw (within_is a.nodes a.size a.base a.w.now) (room_enough (lists_call a.nodes a.size (offsets_at a.base a.nodes a.w.now) (neighbours_at a.base a.nodes a.w.now)) (in_room a.nodes a.size a.base a.w.now) (graph_grouping (lists_at a.base a.nodes a.w.now) no_anchor a.nodes a.size) (listed_ok c.before.before) (le-leb (room_for a.nodes (length (neighbours_at a.base a.nodes a.w.now))) a.base (omega (arith, c.if-base-room_for.false, c.room_for.ensures, cut_count a.base a.nodes a.w.now c.lesser-start.result c.lesser-mid.result c.lesser-start.ensures c.lesser-mid.ensures c.if-nodes-mid.count c.lesser-end.result (counted c.before.before.before.before.before.before.before.before) c.lesser-end.ensures))))
 
 pub check_within_spec : {M : Type 1} → statement M
 check_within_spec =

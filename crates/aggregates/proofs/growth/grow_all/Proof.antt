@@ -51,8 +51,8 @@ loop-again c =
     ⊎_elim
     (λ x.
     let f = x.grow_group in
-    let grows = lists_still a.base a.nodes a.w.now l.w (sym l.invariant.still) (λ o n. take a.nodes f.last.0 ≡ grow_group (listed o n) no_anchor (l.g + 1) a.size (take a.nodes l.w) (l.v ∷ [])) f.ensures.0 in
-    rw (x.w-is, x.g-is) (seed_grows (offsets_at a.base a.nodes a.w.now) (neighbours_at a.base a.nodes a.w.now) a.base a.nodes a.w.now a.size l.w l.g l.v l.invariant (omega arith) f.last.0 x.if-w-v-eq0.true grows f.kept.0 f.ensures.1))
+    let grows = lists_still a.base a.nodes a.w.now l.w (sym l.invariant.still) (λ o n. take a.nodes f.new.w ≡ grow_group (listed o n) no_anchor (l.g + 1) a.size (take a.nodes l.w) (l.v ∷ [])) f.ensures.0 in
+    rw (x.w-is, x.g-is) (seed_grows (offsets_at a.base a.nodes a.w.now) (neighbours_at a.base a.nodes a.w.now) a.base a.nodes a.w.now a.size l.w l.g l.v l.invariant (omega arith) f.new.w x.if-w-v-eq0.true grows f.auto.w f.ensures.1))
     (λ x. rw (x.w-is, x.g-is) (seed_passes (offsets_at a.base a.nodes a.w.now) (neighbours_at a.base a.nodes a.w.now) a.base a.nodes a.w.now a.size l.w l.g l.v l.invariant (omega arith) x.if-w-v-eq0.false))
     c.if-w-v-eq0.branch-raw
 

@@ -110,9 +110,9 @@ loop-again c =
     let from = c.offset-i.result in
     let k : to ≤ length nb = to_fits c.before.before.before.before.before.before in
     ⊎_elim
-    (λ x. rw (x.2, x.3, x.4, ← c.wide-x.ensures) (push_takes nb a.w.now a.base a.nodes from to a.g a.tail a.room l.w l.end l.left l.i l.invariant c.requires.fits c.loop-i-test.true k c.wide-x.result u (below c.before.before) x.0.taken x.1.left))
-    (λ x. rw (x.1, x.2, x.3) (push_skips nb a.w.now a.base a.nodes from to a.g a.tail a.room l.w l.end l.left l.i l.invariant c.requires.fits c.loop-i-test.true k c.wide-x.result u (below c.before.before) x.0.left))
-    c.if-w-x-eq0.branch
+    (λ x. rw (x.w-is, x.end-is, x.left-is, ← c.wide-x.ensures) (push_takes nb a.w.now a.base a.nodes from to a.g a.tail a.room l.w l.end l.left l.i l.invariant c.requires.fits c.loop-i-test.true k c.wide-x.result u (below c.before.before) x.if-w-x-eq0.true x.if-left-eq0.false))
+    (λ x. rw (x.w-is, x.end-is, x.left-is) (push_skips nb a.w.now a.base a.nodes from to a.g a.tail a.room l.w l.end l.left l.i l.invariant c.requires.fits c.loop-i-test.true k c.wide-x.result u (below c.before.before) x.if-w-x-eq0.false))
+    c.if-w-x-eq0.branch-raw
 
 same-length-2 : tie.Need-shape_of-w invariant-loop-i decreases-loop-i
 same-length-2 c = c.loop-i.invariant.same

@@ -35,12 +35,12 @@ loop-again c =
     let m : length l.row ≡ n = l.invariant.2 in
     entry_passed (sum_at i v x.from (l.k + 1) x.first) n x.from l.k x.to c.if-first-c.row l.invariant.0 (omega arith)
     (⊎_elim
-    (λ w. gather_hit i v x.from x.first l.k l.invariant.0 h c.requires.0.2 n l.row c.if-first-c.row l.invariant.3 (t.result - x.first) (omega (arith, w.1.taken)) (sym t.ensures ∙ omega (arith, w.0.taken)) w.4)
+    (λ w. gather_hit i v x.from x.first l.k l.invariant.0 h c.requires.0.2 n l.row c.if-first-c.row l.invariant.3 (t.result - x.first) (omega (arith, w.if-j-row.true)) (sym t.ensures ∙ omega (arith, w.if-first-c.true)) w.row-is)
     (λ w'. ⊎_elim
-    (λ w. gather_miss i v x.from x.first l.k l.invariant.0 h c.requires.0.2 n l.row c.if-first-c.row l.invariant.3 w.2 (λ j q e. omega (arith, w.0.taken, w.1.left, t.ensures ∙ e)))
-    (λ w. gather_miss i v x.from x.first l.k l.invariant.0 h c.requires.0.2 n l.row c.if-first-c.row l.invariant.3 w.1 (λ j q e. omega (arith, w.0.left, t.ensures ∙ e)))
+    (λ w. gather_miss i v x.from x.first l.k l.invariant.0 h c.requires.0.2 n l.row c.if-first-c.row l.invariant.3 w.row-is (λ j q e. omega (arith, w.if-first-c.true, w.if-j-row.false, t.ensures ∙ e)))
+    (λ w. gather_miss i v x.from x.first l.k l.invariant.0 h c.requires.0.2 n l.row c.if-first-c.row l.invariant.3 w.row-is (λ j q e. omega (arith, w.if-first-c.false, t.ensures ∙ e)))
     w')
-    c.if-first-c.branch)
+    c.if-first-c.branch-raw)
 
 returns : tie.Need-returns invariant-loop-k decreases-loop-k
 returns c =

@@ -5,36 +5,34 @@ use borrow.Author.Rules.{rules}
 use Rattle.coarse_matrix.proofs.constant.coarse_of.Statement.{statement}
 use Rattle.coarse_matrix.proofs.constant.coarse_of.Tie as tie
 
-shared-slice-read-wide : tie.Need-shared-slice-read-wide
-shared-slice-read-wide c = rw c.before.quotient.ensures c.before.before.before.requires.1
+shared-slice-read-wide : tie.Need-bounds-ids-node
+shared-slice-read-wide c = rw c.quotient-node.ensures c.requires.1
 
-mul-result : tie.Need-overflow-mul-result
+mul-result : tie.Need-overflow_mul-result
 mul-result c =
-    let p = c.before.before.before.before in
-    omega (arith, p.requires.2, column_from p.args.size p.args.ids.now p.args.row _ _ c.before.before.quotient.ensures c.wide.ensures)
+    omega (arith, c.requires.2, column_from c.args.size c.args.ids.now c.args.row _ _ c.quotient-node.ensures c.wide.ensures)
 
-mul-result-2 : tie.Need-overflow-mul-result-2
+mul-result-2 : tie.Need-overflow_mul-result-2
 mul-result-2 c =
-    let a = c.before.before.before.before.args in
-    omega (arith, node_rows a.size a.ids.now a.row _ _ c.before.before.quotient.ensures c.wide.ensures)
+    let a = c.args in
+    omega (arith, node_rows a.size a.ids.now a.row _ _ c.quotient-node.ensures c.wide.ensures)
 
-sub-result : tie.Need-overflow-sub-result
+sub-result : tie.Need-overflow_sub-result
 sub-result c =
-    let a = c.before.before.before.before.args in
-    omega (arith, node_rows a.size a.ids.now a.row _ _ c.before.before.quotient.ensures c.wide.ensures)
+    let a = c.args in
+    omega (arith, node_rows a.size a.ids.now a.row _ _ c.quotient-node.ensures c.wide.ensures)
 
-add-result : tie.Need-overflow-add-result
+add-result : tie.Need-overflow_add-result
 add-result c =
-    let p = c.before.before.before.before in
-    rw (column_is p.args.size p.args.ids.now p.args.row _ _ c.before.before.quotient.ensures c.wide.ensures) (omega (arith, p.requires.2))
+    rw (column_is c.args.size c.args.ids.now c.args.row _ _ c.quotient-node.ensures c.wide.ensures) (omega (arith, c.requires.2))
 
 returns : tie.Need-returns
 returns c =
-    let a = c.before.before.before.before.args in
-    column_is a.size a.ids.now a.row _ _ c.before.before.quotient.ensures c.wide.ensures
+    let a = c.args in
+    column_is a.size a.ids.now a.row _ _ c.quotient-node.ensures c.wide.ensures
 
-pub coarse-of-spec : {M : Type 1} → statement M
-coarse-of-spec =
+pub coarse_of_spec : {M : Type 1} → statement M
+coarse_of_spec =
     tie.close
     (tie.spec
     (λ c κs. search rules)

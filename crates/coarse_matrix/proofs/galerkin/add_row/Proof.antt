@@ -9,70 +9,70 @@ use borrow.Author.Rules.{rules}
 use Rattle.coarse_matrix.proofs.galerkin.add_row.Statement.{statement}
 use Rattle.coarse_matrix.proofs.galerkin.add_row.Tie as tie
 
-abbrev invariant-loop : tie.invariant-loop
-invariant-loop idx vals from to n tptr tidx weights c base token ints₀ floats₀ count₀ p₀ ints floats count p = (from ≤ p) × (p ≤ to) × Put c base token ints₀ floats₀ 0 ints floats count (product_puts (row_of tptr tidx weights) (stored idx vals from p))
+abbrev invariant-loop-p : tie.invariant-loop-p
+invariant-loop-p idx vals from to n tptr tidx weights c base token ints₀ floats₀ count₀ p₀ ints floats count p = (from ≤ p) × (p ≤ to) × Put c base token ints₀ floats₀ 0 ints floats count (product_puts (row_of tptr tidx weights) (stored idx vals from p))
 
-abbrev decreases-loop : tie.decreases-loop
-decreases-loop idx vals from to n tptr tidx weights c base token ints₀ floats₀ count₀ p₀ ints floats count p = to - p
+abbrev decreases-loop-p : tie.decreases-loop-p
+decreases-loop-p idx vals from to n tptr tidx weights c base token ints₀ floats₀ count₀ p₀ ints floats count p = to - p
 
-column : (c : tie.After-wide invariant-loop decreases-loop) → c.wide.result < c.before.before.before.before.before.before.before.before.before.before.before.args.n
-column c = rw c.wide.ensures (c.before.before.before.before.before.before.before.before.before.before.before.requires.1.0 c.before.before.before.loop.p (omega arith))
+column : (c : tie.After-wide-col invariant-loop-p decreases-loop-p) → c.wide-col.result < c.args.n
+column c = rw c.wide-col.ensures (c.requires.1.0 c.loop-p.p (omega arith))
 
-loop-holds : tie.Need-loop-init invariant-loop decreases-loop
+loop-holds : tie.Need-loop-p-init invariant-loop-p decreases-loop-p
 loop-holds c =
-    let a = c.before.before.before.before.before.before.before.args in
-    (omega arith, omega arith, rw (products_none a.tptr.now a.tidx.now a.weights.now a.idx.now a.vals.now a.from) (put_none a.c a.base a.token a.ints.now a.floats.now 0 c.before.before.before.before.before.before.before.requires.1.1.1))
+    let a = c.args in
+    (omega arith, omega arith, rw (products_none a.tptr.now a.tidx.now a.weights.now a.idx.now a.vals.now a.from) (put_none a.c a.base a.token a.ints.now a.floats.now 0 c.requires.1.1.1))
 
-mul-wide-2 : tie.Need-overflow-mul-wide-2 invariant-loop decreases-loop
-mul-wide-2 c = omega (arith, column c, c.before.before.before.before.before.before.before.before.before.before.before.requires.1.1.0.long)
+mul-wide-2 : tie.Need-offset_bounds-tptr-col invariant-loop-p decreases-loop-p
+mul-wide-2 c = omega (arith, column c, c.requires.1.1.0.long)
 
-shared-slice-read-wide-2 : tie.Need-shared-slice-read-wide-2 invariant-loop decreases-loop
-shared-slice-read-wide-2 c = omega (arith, column c.before, c.before.before.before.before.before.before.before.before.before.before.before.before.requires.1.1.0.long)
+shared-slice-read-wide-2 : tie.Need-bounds-tptr-col invariant-loop-p decreases-loop-p
+shared-slice-read-wide-2 c = omega (arith, column c.before, c.requires.1.1.0.long)
 
-add_wide : tie.Need-overflow-add-wide invariant-loop decreases-loop
-add_wide c = omega (arith, column c.before.before, c.before.before.before.before.before.before.before.before.before.before.before.before.before.requires.1.1.0.long)
+add_wide : tie.Need-overflow_add-col invariant-loop-p decreases-loop-p
+add_wide c = omega (arith, column c.before.before, c.requires.1.1.0.long)
 
-mul-wide-3 : tie.Need-overflow-mul-wide-3 invariant-loop decreases-loop
-mul-wide-3 c = omega (arith, column c.before.before, c.before.before.before.before.before.before.before.before.before.before.before.before.before.requires.1.1.0.long)
+mul-wide-3 : tie.Need-offset_bounds-tptr-col-in-loop-p invariant-loop-p decreases-loop-p
+mul-wide-3 c = omega (arith, column c.before.before, c.requires.1.1.0.long)
 
-shared-slice-read-wide-3 : tie.Need-shared-slice-read-wide-3 invariant-loop decreases-loop
-shared-slice-read-wide-3 c = omega (arith, column c.before.before.before, c.before.before.before.before.before.before.before.before.before.before.before.before.before.before.requires.1.1.0.long)
+shared-slice-read-wide-3 : tie.Need-bounds-tptr-col-in-loop-p invariant-loop-p decreases-loop-p
+shared-slice-read-wide-3 c = omega (arith, column c.before.before.before, c.requires.1.1.0.long)
 
-add-products-requires : tie.Need-add-products-requires invariant-loop decreases-loop
+add-products-requires : tie.Need-add_products-count-requires invariant-loop-p decreases-loop-p
 add-products-requires c κs =
-    let a = c.before.before.before.before.before.before.before.before.before.before.before.before.before.before.before.before.before.before.args in
-    let p = c.before.before.before.before.before.before.before.before.before.before.before.before.before.before.before.before.before.before.requires in
-    let o = c.before.before.before.before.before.before.before.before.before.before.loop in
+    let a = c.args in
+    let p = c.requires in
+    let o = c.loop-p in
     let w = p.1.1.0 in
-    let h = row_stored c.before.before.before.before.before.before.before.wide.result c.before.before.before.before.before.wide2.result c.before.before.before.wide3.result w (column c.before.before.before.before.before.before.before) c.before.before.before.before.before.wide2.ensures c.before.before.before.wide3.ensures in
+    let h = row_stored c.wide-col.result c.wide-first.result c.wide-last.result w (column c.before.before.before.before.before.before.before) c.wide-first.ensures c.wide-last.ensures in
     ((h.0, h.1, w.same, p.0.3, omega (arith, p.0.4, o.invariant.2.floats_long)), (w.within, o.invariant.2.room))
 
-loop-again : tie.Need-loop-preserved invariant-loop decreases-loop
+loop-again : tie.Need-loop-p-preserved invariant-loop-p decreases-loop-p
 loop-again c =
-    let a = c.before.before.before.before.before.before.before.before.before.before.before.before.before.before.before.before.before.before.before.before.before.before.before.args in
-    let p = c.before.before.before.before.before.before.before.before.before.before.before.before.before.before.before.before.before.before.before.before.before.before.before.requires in
-    let o = c.before.before.before.before.before.before.before.before.before.before.before.before.before.before.before.loop in (
+    let a = c.args in
+    let p = c.requires in
+    let o = c.loop-p in (
       omega arith,
       omega arith,
-      entries_more a.tptr.now a.tidx.now a.weights.now a.idx.now a.vals.now a.from o.p c.before.before.before.before.before.before.before.before.before.before.before.before.wide.result c.before.before.before.before.before.before.before.before.before.before.wide2.result c.before.before.before.before.before.before.before.before.wide3.result (omega arith) (omega arith) p.0.2
-          c.before.before.before.before.before.before.before.before.before.before.before.before.wide.ensures c.before.before.before.before.before.before.before.before.before.before.wide2.ensures c.before.before.before.before.before.before.before.before.wide3.ensures o.invariant.2 c.before.before.before.before.add-products.ensures,
+      entries_more a.tptr.now a.tidx.now a.weights.now a.idx.now a.vals.now a.from o.p c.wide-col.result c.wide-first.result c.wide-last.result (omega arith) (omega arith) p.0.2
+          c.wide-col.ensures c.wide-first.ensures c.wide-last.ensures o.invariant.2 c.add_products-count.ensures,
     )
 
-same_length : tie.Need-same-length invariant-loop decreases-loop
-same_length c = c.before.loop.invariant.2.ints_long
+same_length : tie.Need-shape_of-ints invariant-loop-p decreases-loop-p
+same_length c = c.loop-p.invariant.2.ints_long
 
-same-length-2 : tie.Need-same-length-2 invariant-loop decreases-loop
-same-length-2 c = c.before.loop.invariant.2.floats_long
+same-length-2 : tie.Need-shape_of-floats invariant-loop-p decreases-loop-p
+same-length-2 c = c.loop-p.invariant.2.floats_long
 
-returns : tie.Need-returns invariant-loop decreases-loop
-returns c = let e : c.before.loop.p ≡ c.before.before.before.before.before.before.before.before.before.args.to = omega arith in rw e at c.before.loop.invariant.2
+returns : tie.Need-returns invariant-loop-p decreases-loop-p
+returns c = let e : c.loop-p.p ≡ c.args.to = omega arith in rw e at c.loop-p.invariant.2
 
-pub add-row-spec : {M : Type 1} → statement M
-add-row-spec =
+pub add_row_spec : {M : Type 1} → statement M
+add_row_spec =
     tie.close
     (tie.spec
-    invariant-loop
-    decreases-loop
+    invariant-loop-p
+    decreases-loop-p
     loop-holds
     (λ c. search rules)
     (λ c. search rules)

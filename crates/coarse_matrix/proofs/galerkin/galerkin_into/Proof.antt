@@ -10,16 +10,16 @@ use Rattle.coarse_matrix.proofs.galerkin.galerkin_into.Tie as tie
 
 returns : tie.Need-returns
 returns c =
-    let a = c.before.before.before.before.before.before.before.before.before.before.before.before.before.before.before.before.before.before.before.before.before.before.before.args in
-    let p = c.before.before.before.before.before.before.before.before.before.before.before.before.before.before.before.before.before.before.before.before.before.before.before.requires in
-    let g = c.before.before.before.before.before.before.before.before.before.before.before.before.galerkin-sum in (
-      c.before.before.zero-ints.ensures ∙ ap (λ n. replicate n 0) g.ensures.ints_long,
-      galerkin_law (csr a.n a.n a.ptr.now a.idx.now a.vals.now) (row_of a.tptr.now a.tidx.now a.weights.now) a.c a.ints.now g.new.1.1.1.1.1.1.1.1.0 a.floats.now g.new.1.1.1.1.1.1.1.1.1.0 c.before.before.before.before.before.before.average.new.1.0
-          p.0.1 (omega (arith, p.0.3)) g.ensures c.before.before.before.before.before.before.average.ensures.1,
+    let a = c.args in
+    let p = c.requires in
+    let g = c.galerkin_sum in (
+      c.zero_ints.ensures ∙ ap (λ n. replicate n 0) g.ensures.ints_long,
+      galerkin_law (csr a.n a.n a.ptr.now a.idx.now a.vals.now) (row_of a.tptr.now a.tidx.now a.weights.now) a.c a.ints.now g.new.ints a.floats.now g.new.floats c.average.new.m
+          p.0.1 (omega (arith, p.0.3)) g.ensures c.average.ensures.1,
     )
 
-pub galerkin-into-spec : {M : Type 1} → statement M
-galerkin-into-spec =
+pub galerkin_into_spec : {M : Type 1} → statement M
+galerkin_into_spec =
     tie.close
     (tie.spec
     (λ c κs. search rules)

@@ -9,34 +9,34 @@ use borrow.Author.Rules.{rules}
 use Rattle.coarse_matrix.proofs.galerkin.galerkin_sum.Statement.{statement}
 use Rattle.coarse_matrix.proofs.galerkin.galerkin_sum.Tie as tie
 
-galerkin-rows-requires : tie.Need-galerkin-rows-requires
+galerkin-rows-requires : tie.Need-galerkin_rows-requires
 galerkin-rows-requires c κs =
-    let a = c.before.before.before.before.before.before.before.before.before.before.before.before.before.before.before.before.before.before.args in
-    let p = c.before.before.before.before.before.before.before.before.before.before.before.before.before.before.before.before.before.before.requires in
-    let i = c.before.before.before.before.before.before.before.before.zero-ints in
-    let f = c.before.before.before.before.zero-floats in
-    let ni : length i.new.0 ≡ length a.ints.now = ap length i.ensures ∙ length-replicate {A = ℕ} (length a.ints.now) 0 in
-    let nf : length f.new.0 ≡ length a.floats.now = ap length f.ensures ∙ length-replicate (length a.floats.now) zeroᶠ in (
+    let a = c.args in
+    let p = c.requires in
+    let i = c.zero_ints in
+    let f = c.zero_floats in
+    let ni : length i.new.s ≡ length a.ints.now = ap length i.ensures ∙ length-replicate {A = ℕ} (length a.ints.now) 0 in
+    let nf : length f.new.s ≡ length a.floats.now = ap length f.ensures ∙ length-replicate (length a.floats.now) zeroᶠ in (
       (p.0.0, p.0.1, omega (arith, p.0.2, ni), omega (arith, p.0.3, nf)),
       (
         p.1.0,
         (
           p.1.1,
-          rows_first (csr a.n a.n a.ptr.now a.idx.now a.vals.now) (row_of a.tptr.now a.tidx.now a.weights.now) a.c (length a.ints.now) (length a.floats.now) i.new.0 f.new.0 i.ensures f.ensures (omega (arith, p.0.2)) (omega (arith, p.0.3)),
+          rows_first (csr a.n a.n a.ptr.now a.idx.now a.vals.now) (row_of a.tptr.now a.tidx.now a.weights.now) a.c (length a.ints.now) (length a.floats.now) i.new.s f.new.s i.ensures f.ensures (omega (arith, p.0.2)) (omega (arith, p.0.3)),
         ),
       ),
     )
 
 returns : tie.Need-returns
 returns c =
-    let a = c.before.before.before.before.before.before.before.before.before.before.before.before.before.before.before.before.before.before.before.before.before.before.before.args in
-    let i = c.before.before.before.before.before.before.before.before.before.before.before.before.before.zero-ints in
-    let f = c.before.before.before.before.before.before.before.before.before.zero-floats in
-    let g = c.before.before.before.before.galerkin-rows in
-    rows_lent (csr a.n a.n a.ptr.now a.idx.now a.vals.now) (row_of a.tptr.now a.tidx.now a.weights.now) a.c a.n a.ints.now i.new.0 g.new.1.1.1.1.1.1.1.1.0 a.floats.now f.new.0 g.new.1.1.1.1.1.1.1.1.1.0 i.ensures f.ensures g.ensures
+    let a = c.args in
+    let i = c.zero_ints in
+    let f = c.zero_floats in
+    let g = c.galerkin_rows in
+    rows_lent (csr a.n a.n a.ptr.now a.idx.now a.vals.now) (row_of a.tptr.now a.tidx.now a.weights.now) a.c a.n a.ints.now i.new.s g.new.ints a.floats.now f.new.s g.new.floats i.ensures f.ensures g.ensures
 
-pub galerkin-sum-spec : {M : Type 1} → statement M
-galerkin-sum-spec =
+pub galerkin_sum_spec : {M : Type 1} → statement M
+galerkin_sum_spec =
     tie.close
     (tie.spec
     (λ c κs. search rules)

@@ -6,23 +6,23 @@ use borrow.Author.Rules.{rules}
 use Rattle.coarse_matrix.proofs.galerkin.mark.Statement.{statement}
 use Rattle.coarse_matrix.proofs.galerkin.mark.Tie as tie
 
-returns : tie.Need-returns
-returns c = let a = c.before.before.args in sym (marked_there a.c a.base a.token a.k (marks_of a.ints.now a.floats.now a.count) c.if1.true)
+returns : tie.Need-returns-then-stamp-token
+returns c = let a = c.args in sym (marked_there a.c a.base a.token a.k (marks_of a.ints.now a.floats.now a.count) c.if-stamp-token.true)
 
-add-ints : tie.Need-overflow-add-ints
-add-ints c = omega (arith, c.before.before.requires.4 c.if1.false)
+add-ints : tie.Need-overflow_add-ints
+add-ints c = omega (arith, c.requires.4 c.if-stamp-token.false)
 
-mul-ints-2 : tie.Need-overflow-mul-ints-2
-mul-ints-2 c = omega (arith, c.before.before.requires.4 c.if1.false)
+mul-ints-2 : tie.Need-offset_bounds-ints-c
+mul-ints-2 c = omega (arith, c.requires.4 c.if-stamp-token.false)
 
-slice-write-ints-2 : tie.Need-slice-write-ints-2
-slice-write-ints-2 c = simp length-set (omega (arith, c.before.before.requires.4 c.if1.false))
+slice-write-ints-2 : tie.Need-bounds-ints-c
+slice-write-ints-2 c = simp length-set (omega (arith, c.requires.4 c.if-stamp-token.false))
 
-add-result : tie.Need-overflow-add-result
-add-result c = omega (arith, c.before.before.requires.4 c.if1.false)
+add-result : tie.Need-overflow_add-result
+add-result c = omega (arith, c.requires.4 c.if-stamp-token.false)
 
-returns-2 : tie.Need-returns-2
-returns-2 c = let a = c.before.before.args in sym (marked_new a.c a.base a.token a.k (marks_of a.ints.now a.floats.now a.count) c.if1.false)
+returns-2 : tie.Need-returns
+returns-2 c = let a = c.args in sym (marked_new a.c a.base a.token a.k (marks_of a.ints.now a.floats.now a.count) c.if-stamp-token.false)
 
 pub mark_spec : {M : Type 1} → statement M
 mark_spec =

@@ -14,56 +14,55 @@ use borrow.Author.Rules.{rules}
 use Rattle.two_level_apply.proofs.prolongation.prolong_constant.Statement.{statement}
 use Rattle.two_level_apply.proofs.prolongation.prolong_constant.Tie as tie
 
-abbrev invariant-loop : tie.invariant-loop
-invariant-loop sol ids size z₀ first₀ node₀ z first node = (node ≤ length ids) × (first ≡ node * size) × (length z ≡ length z₀) × (z ≡ scattered (prolong_puts (coarse_column size ids) sol) first z₀)
+abbrev invariant-loop-node : tie.invariant-loop-node
+invariant-loop-node sol ids size z₀ first₀ node₀ z first node = (node ≤ length ids) × (first ≡ node * size) × (length z ≡ length z₀) × (z ≡ scattered (prolong_puts (coarse_column size ids) sol) first z₀)
 
-abbrev decreases-loop : tie.decreases-loop
-decreases-loop sol ids size z₀ first₀ node₀ z first node = length ids - node
+abbrev decreases-loop-node : tie.decreases-loop-node
+decreases-loop-node sol ids size z₀ first₀ node₀ z first node = length ids - node
 
-loop-holds : tie.Need-loop-init invariant-loop decreases-loop
-loop-holds c = let a = c.before.before.before.args in (omega arith, omega arith, refl, none_step (prolong_puts (coarse_column a.size a.ids.now) a.sol.now) a.z.now)
+loop-holds : tie.Need-loop-node-init invariant-loop-node decreases-loop-node
+loop-holds c = let a = c.args in (omega arith, omega arith, refl, none_step (prolong_puts (coarse_column a.size a.ids.now) a.sol.now) a.z.now)
 
-mul-base : tie.Need-overflow-mul-base invariant-loop decreases-loop
-mul-base c = let l = c.before.before.before.loop in omega (arith, columns_within c.before.before.before.before.before.before.before.requires l.first l.node l.invariant.1 c.wide.result c.wide.ensures (omega arith))
+mul-base : tie.Need-overflow_mul-base invariant-loop-node decreases-loop-node
+mul-base c = let l = c.loop-node in omega (arith, columns_within c.requires l.first l.node l.invariant.1 c.wide.result c.wide.ensures (omega arith))
 
-add-part-requires : tie.Need-add-part-requires invariant-loop decreases-loop
+add-part-requires : tie.Need-add_part-requires invariant-loop-node decreases-loop-node
 add-part-requires c κs =
-    let l = c.before.before.before.before.loop in
-    let s = c.before.before.before.before.before.before.before.before in
-    let h = rows_within s.requires l.first l.node l.invariant.1 (omega arith) in
-    let k = columns_within s.requires l.first l.node l.invariant.1 c.before.wide.result c.before.wide.ensures (omega arith) in
+    let l = c.loop-node in
+    let h = rows_within c.requires l.first l.node l.invariant.1 (omega arith) in
+    let k = columns_within c.requires l.first l.node l.invariant.1 c.wide.result c.wide.ensures (omega arith) in
     (k, omega (arith, h, l.invariant.2))
 
-add-first : tie.Need-overflow-add-first invariant-loop decreases-loop
-add-first c = let l = c.before.before.before.before.before.before.before.loop in omega (arith, rows_within c.before.before.before.before.before.before.before.before.before.before.before.requires l.first l.node l.invariant.1 (omega arith), c.before.before.before.before.before.before.before.before.before.before.before.well-formed)
+add-first : tie.Need-overflow_add-first invariant-loop-node decreases-loop-node
+add-first c = let l = c.loop-node in omega (arith, rows_within c.requires l.first l.node l.invariant.1 (omega arith), c.well_formed)
 
-loop-again : tie.Need-loop-preserved invariant-loop decreases-loop
+loop-again : tie.Need-loop-node-preserved invariant-loop-node decreases-loop-node
 loop-again c =
-    let a = c.before.before.before.before.before.before.before.before.before.before.before.args in
-    let l = c.before.before.before.before.before.before.before.loop in
-    let w = c.before.before.before.before.wide in
-    let d = c.before.before.add-part in (
+    let a = c.args in
+    let l = c.loop-node in
+    let w = c.wide in
+    let d = c.add_part in (
       omega arith,
       next_node a.size l.first l.node l.invariant.1,
-      d.auto.1.1.0 ∙ l.invariant.2,
-      prolong_node a.size a.ids.now l.first l.node w.result l.invariant.1 w.ensures a.sol.now a.z.now l.z d.new.1.1.0 l.invariant.3 d.ensures,
+      d.auto.to ∙ l.invariant.2,
+      prolong_node a.size a.ids.now l.first l.node w.result l.invariant.1 w.ensures a.sol.now a.z.now l.z d.new.to l.invariant.3 d.ensures,
     )
 
-same_length : tie.Need-same-length invariant-loop decreases-loop
-same_length c = c.before.loop.invariant.2
+same_length : tie.Need-shape_of-z invariant-loop-node decreases-loop-node
+same_length c = c.loop-node.invariant.2
 
-returns : tie.Need-returns invariant-loop decreases-loop
+returns : tie.Need-returns invariant-loop-node decreases-loop-node
 returns c =
-    let a = c.before.before.before.before.before.args in
-    let l = c.before.loop in
-    gained_all (λ i. get_or a.sol.now (coarse_column a.size a.ids.now i) nan) a.z.now l.first l.z (rows_passed c.before.before.before.before.before.requires l.first l.node l.invariant.1 (omega arith)) l.invariant.3
+    let a = c.args in
+    let l = c.loop-node in
+    gained_all (λ i. get_or a.sol.now (coarse_column a.size a.ids.now i) nan) a.z.now l.first l.z (rows_passed c.requires l.first l.node l.invariant.1 (omega arith)) l.invariant.3
 
-pub prolong-constant-spec : {M : Type 1} → statement M
-prolong-constant-spec =
+pub prolong_constant_spec : {M : Type 1} → statement M
+prolong_constant_spec =
     tie.close
     (tie.spec
-    invariant-loop
-    decreases-loop
+    invariant-loop-node
+    decreases-loop-node
     loop-holds
     (λ c. search rules)
     (λ c. search rules)

@@ -11,22 +11,20 @@ use Rattle.two_level_apply.proofs.prolongation.prolong_weights.Tie as tie
 facts : (s : tie.Start) → Room s.args.s s.args.p (length s.args.ints.now) (length s.args.floats.now)
 facts s = let l = s.requires.0 in room s.args.s s.args.ints.now s.args.floats.now l.fits s.requires.3 s.args.p l.places
 
-prolong-smoothed-requires : tie.Need-prolong-smoothed-requires
+prolong-smoothed-requires : tie.Need-prolong_smoothed-requires
 prolong-smoothed-requires c κs =
-    let s = c.before.before.before.before.before.before.before.before in
-    let a = s.args in
-    let l = s.requires.0 in
-    rw (l.places, s.requires.1, s.requires.2, weights_long a.s a.ints.now a.floats.now l.fits) (compressed a.s a.ints.now a.floats.now l.fits s.requires.3)
+    let a = c.args in
+    let l = c.requires.0 in
+    rw (l.places, c.requires.1, c.requires.2, weights_long a.s a.ints.now a.floats.now l.fits) (compressed a.s a.ints.now a.floats.now l.fits c.requires.3)
 
 returns : tie.Need-returns
 returns c =
-    let s = c.before.before.before.before.before.before.before.before.before.before.before in
-    let a = s.args in
-    let d = c.before.before.prolong-smoothed in
-    (rw s.requires.0.places at d.ensures) ∙ gained_weights a.s a.ints.now a.floats.now a.z.now a.sol.now s.requires.3 s.requires.1
+    let a = c.args in
+    let d = c.prolong_smoothed in
+    (rw c.requires.0.places at d.ensures) ∙ gained_weights a.s a.ints.now a.floats.now a.z.now a.sol.now c.requires.3 c.requires.1
 
-pub prolong-weights-spec : {M : Type 1} → statement M
-prolong-weights-spec =
+pub prolong_weights_spec : {M : Type 1} → statement M
+prolong_weights_spec =
     tie.close
     (tie.spec
     (λ c. omega (arith, facts c.before.before.before.before))

@@ -9,45 +9,45 @@ use borrow.Author.Rules.{rules}
 use Rattle.two_level_apply.proofs.prolongation.weight_sum.Statement.{statement}
 use Rattle.two_level_apply.proofs.prolongation.weight_sum.Tie as tie
 
-abbrev invariant-loop : tie.invariant-loop
-invariant-loop idx vals sol from to sum₀ k₀ sum k = (from ≤ k) × (k ≤ to) × (sum_left idx vals sol to k sum ≡ sum_left idx vals sol to from minus_zero)
+abbrev invariant-loop-k : tie.invariant-loop-k
+invariant-loop-k idx vals sol from to sum₀ k₀ sum k = (from ≤ k) × (k ≤ to) × (sum_left idx vals sol to k sum ≡ sum_left idx vals sol to from minus_zero)
 
-abbrev decreases-loop : tie.decreases-loop
-decreases-loop idx vals sol from to sum₀ k₀ sum k = to - k
+abbrev decreases-loop-k : tie.decreases-loop-k
+decreases-loop-k idx vals sol from to sum₀ k₀ sum k = to - k
 
-column_ok : (c : tie.After-wide invariant-loop decreases-loop) → c.wide.result < length c.before.before.before.before.before.before.before.args.sol.now
-column_ok c = rw c.wide.ensures (c.before.before.before.before.before.before.before.requires.3 c.before.before.before.loop.k (omega arith))
+column_ok : (c : tie.After-wide-at invariant-loop-k decreases-loop-k) → c.wide-at.result < length c.args.sol.now
+column_ok c = rw c.wide-at.ensures (c.requires.3 c.loop-k.k (omega arith))
 
-loop-holds : tie.Need-loop-init invariant-loop decreases-loop
+loop-holds : tie.Need-loop-k-init invariant-loop-k decreases-loop-k
 loop-holds c = (omega arith, omega arith, refl)
 
-mul-sum-2 : tie.Need-overflow-mul-sum-2 invariant-loop decreases-loop
+mul-sum-2 : tie.Need-offset_bounds-sol-at invariant-loop-k decreases-loop-k
 mul-sum-2 c = omega (arith, column_ok c.before)
 
-shared-slice-read-sum-2 : tie.Need-shared-slice-read-sum-2 invariant-loop decreases-loop
+shared-slice-read-sum-2 : tie.Need-bounds-sol-at invariant-loop-k decreases-loop-k
 shared-slice-read-sum-2 c = omega (arith, column_ok c.before.before)
 
-loop-again : tie.Need-loop-preserved invariant-loop decreases-loop
+loop-again : tie.Need-loop-k-preserved invariant-loop-k decreases-loop-k
 loop-again c =
-    let a = c.before.before.before.before.before.before.before.before.before.args in
-    let l = c.before.before.before.before.before.loop in
-    let w = c.before.before.wide in
+    let a = c.args in
+    let l = c.loop-k in
+    let w = c.wide-at in
     (omega arith, omega arith, sum_step a.idx.now a.vals.now a.sol.now a.to l.k w.result l.sum _ (omega arith) (omega arith) (omega arith) w.ensures l.invariant.2)
 
-returns : tie.Need-returns invariant-loop decreases-loop
+returns : tie.Need-returns invariant-loop-k decreases-loop-k
 unfolding summed
 returns c =
-    let a = c.before.before.before.before.before.args in
-    let l = c.before.loop in
+    let a = c.args in
+    let l = c.loop-k in
     let e : l.k ≡ a.to = omega arith in
     sum_done a.idx.now a.vals.now a.sol.now a.to l.sum _ (rw e at l.invariant.2)
 
-pub weight-sum-spec : {M : Type 1} → statement M
-weight-sum-spec =
+pub weight_sum_spec : {M : Type 1} → statement M
+weight_sum_spec =
     tie.close
     (tie.spec
-    invariant-loop
-    decreases-loop
+    invariant-loop-k
+    decreases-loop-k
     loop-holds
     (λ c. search rules)
     (λ c. search rules)
