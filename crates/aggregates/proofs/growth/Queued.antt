@@ -61,7 +61,10 @@ module _ (lists : ℕ → List ℕ) (g : ℕ) where
       let whole : enqueued g room ids' (rest ++ free lists no_anchor ids' (lists v)) ≡ p ++ new =
       enqueued_append g room ids' rest (free lists no_anchor ids' (lists v)) ∙ ap (λ l. p ++ l) (enqueued_free g lists pos ids' (room - length p) (relabelled g p ids') (lists v) (λ u h. relabelled_some g p ids' u pos h)) in
       let less : room - length (p ++ new) ≡ (room - length p) - length new = simp length-append (omega arith) in
-      rw (whole, less, relabelled_append g p new ids', enqueued_takes g room ids v rest z, relabelled, queued)
+      let e : suc room - suc (length p) ≡ room - length p = omega arith in
+      let begun : List ℕ → List ℕ = λ q. queued (suc room) (suc room - length q) (relabelled g q ids) q in
+      let taken : queued_from room ids' (rest ++ free lists no_anchor ids' (lists v)) ≡ begun (v ∷ p) = rw (whole, less, relabelled_append g p new ids', e, relabelled, queued) in
+      taken ∙ sym (ap begun (enqueued_takes g room ids v rest z))
 
   -- THE LAW: by induction on the room, and on the queue
   pub grow_queued : (room : ℕ) (ids q : List ℕ) → 0 < g → grow_group lists no_anchor g room ids q ≡ queued_from room ids q
