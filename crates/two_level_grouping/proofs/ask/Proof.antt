@@ -5,15 +5,15 @@ use borrow.Author.Rules.{rules}
 use Rattle.two_level_grouping.proofs.ask.Statement.{statement}
 use Rattle.two_level_grouping.proofs.ask.Tie as tie
 
-returns : tie.Need-returns
-returns c = let a = c.before.before.before.before.before.before.before.args in
-    unread (csr a.rows a.cols a.row-ptr.now a.col-idx.now a.values.now) a.options c.before.before.before.readable.result c.before.before.before.readable.ensures _ c.before.read.given.1
+returns : tie.Need-returns-in-Refused
+returns c = let a = c.args in
+    unread (csr a.rows a.cols a.row_ptr.now a.col_idx.now a.values.now) a.options c.readable-read.result c.readable-read.ensures _ c.in-Refused.is
 
-returns-2 : tie.Need-returns-2
-returns-2 c = let a = c.before.before.before.before.before.before.before.args in
-    then_shaped (csr a.rows a.cols a.row-ptr.now a.col-idx.now a.values.now) a.options c.before.before.before.readable.result c.before.before.before.readable.ensures c.before.enum_told.given.1 c.shape.result c.shape.ensures
+returns-2 : tie.Need-returns-in-Accepted
+returns-2 c = let a = c.args in
+    then_shaped (csr a.rows a.cols a.row_ptr.now a.col_idx.now a.values.now) a.options c.readable-read.result c.readable-read.ensures c.in-Accepted.is c.shape.result c.shape.ensures
 
-pub ask-spec : {M : Type 1} → statement M
-ask-spec =
+pub ask_spec : {M : Type 1} → statement M
+ask_spec =
     tie.close
     (tie.spec (λ c κs. search rules) (λ c. search rules) (λ c. search rules) (λ c κs. search rules) returns returns-2)

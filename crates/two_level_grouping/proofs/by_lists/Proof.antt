@@ -8,20 +8,20 @@ use Rattle.two_level_grouping.proofs.by_lists.Tie as tie
 
 returns : tie.Need-returns
 returns c =
-    let a = c.before.before.before.before.before.before.before.before.before.before.before.before.before.before.before.before.before.before.before.before.args in
-    let g = c.before.before.before.before.before.before.before.before.before.before.before.before.before.before.before.before.group-within in
-    let d = c.before.before.before.before.before.before.before.before.before.before.copy-ints in
-    let z = c.before.before.before.before.before.before.zero-ints in
-    let y = c.before.before.zero-ints2 in
+    let a = c.args in
+    let g = c.group_within-answer in
+    let d = c.copy_ints in
+    let z = c.zero_ints in
+    let y = c.zero_ints-2 in
     let call = within_call a.nodes a.size a.base a.work.now in
     record {
       answer = g.ensures.0;
-      ids = λ x e l. handed call a.work.now g.new.1.1.1.0 g.ensures.1 x e a.nodes l a.ids.now d.new.1.0 z.new.0 (omega arith) d.ensures d.auto.1.0 z.ensures;
-      zeros = λ x e l. cleared call a.work.now g.new.1.1.1.0 g.ensures.1 x e a.nodes l (omega arith) y.new.0 y.ensures;
+      ids = λ x e l. handed call a.work.now g.new.work g.ensures.1 x e a.nodes l a.ids.now d.new.to z.new.s (omega arith) d.ensures d.auto.to z.ensures;
+      zeros = λ x e l. cleared call a.work.now g.new.work g.ensures.1 x e a.nodes l (omega arith) y.new.s y.ensures;
     }
 
-pub by-lists-spec : {M : Type 1} → statement M
-by-lists-spec =
+pub by_lists_spec : {M : Type 1} → statement M
+by_lists_spec =
     tie.close
     (tie.spec
     (λ c κs. search rules)

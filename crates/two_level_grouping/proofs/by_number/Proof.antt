@@ -12,36 +12,34 @@ use borrow.Author.Rules.{rules}
 use Rattle.two_level_grouping.proofs.by_number.Statement.{statement}
 use Rattle.two_level_grouping.proofs.by_number.Tie as tie
 
-contiguous-requires : tie.Need-contiguous-requires
+contiguous-requires : tie.Need-contiguous-groups-requires
 contiguous-requires c κs =
-    let s = c.before.before.before.before.before.before.before.before.before.before in
-    let a = s.args in
-    let m = csr a.rows a.cols a.row-ptr.now a.col-idx.now a.values.now in
-    let v = c.before.before.before.structure in
-    let w = numbers_rows m a.options a.ids.now a.work-ints.now a.work-floats.now s.requires v.result v.ensures c.before.enum_told.given.1 in
-    let f = shape_of_lem m a.options s.requires.shape in
-    (f.some, (omega (arith, s.requires.ids), (few_nodes m a.options w, f.fewest)))
+    let a = c.args in
+    let m = csr a.rows a.cols a.row_ptr.now a.col_idx.now a.values.now in
+    let v = c.structure-valid in
+    let w = numbers_rows m a.options a.ids.now a.work_ints.now a.work_floats.now c.requires v.result v.ensures c.in-Accepted.is in
+    let f = shape_of_lem m a.options c.requires.shape in
+    (f.some, (omega (arith, c.requires.ids), (few_nodes m a.options w, f.fewest)))
 
-returns : tie.Need-returns
+returns : tie.Need-returns-in-Refused
 unfolding read_of
 returns c =
-    let a = c.before.before.before.before.before.before.before.before.before.before.args in
-    let m = csr a.rows a.cols a.row-ptr.now a.col-idx.now a.values.now in
-    invalid_answered a.ids.now a.work-ints.now a.work-floats.now Contiguous m c.before.before.before.structure.result c.before.before.before.structure.ensures (numbers_of m a.options) _ c.before.valid.given.1
+    let a = c.args in
+    let m = csr a.rows a.cols a.row_ptr.now a.col_idx.now a.values.now in
+    invalid_answered a.ids.now a.work_ints.now a.work_floats.now Contiguous m c.structure-valid.result c.structure-valid.ensures (numbers_of m a.options) _ c.in-Refused.is
 
-returns-2 : tie.Need-returns-2
+returns-2 : tie.Need-returns-in-Accepted
 returns-2 c =
-    let s = c.before.before.before.before.before.before.before.before.before.before.before.before.before.before.before.before.before.before.before.before.before in
-    let a = s.args in
-    let m = csr a.rows a.cols a.row-ptr.now a.col-idx.now a.values.now in
-    let v = c.before.before.before.before.before.before.before.before.before.before.before.before.before.before.structure in
-    let k = c.before.before.before.before.before.before.before.before.before.before.contiguous in
-    let zi = c.before.before.before.before.before.before.zero-ints in
-    let zf = c.before.before.zero-floats in
-    numbers_answered m a.options a.ids.now a.work-ints.now a.work-floats.now s.requires v.result v.ensures c.before.before.before.before.before.before.before.before.before.before.before.before.enum_told.given.1 k.result k.new.1.1.0 zi.new.0 zf.new.0 k.ensures.0 k.ensures.1 zi.ensures zf.ensures
+    let a = c.args in
+    let m = csr a.rows a.cols a.row_ptr.now a.col_idx.now a.values.now in
+    let v = c.structure-valid in
+    let k = c.contiguous-groups in
+    let zi = c.zero_ints in
+    let zf = c.zero_floats in
+    numbers_answered m a.options a.ids.now a.work_ints.now a.work_floats.now c.requires v.result v.ensures c.in-Accepted.is k.result k.new.ids zi.new.s zf.new.s k.ensures.0 k.ensures.1 zi.ensures zf.ensures
 
-pub by-number-spec : {M : Type 1} → statement M
-by-number-spec =
+pub by_number_spec : {M : Type 1} → statement M
+by_number_spec =
     tie.close
     (tie.spec
     (λ c κs. search rules)

@@ -5,15 +5,15 @@ use borrow.Author.Rules.{rules}
 use Rattle.two_level_grouping.proofs.front.Statement.{statement}
 use Rattle.two_level_grouping.proofs.front.Tie as tie
 
-returns : tie.Need-returns
-returns c = let a = c.before.before.before.before.before.before.before.args in
-    invalid (csr a.rows a.cols a.row-ptr.now a.col-idx.now a.values.now) a.options c.before.before.before.validate.result c.before.before.before.validate.ensures _ c.before.valid.given.1
+returns : tie.Need-returns-in-Refused
+returns c = let a = c.args in
+    invalid (csr a.rows a.cols a.row_ptr.now a.col_idx.now a.values.now) a.options c.validate-valid.result c.validate-valid.ensures _ c.in-Refused.is
 
-returns-2 : tie.Need-returns-2
-returns-2 c = let a = c.before.before.before.before.before.before.before.args in
-    shaped (csr a.rows a.cols a.row-ptr.now a.col-idx.now a.values.now) a.options c.before.before.before.validate.result c.before.before.before.validate.ensures c.before.enum_told.given.1 c.shape.result c.shape.ensures
+returns-2 : tie.Need-returns-in-Accepted
+returns-2 c = let a = c.args in
+    shaped (csr a.rows a.cols a.row_ptr.now a.col_idx.now a.values.now) a.options c.validate-valid.result c.validate-valid.ensures c.in-Accepted.is c.shape.result c.shape.ensures
 
-pub front-spec : {M : Type 1} → statement M
-front-spec =
+pub front_spec : {M : Type 1} → statement M
+front_spec =
     tie.close
     (tie.spec (λ c κs. search rules) (λ c. search rules) (λ c. search rules) (λ c κs. search rules) returns returns-2)

@@ -4,17 +4,17 @@ use borrow.Author.Rules.{rules}
 use Rattle.two_level_grouping.proofs.has_room.Statement.{statement}
 use Rattle.two_level_grouping.proofs.has_room.Tie as tie
 
-returns : tie.Need-returns
+returns : tie.Need-returns-then-room-nodes
 returns c = search (short_first, short_second, third)
 
-returns-2 : tie.Need-returns-2
+returns-2 : tie.Need-returns-then-work_room-nodes
 returns-2 c = search (short_first, short_second, third)
 
-returns-3 : tie.Need-returns-3
+returns-3 : tie.Need-returns
 returns-3 c = search (short_first, short_second, third)
 
-pub has-room-spec : {M : Type 1} → statement M
-has-room-spec =
+pub has_room_spec : {M : Type 1} → statement M
+has_room_spec =
     tie.close
     (tie.spec
     returns

@@ -6,24 +6,24 @@ use borrow.Author.Rules.{rules}
 use Rattle.two_level_grouping.proofs.no_node.Statement.{statement}
 use Rattle.two_level_grouping.proofs.no_node.Tie as tie
 
-returns : tie.Need-returns
+returns : tie.Need-returns-in-Refused
 returns c =
-    let a = c.before.before.before.before.before.before.before.before.before.before.args in
-    let m = csr a.rows a.cols a.row-ptr.now a.col-idx.now a.values.now in
-    invalid_answered a.ids.now a.work-ints.now a.work-floats.now a.aggregation m c.before.before.before.readable.result c.before.before.before.readable.ensures no_node _ c.before.valid.given.1
+    let a = c.args in
+    let m = csr a.rows a.cols a.row_ptr.now a.col_idx.now a.values.now in
+    invalid_answered a.ids.now a.work_ints.now a.work_floats.now a.aggregation m c.readable-valid.result c.readable-valid.ensures no_node _ c.in-Refused.is
 
-returns-2 : tie.Need-returns-2
+returns-2 : tie.Need-returns-in-Accepted
 returns-2 c =
-    let a = c.before.before.before.before.before.before.before.before.before.before.before.before.before.before.before.before.before.before.before.before.before.args in
-    let m = csr a.rows a.cols a.row-ptr.now a.col-idx.now a.values.now in
-    let v = c.before.before.before.before.before.before.before.before.before.before.before.before.before.before.readable in
-    let zi = c.before.before.before.before.before.before.before.before.before.before.zero-ints in
-    let zw = c.before.before.before.before.before.before.zero-ints2 in
-    let zf = c.before.before.zero-floats in
-    no_node_answered a.ids.now a.work-ints.now a.work-floats.now a.aggregation m v.result v.ensures c.before.before.before.before.before.before.before.before.before.before.before.before.enum_told.given.1 zi.new.0 zw.new.0 zf.new.0 zi.ensures zw.ensures zf.ensures
+    let a = c.args in
+    let m = csr a.rows a.cols a.row_ptr.now a.col_idx.now a.values.now in
+    let v = c.readable-valid in
+    let zi = c.zero_ints in
+    let zw = c.zero_ints-in-Accepted in
+    let zf = c.zero_floats in
+    no_node_answered a.ids.now a.work_ints.now a.work_floats.now a.aggregation m v.result v.ensures c.in-Accepted.is zi.new.s zw.new.s zf.new.s zi.ensures zw.ensures zf.ensures
 
-pub no-node-spec : {M : Type 1} → statement M
-no-node-spec =
+pub no_node_spec : {M : Type 1} → statement M
+no_node_spec =
     tie.close
     (tie.spec
     (λ c κs. search rules)

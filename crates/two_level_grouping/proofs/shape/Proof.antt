@@ -5,9 +5,9 @@ use Rattle.two_level_grouping.proofs.Sizes.{sizes}
 use Rattle.two_level_grouping.proofs.shape.Statement.{statement}
 use Rattle.two_level_grouping.proofs.shape.Tie as tie
 
-pub shape-spec : {M : Type 1} → statement M
+pub shape_spec : {M : Type 1} → statement M
 unfolding shape_of
-shape-spec =
+shape_spec =
     tie.close
     (tie.spec
     (λ c. search sizes depth 8)
