@@ -21,6 +21,7 @@ use Rattle.aggregates.specs.Within.{lists_call, within_call}
 
 is_true : (b : Bool) → T b → b ≡ true
 is_true true t = refl
+is_true false t = elim t [ ]
 
 listed_from : (n : ℕ) (pre : List ℕ) (lists : List (List ℕ)) (v : ℕ) → length pre ≡ n
     → slice (get_or (pointers_from n lists) v 0) (get_or (pointers_from n lists) (suc v) 0) (pre ++ joined_lists lists) ≡ get_or lists v []

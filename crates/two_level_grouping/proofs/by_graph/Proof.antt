@@ -13,7 +13,7 @@ returns : tie.Need-returns-then-nodes-eq0
 returns c =
     let a = c.args in
     let m = csr a.rows a.cols a.row_ptr.now a.col_idx.now a.values.now in
-    none_ends m a.options a.aggregation a.ids.now a.work_ints.now a.work_floats.now c.if-nodes-eq0.true _ _ _ _ c.no_Node.ensures
+    none_ends m a.options a.aggregation a.ids.now a.work_ints.now a.work_floats.now c.if-nodes-eq0.true _ _ _ _ c.no_node.ensures
 
 returns-2 : tie.Need-returns-in-Refused
 returns-2 c =
