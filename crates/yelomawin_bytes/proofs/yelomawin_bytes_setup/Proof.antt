@@ -28,7 +28,7 @@ returns c =
     let r = at_read.read-matrix.ensures in
     let h = at-hand.hand-result.ensures in
     let t = setup_carried a.rows a.cols a.block_size a.group-size a.aggregation a.basis a.coarse-policy lent a.record_room.now _ _ _ r.0.front r.1.0.front r.1.1.front at_call.yelomawin-setup.ensures in
-    let out = setup_told q.0 _ _ lent w.0 w.1.0 at_clear.before.before.before.before.before.before.before.before.before.before.before.before.before.ints_room.given at_clear.before.before.before.before.before.before.before.before.before.before.before.floats_room.given (rw at-ints.before.before.before.Leaves-all.ensures at at-ints.hand-ints.ensures) h.0 t.0 t.1.0 in
+    let out = setup_told q.0 _ _ lent w.0 w.1.0 at_clear.before.before.before.before.before.before.before.before.before.before.before.before.before.ints_room.given at_clear.before.before.before.before.before.before.before.before.before.before.before.floats_room.given (rw at-ints.before.before.before.leaves_all.ensures at at-ints.hand-ints.ensures) h.0 t.0 t.1.0 in
     let n = answer_told q.0 _ w.1.1 at_clear.before.before.before.before.before.record_room.given h.1 t.1.1 in
     (told q.0 _ t.0, matrix_emptied q.0 r at_clear.clear-matrix.ensures, out.0, n.in_room, out.1.0, out.1.1, n.in_bytes)
 
