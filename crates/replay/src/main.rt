@@ -7,7 +7,8 @@ mod lists; // lists.rt: lists to read into and to lend
 mod reading; // reading.rt: words and numbers of the text
 mod two_level; // two_level.rt: setup and the two-level apply
 
-ghost use Rattle.std.specs.Prelude.{◌≤◌, length, IfOk};
+ghost use Rattle.std.specs.Prelude.{◌<◌, ◌≤◌, length, take, IfOk};
+ghost use Rattle.std.specs.Io.KnownBytes.{Consumes, IsAtEnd};
 
 use reading::{after, next_line};
 use std::io;
@@ -170,13 +171,15 @@ fn replay_all(rt: &impl Print, text: &[u8]) -> io::Result<()> {
 
 // Reads until the list is full or the input ends, and says how many bytes.
 fn read_full<R: Read>(input: &mut R, text: &mut [u8]) -> io::Result<usize>
-    ensures { IfOk result (λ n. n ≤ length text.old) }
+    ensures within { IfOk result (λ n. n ≤ length text.old) }
+    ensures bytes { IfOk result (λ n. Consumes (R.remaining input.old) (R.remaining input.new) (take n text.new)) }
+    ensures end { IfOk result (λ n. n < length text.old → IsAtEnd (R.remaining input.new)) }
 {
     let mut done: usize = 0;
     while done < text.len() {
         let n = input.read(&mut text[done..])?;
         if n == 0 {
-            break;
+            return Ok(done);
         }
         done += n;
     }
