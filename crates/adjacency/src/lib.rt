@@ -1,4 +1,6 @@
 // The neighbour lists of every node: which nodes its stored entries name, by number or by strength.
+#![tactic(auto)]
+
 mod build; // build.rt: the lists built by policy
 mod checks; // checks.rt: the checks after 1 to 8
 mod graph; // graph.rt: the lists of all nodes

@@ -17,7 +17,7 @@ use Rattle.definitions.specs.declared.Refusal.{Refusal}
 use Rattle.definitions.specs.declared.Refusal.TheVariants.{LogTooShort}
 use Rattle.laws.proofs.Tests.{both_true}
 use Rattle.laws.proofs.Outcomes.{bind_done, test_true, done_inj}
-use Rattle.laws.proofs.Lists.{Each, none, more, each_imp}
+use Rattle.laws.proofs.Lists.{Each, each_imp}
 use Rattle.aggregates.specs.LogRead.{candidates_at, Decided, pairs_in}
 use Rattle.aggregates.proofs.Stops.{by_test, start}
 use Rattle.aggregates.proofs.growth.Between.{grown_all}

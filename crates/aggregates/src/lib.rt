@@ -1,4 +1,6 @@
 // Groups of nodes, from what each node lists: growth, joining, numbers by first appearance.
+#![tactic(auto)]
+
 ghost use Rattle.std.specs.Prelude.{◌≡◌, ◌+◌, ◌-◌, ◌*◌, ◌^◌, ◌≤◌, ◌<◌, length, take, drop, replicate};
 ghost use Rattle.definitions.specs.Lists.{padded};
 ghost use Rattle.definitions.specs.Groups.{grouping_call, graph_grouping, no_anchor, floor_of, grouping_left, grouping_work_left};

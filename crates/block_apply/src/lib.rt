@@ -1,4 +1,6 @@
 // The block Jacobi apply: each block's solve with its factor, from the residual into the correction.
+#![tactic(auto)]
+
 ghost use Rattle.std.specs.Prelude.{◌≡◌, ◌&&◌, ◌*◌, leb, length};
 ghost use Rattle.definitions.specs.Matrix.{max_rows};
 ghost use Rattle.definitions.specs.Block.{max_block, block_apply_call, block_apply_left};

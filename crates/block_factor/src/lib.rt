@@ -1,4 +1,6 @@
 // Block Jacobi's factors: the blocks on the diagonal of a matrix, gathered and factored, two at a time as far as both have one.
+#![tactic(auto)]
+
 ghost use Rattle.std.specs.Prelude.{◌≡◌, true, ◌+◌, ◌-◌, ◌*◌, ◌<◌, ◌≤◌, min, length, take};
 ghost use Rattle.definitions.specs.Numbers.{zeroᶠ};
 ghost use Rattle.definitions.specs.Refusal.{result_left};

@@ -8,7 +8,7 @@ use native.Mathlib.Omega.{arith}
 use borrow.Author.Tests.{ltb-true, ltb-false, leb-true}
 use lib.Dec.{ltb, leb, eqb}
 use lib.Ieee.{Float, nan, binary64, of_bits, to_bits}
-use lib.ListN.{length, get_or, take, drop, replicate, length-append, length-replicate, get_or-append, get_or-eq_default}
+use lib.ListN.{length, get_or, take, drop, replicate, length-append, length-replicate, get_or-eq_default}
 use lib.Seq.{take_at, drop-cons}
 use Rattle.definitions.specs.Lists.{tab, padded}
 use Rattle.definitions.specs.Numbers.{zeroᶠ}

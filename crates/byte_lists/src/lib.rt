@@ -1,5 +1,7 @@
 // Lists of numbers read from lists of bytes and written into them, little end first.
 // A NaN is written as 7FF8000000000000, and any NaN's pattern is read as the NaN.
+#![tactic(auto)]
+
 ghost use Rattle.std.specs.Prelude.{◌≡◌, cond, ◌+◌, ◌*◌, ◌/◌, ◌<◌, ◌≤◌, length, get_or, replicate};
 ghost use Rattle.definitions.specs.Lists.{padded};
 ghost use Rattle.byte_lists.specs.Bytes.{word_at, ints_of, numbers_of, floats_of, byte_of, bytes_of_ints, bytes_of_numbers, bytes_of_floats, readable, writable, over};

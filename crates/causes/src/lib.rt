@@ -1,4 +1,6 @@
 // What document 01's table tells of a cause of refusal: its number, what is returned with it, and what it leaves in the lists lent for writing.
+#![tactic(auto)]
+
 ghost use Rattle.std.specs.Prelude.{◌≡◌};
 ghost use Rattle.definitions.specs.Numbers.{zeroᶠ};
 ghost use Rattle.definitions.specs.Refusal.{number_of, refused, keeps_all, result_left};

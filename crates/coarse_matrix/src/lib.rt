@@ -1,4 +1,6 @@
 // The coarse matrix, by the basis that is constant over a group and by the smoothed one.
+#![tactic(auto)]
+
 ghost use Rattle.std.specs.Prelude.{◌≡◌, true, ◌≤◌, length};
 ghost use Rattle.definitions.specs.Numbers.{zeroᶠ, nonzeros as nonzerosOf};
 ghost use Rattle.definitions.specs.Matrix.{csr, max_rows};

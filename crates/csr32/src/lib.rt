@@ -1,4 +1,6 @@
 // A sparse matrix in compressed rows: the causes 1 to 8, of which whoever walks a matrix checks 1 to 7 first, and its diagonal.
+#![tactic(auto)]
+
 ghost use Rattle.std.specs.Prelude.{◌≡◌, ◌≤◌, ◌<◌, eqb, length};
 ghost use Rattle.definitions.specs.Numbers.{zeroᶠ, total};
 ghost use Rattle.definitions.specs.Refusal.{result_left};

@@ -1,4 +1,6 @@
 // Where a setup's parts stand in its two lists, for every other crate: the one place where these offsets are worked out.
+#![tactic(auto)]
+
 ghost use Rattle.std.specs.Prelude.{◌≡◌, true, ◌&&◌, ◌*◌, ◌+◌, ◌≤◌};
 ghost use Rattle.definitions.specs.Coarse.{coarse_length};
 ghost use Rattle.definitions.specs.Places.{used_ints, places_of};

@@ -1,4 +1,5 @@
 // The square root of an f64, correctly rounded: to the nearest value, ties to even.
+#![tactic(auto)]
 
 ghost use Rattle.std.specs.Prelude.{◌≡◌, ◌<◌};
 ghost use Rattle.std.specs.Float.{binary64};

@@ -1,4 +1,6 @@
 // Whether a setup's lists fit their record, cause 26: the record's own numbers, then the lists that it speaks of.
+#![tactic(auto)]
+
 ghost use Rattle.std.specs.Prelude.{◌≡◌, ◌&&◌, true, ◌+◌, ◌*◌, ◌≤◌, eqb, ltb, length};
 ghost use Rattle.definitions.specs.Lists.{all};
 ghost use Rattle.definitions.specs.Places.{used_ints, places_of};

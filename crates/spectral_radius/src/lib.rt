@@ -1,4 +1,6 @@
 // The spectral radius of the scaled matrix, estimated by ten rounds of the power method, and the damping factor.
+#![tactic(auto)]
+
 mod diagonal;
 mod power;
 mod vectors;

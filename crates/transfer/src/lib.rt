@@ -1,4 +1,6 @@
 // The smoothed transfer: a row's own coarse column, less one damped Jacobi step, as compressed rows.
+#![tactic(auto)]
+
 mod checks;
 mod rows;
 mod short;

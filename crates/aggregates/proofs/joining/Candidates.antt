@@ -10,7 +10,7 @@ use lib.Dec.{eqb, ltb}
 use lib.ListN.{length}
 use Rattle.definitions.specs.Lists.{keep}
 use Rattle.definitions.specs.JoiningLog.{unbeaten}
-use Rattle.laws.proofs.Lists.{Each, none, each_imp, each_both}
+use Rattle.laws.proofs.Lists.{Each, each_imp, each_both}
 use Rattle.aggregates.specs.JoinState.{Once}
 use Rattle.aggregates.specs.Log.{rule_against}
 use Rattle.aggregates.proofs.Stops.{by_test}

@@ -12,7 +12,7 @@ use Rattle.definitions.specs.Groups.{Groups, Joining, nodes_in, size_in, edges_t
 use Rattle.laws.proofs.Tests.{both_false}
 use Rattle.laws.proofs.Lists.{Each, none, more, each_head, each_tail, each_imp, each_append, get_d_tab, tab_cong}
 use Rattle.aggregates.specs.JoinChoice.{at, others_by, named_by, named_is}
-use Rattle.aggregates.specs.JoinState.{Once, total, moved, members_of, state_of, turn_of, Rep}
+use Rattle.aggregates.specs.JoinState.{Once, total, members_of, state_of, turn_of, Rep}
 use Rattle.aggregates.proofs.Stops.{Other, by_test, chosen_keeps}
 use Rattle.aggregates.proofs.NodeLists.{spare, degree, spare_within, each_part, offset_within}
 use Rattle.aggregates.proofs.joining.Together.{chosen_cong}

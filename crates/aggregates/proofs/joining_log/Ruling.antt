@@ -9,7 +9,7 @@ use borrow.Author.Tests.{eq-eqb, ne_eqb}
 use lib.ListN.{length, get_or}
 use lib.Seq.{slice, slice-cons, slice_empty}
 use Rattle.definitions.specs.Groups.{edges_to}
-use Rattle.laws.proofs.Lists.{Each, none, each_head, each_tail}
+use Rattle.laws.proofs.Lists.{Each, each_head, each_tail}
 use Rattle.aggregates.specs.JoinChoice.{bump, at}
 use Rattle.aggregates.specs.Log.{Rules, rule_against, rule_by}
 use Rattle.aggregates.proofs.joining.Together.{low, same_names, edges_counted, sizes_kept}

@@ -4,7 +4,7 @@ use Rattle.definitions.specs.Numbers.{◌+ᶠ◌, ◌*ᶠ◌}
 use Rattle.laws.proofs.Growing.{tab_none, tab_all}
 use Rattle.coarse_solve.specs.RowSums.{with_terms}
 use Rattle.coarse_solve.proofs.RowSums.{terms_more}
-use Prim.Native.Nat.{◌+◌, ◌*◌, ◌≤◌, ◌-◌}
+use Prim.Native.Nat.{◌+◌, ◌≤◌, ◌-◌}
 use mathlib.Core.Path.{◌≡◌}
 use mathlib.Core.List.{◌++◌}
 use native.Mathlib.Omega.{arith}
