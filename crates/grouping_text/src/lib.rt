@@ -1,4 +1,6 @@
 // The grouping program, from the bytes of its input to those of its output.
+#![tactic(auto)]
+
 ghost use Rattle.std.specs.Prelude.{◌≡◌, min, length};
 ghost use Rattle.definitions.specs.Text.{program, printed};
 ghost use Rattle.numbers.specs.Copied.{copied};

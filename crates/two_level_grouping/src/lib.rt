@@ -1,4 +1,6 @@
 // The grouping of setup: causes 1 to 12, then the nodes' groups by the policy asked for.
+#![tactic(auto)]
+
 ghost use Rattle.std.specs.Prelude.{◌≡◌, ◌+◌, ◌-◌, ◌*◌, ◌/◌, ◌<◌, ◌≤◌, length};
 ghost use Rattle.definitions.specs.Lists.{tab, padded};
 ghost use Rattle.definitions.specs.Matrix.{csr, max_entries, max_rows};

@@ -32,7 +32,7 @@ use Rattle.laws.proofs.TransferRows.{row_short, entries_short}
 use Rattle.csr32.specs.Calls.{goes_on, passed}
 use Rattle.csr32.specs.Rows.{valid_structure}
 use Rattle.numbers.specs.Copied.{copied}
-use Rattle.two_level_grouping.proofs.Kept.{drop_replicate, put_tail, copied_zeros, front_cleared}
+use Rattle.two_level_grouping.proofs.Kept.{drop_replicate, put_tail, front_cleared}
 use Rattle.two_level_grouping.specs.Front.{front_rows}
 use Rattle.transfer.specs.Call.{shape_checked, groups_checked, transfer_checked, smoothed_transfer_call, transfer_ints as intsLeft, transfer_floats as floatsLeft}
 use Rattle.two_level_setup.specs.Stages.{Parts, options_of, filled, transferred}

@@ -1,4 +1,6 @@
 // Setup of the two-level preconditioner: the record, and the four lists that hold what it made.
+#![tactic(auto)]
+
 mod basis; // basis.rt: the transfer, constant or smoothed
 mod build; // build.rt: the stages put together, and room for the coarse part
 mod coarse; // coarse.rt: the coarse matrix, its factor or inverse
