@@ -14,14 +14,14 @@ pub(crate) fn matrix(
     row_ptr: usize,
     col_idx: usize,
     values: usize,
-    row_room_lem: usize,
+    row_room: usize,
     col_room: usize,
     value_room: usize,
 ) -> bool
-    ensures { result ≡ (readable 4 row_ptr row_room_lem && (readable 4 col_idx col_room && readable 8 values value_room)) }
+    ensures { result ≡ (readable 4 row_ptr row_room && (readable 4 col_idx col_room && readable 8 values value_room)) }
 {
     both(
-        ints_fit(row_ptr, row_room_lem),
+        ints_fit(row_ptr, row_room),
         both(ints_fit(col_idx, col_room), words_fit(values, value_room)),
     )
 }

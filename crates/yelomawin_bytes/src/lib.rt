@@ -24,8 +24,7 @@ ghost use Rattle.yelomawin_bytes.specs.Calls.{misfit, reads, writes, matrix_of, 
 mod fits;
 mod rooms;
 
-#[unsafe(no_mangle)]
-pub extern "C" fn yelomawin_bytes_root(bits: u64) -> u64
+pub fn yelomawin_bytes_root(bits: u64) -> u64
     ensures { result ≡ to_bits binary64 (rootᶠ (of_bits binary64 bits)) }
 {
     let x = float_bits::of_bits(bits);
@@ -33,54 +32,52 @@ pub extern "C" fn yelomawin_bytes_root(bits: u64) -> u64
     float_bits::bits_of(y)
 }
 
-#[unsafe(no_mangle)]
-pub extern "C" fn yelomawin_bytes_validate(
+pub fn yelomawin_bytes_validate(
     rows: u64,
     cols: u64,
     row_ptr: &[u8],
     col_idx: &[u8],
     values: &[u8],
-    row_room_lem: &mut [u32],
+    row_room: &mut [u32],
     col_room: &mut [u32],
     value_room: &mut [f64],
 ) -> u64
-    ensures { let fits = matrix_fits row_ptr.now col_idx.now values.now row_room_lem.old col_room.old value_room.old in
+    ensures { let fits = matrix_fits row_ptr.now col_idx.now values.now row_room.old col_room.old value_room.old in
         (result ≡ cond fits (answer_number (answer_of (valid_of (matrix_of rows cols row_ptr.now col_idx.now values.now)))) misfit)
-        × MatrixEmptied fits row_room_lem.old col_room.old value_room.old row_room_lem.new col_room.new value_room.new }
+        × MatrixEmptied fits row_room.old col_room.old value_room.old row_room.new col_room.new value_room.new }
 {
     if fits::matrix(
         row_ptr.len(),
         col_idx.len(),
         values.len(),
-        row_room_lem.len(),
+        row_room.len(),
         col_room.len(),
         value_room.len(),
     ) {
-        rooms::read_matrix(row_ptr, col_idx, values, row_room_lem, col_room, value_room);
+        rooms::read_matrix(row_ptr, col_idx, values, row_room, col_room, value_room);
         let row_ptr_count = row_ptr.len() / 4;
         let col_idx_count = col_idx.len() / 4;
         let values_count = values.len() / 8;
         let number = yelomawin::yelomawin_validate(
             rows,
             cols,
-            &row_room_lem[..row_ptr_count],
+            &row_room[..row_ptr_count],
             &col_room[..col_idx_count],
             &value_room[..values_count],
         );
-        rooms::clear_matrix(row_room_lem, col_room, value_room);
+        rooms::clear_matrix(row_room, col_room, value_room);
         return number;
     }
     254
 }
 
-#[unsafe(no_mangle)]
-pub extern "C" fn yelomawin_bytes_diagonal(
+pub fn yelomawin_bytes_diagonal(
     rows: u64,
     cols: u64,
     row_ptr: &[u8],
     col_idx: &[u8],
     values: &[u8],
-    row_room_lem: &mut [u32],
+    row_room: &mut [u32],
     col_room: &mut [u32],
     value_room: &mut [f64],
     diagonal_room: &mut [f64],
@@ -88,11 +85,11 @@ pub extern "C" fn yelomawin_bytes_diagonal(
     diagonal: &mut [u8],
     answer: &mut [u8],
 ) -> u64
-    ensures { let fits = matrix_fits row_ptr.now col_idx.now values.now row_room_lem.old col_room.old value_room.old
+    ensures { let fits = matrix_fits row_ptr.now col_idx.now values.now row_room.old col_room.old value_room.old
         && (writes 8 diagonal_room.old diagonal.old && writes 8 answer_room.old answer.old) in
         let o = diagonal_call (matrix_of rows cols row_ptr.now col_idx.now values.now) (length diagonal_room.old) in
         (result ≡ cond fits (answer_number (answer_of o)) misfit)
-        × MatrixEmptied fits row_room_lem.old col_room.old value_room.old row_room_lem.new col_room.new value_room.new
+        × MatrixEmptied fits row_room.old col_room.old value_room.old row_room.new col_room.new value_room.new
         × ResultLeft fits (work_left zeroᶠ o) (bytes_left bytes_of_floats o) diagonal_room.old diagonal.old diagonal_room.new diagonal.new
         × AnswerLeft fits (answer_values (answer_of o)) answer_room.old answer.old answer_room.new answer.new }
 {
@@ -101,7 +98,7 @@ pub extern "C" fn yelomawin_bytes_diagonal(
             row_ptr.len(),
             col_idx.len(),
             values.len(),
-            row_room_lem.len(),
+            row_room.len(),
             col_room.len(),
             value_room.len(),
         ),
@@ -112,35 +109,34 @@ pub extern "C" fn yelomawin_bytes_diagonal(
             answer.len(),
         ),
     ) {
-        rooms::read_matrix(row_ptr, col_idx, values, row_room_lem, col_room, value_room);
+        rooms::read_matrix(row_ptr, col_idx, values, row_room, col_room, value_room);
         let row_ptr_count = row_ptr.len() / 4;
         let col_idx_count = col_idx.len() / 4;
         let values_count = values.len() / 8;
         let number = yelomawin::yelomawin_diagonal(
             rows,
             cols,
-            &row_room_lem[..row_ptr_count],
+            &row_room[..row_ptr_count],
             &col_room[..col_idx_count],
             &value_room[..values_count],
             diagonal_room,
             answer_room,
         );
-        rooms::clear_matrix(row_room_lem, col_room, value_room);
+        rooms::clear_matrix(row_room, col_room, value_room);
         rooms::hand_result(number, diagonal_room, diagonal, answer_room, answer);
         return number;
     }
     254
 }
 
-#[unsafe(no_mangle)]
-pub extern "C" fn yelomawin_bytes_blocks(
+pub fn yelomawin_bytes_blocks(
     rows: u64,
     cols: u64,
     row_ptr: &[u8],
     col_idx: &[u8],
     values: &[u8],
     block_size: u64,
-    row_room_lem: &mut [u32],
+    row_room: &mut [u32],
     col_room: &mut [u32],
     value_room: &mut [f64],
     factor_room: &mut [f64],
@@ -148,11 +144,11 @@ pub extern "C" fn yelomawin_bytes_blocks(
     factors: &mut [u8],
     answer: &mut [u8],
 ) -> u64
-    ensures { let fits = matrix_fits row_ptr.now col_idx.now values.now row_room_lem.old col_room.old value_room.old
+    ensures { let fits = matrix_fits row_ptr.now col_idx.now values.now row_room.old col_room.old value_room.old
         && (writes 8 factor_room.old factors.old && writes 8 answer_room.old answer.old) in
         let o = blocks_call (matrix_of rows cols row_ptr.now col_idx.now values.now) block_size (length factor_room.old) in
         (result ≡ cond fits (answer_number (answer_of o)) misfit)
-        × MatrixEmptied fits row_room_lem.old col_room.old value_room.old row_room_lem.new col_room.new value_room.new
+        × MatrixEmptied fits row_room.old col_room.old value_room.old row_room.new col_room.new value_room.new
         × ResultLeft fits (work_left zeroᶠ o) (bytes_left bytes_of_floats o) factor_room.old factors.old factor_room.new factors.new
         × AnswerLeft fits (answer_values (answer_of o)) answer_room.old answer.old answer_room.new answer.new }
 {
@@ -161,7 +157,7 @@ pub extern "C" fn yelomawin_bytes_blocks(
             row_ptr.len(),
             col_idx.len(),
             values.len(),
-            row_room_lem.len(),
+            row_room.len(),
             col_room.len(),
             value_room.len(),
         ),
@@ -172,29 +168,28 @@ pub extern "C" fn yelomawin_bytes_blocks(
             answer.len(),
         ),
     ) {
-        rooms::read_matrix(row_ptr, col_idx, values, row_room_lem, col_room, value_room);
+        rooms::read_matrix(row_ptr, col_idx, values, row_room, col_room, value_room);
         let row_ptr_count = row_ptr.len() / 4;
         let col_idx_count = col_idx.len() / 4;
         let values_count = values.len() / 8;
         let number = yelomawin::yelomawin_blocks(
             rows,
             cols,
-            &row_room_lem[..row_ptr_count],
+            &row_room[..row_ptr_count],
             &col_room[..col_idx_count],
             &value_room[..values_count],
             block_size,
             factor_room,
             answer_room,
         );
-        rooms::clear_matrix(row_room_lem, col_room, value_room);
+        rooms::clear_matrix(row_room, col_room, value_room);
         rooms::hand_result(number, factor_room, factors, answer_room, answer);
         return number;
     }
     254
 }
 
-#[unsafe(no_mangle)]
-pub extern "C" fn yelomawin_bytes_block_apply(
+pub fn yelomawin_bytes_block_apply(
     rows: u64,
     block_size: u64,
     factors: &[u8],
@@ -247,8 +242,7 @@ pub extern "C" fn yelomawin_bytes_block_apply(
 }
 
 // Grouping alone leaves all after every refusal.
-#[unsafe(no_mangle)]
-pub extern "C" fn yelomawin_bytes_group(
+pub fn yelomawin_bytes_group(
     nodes: u64,
     group_size: u64,
     offsets: &[u8],
@@ -300,8 +294,7 @@ pub extern "C" fn yelomawin_bytes_group(
 }
 
 // So does grouping with a log.
-#[unsafe(no_mangle)]
-pub extern "C" fn yelomawin_bytes_group_log(
+pub fn yelomawin_bytes_group_log(
     nodes: u64,
     group_size: u64,
     offsets: &[u8],
@@ -366,15 +359,14 @@ pub extern "C" fn yelomawin_bytes_group_log(
     254
 }
 
-#[unsafe(no_mangle)]
-pub extern "C" fn yelomawin_bytes_estimate(
+pub fn yelomawin_bytes_estimate(
     rows: u64,
     cols: u64,
     row_ptr: &[u8],
     col_idx: &[u8],
     values: &[u8],
     diagonal: &[u8],
-    row_room_lem: &mut [u32],
+    row_room: &mut [u32],
     col_room: &mut [u32],
     value_room: &mut [f64],
     diagonal_room: &mut [f64],
@@ -382,11 +374,11 @@ pub extern "C" fn yelomawin_bytes_estimate(
     answer_room: &mut [u64],
     answer: &mut [u8],
 ) -> u64
-    ensures { let fits = matrix_fits row_ptr.now col_idx.now values.now row_room_lem.old col_room.old value_room.old
+    ensures { let fits = matrix_fits row_ptr.now col_idx.now values.now row_room.old col_room.old value_room.old
         && (reads 8 diagonal.now diagonal_room.old && writes 8 answer_room.old answer.old) in
         let o = estimate_call (matrix_of rows cols row_ptr.now col_idx.now values.now) (floats_of diagonal.now) (length work.old) in
         (result ≡ cond fits (estimate_number (estimate_answer o)) misfit)
-        × MatrixEmptied fits row_room_lem.old col_room.old value_room.old row_room_lem.new col_room.new value_room.new
+        × MatrixEmptied fits row_room.old col_room.old value_room.old row_room.new col_room.new value_room.new
         × (diagonal_room.new ≡ after fits (emptied zeroᶠ) diagonal_room.old)
         × (work.new ≡ after fits (work_left zeroᶠ o) work.old)
         × AnswerLeft fits (estimate_values (estimate_answer o)) answer_room.old answer.old answer_room.new answer.new }
@@ -396,7 +388,7 @@ pub extern "C" fn yelomawin_bytes_estimate(
             row_ptr.len(),
             col_idx.len(),
             values.len(),
-            row_room_lem.len(),
+            row_room.len(),
             col_room.len(),
             value_room.len(),
         ),
@@ -408,7 +400,7 @@ pub extern "C" fn yelomawin_bytes_estimate(
         ),
     ) {
         rooms::read_floats(diagonal, diagonal_room);
-        rooms::read_matrix(row_ptr, col_idx, values, row_room_lem, col_room, value_room);
+        rooms::read_matrix(row_ptr, col_idx, values, row_room, col_room, value_room);
         let row_ptr_count = row_ptr.len() / 4;
         let col_idx_count = col_idx.len() / 4;
         let values_count = values.len() / 8;
@@ -416,14 +408,14 @@ pub extern "C" fn yelomawin_bytes_estimate(
         let number = yelomawin::yelomawin_estimate(
             rows,
             cols,
-            &row_room_lem[..row_ptr_count],
+            &row_room[..row_ptr_count],
             &col_room[..col_idx_count],
             &value_room[..values_count],
             &diagonal_room[..diagonal_count],
             work,
             answer_room,
         );
-        rooms::clear_matrix(row_room_lem, col_room, value_room);
+        rooms::clear_matrix(row_room, col_room, value_room);
         numbers::zero_floats(diagonal_room);
         rooms::hand_answer(answer_room, answer);
         return number;
@@ -431,8 +423,7 @@ pub extern "C" fn yelomawin_bytes_estimate(
     254
 }
 
-#[unsafe(no_mangle)]
-pub extern "C" fn yelomawin_bytes_setup(
+pub fn yelomawin_bytes_setup(
     rows: u64,
     cols: u64,
     row_ptr: &[u8],
@@ -443,7 +434,7 @@ pub extern "C" fn yelomawin_bytes_setup(
     aggregation: u64,
     basis: u64,
     coarse_policy: u64,
-    row_room_lem: &mut [u32],
+    row_room: &mut [u32],
     col_room: &mut [u32],
     value_room: &mut [f64],
     ints_room: &mut [u32],
@@ -455,7 +446,7 @@ pub extern "C" fn yelomawin_bytes_setup(
     setup_floats: &mut [u8],
     record: &mut [u8],
 ) -> u64
-    ensures { let fits = matrix_fits row_ptr.now col_idx.now values.now row_room_lem.old col_room.old value_room.old
+    ensures { let fits = matrix_fits row_ptr.now col_idx.now values.now row_room.old col_room.old value_room.old
         && (writes 4 ints_room.old setup_ints.old
         && (writes 8 floats_room.old setup_floats.old && writes 8 record_room.old «record».old)) in
         let made = fits && are_policies aggregation basis coarse_policy in
@@ -465,7 +456,7 @@ pub extern "C" fn yelomawin_bytes_setup(
         let h = bytes_setup fits a block_size group_size aggregation basis coarse_policy lent
         record_room.old setup_ints.old setup_floats.old «record».old in
         (result ≡ h.number)
-        × MatrixEmptied fits row_room_lem.old col_room.old value_room.old row_room_lem.new col_room.new value_room.new
+        × MatrixEmptied fits row_room.old col_room.old value_room.old row_room.new col_room.new value_room.new
         × LentLeft made s lent (lent_of ints_room.new floats_room.new work_ints.new work_floats.new)
         × (record_room.new ≡ after fits (emptied 0) record_room.old)
         × (setup_ints.new ≡ h.ints)
@@ -477,7 +468,7 @@ pub extern "C" fn yelomawin_bytes_setup(
             row_ptr.len(),
             col_idx.len(),
             values.len(),
-            row_room_lem.len(),
+            row_room.len(),
             col_room.len(),
             value_room.len(),
         ),
@@ -490,14 +481,14 @@ pub extern "C" fn yelomawin_bytes_setup(
             record.len(),
         ),
     ) {
-        rooms::read_matrix(row_ptr, col_idx, values, row_room_lem, col_room, value_room);
+        rooms::read_matrix(row_ptr, col_idx, values, row_room, col_room, value_room);
         let row_ptr_count = row_ptr.len() / 4;
         let col_idx_count = col_idx.len() / 4;
         let values_count = values.len() / 8;
         let number = yelomawin::yelomawin_setup(
             rows,
             cols,
-            &row_room_lem[..row_ptr_count],
+            &row_room[..row_ptr_count],
             &col_room[..col_idx_count],
             &value_room[..values_count],
             block_size,
@@ -511,7 +502,7 @@ pub extern "C" fn yelomawin_bytes_setup(
             work_floats,
             record_room,
         );
-        rooms::clear_matrix(row_room_lem, col_room, value_room);
+        rooms::clear_matrix(row_room, col_room, value_room);
         rooms::hand_ints(rooms::leaves_all(number), ints_room, setup_ints);
         rooms::hand_result(number, floats_room, setup_floats, record_room, record);
         return number;
@@ -519,8 +510,7 @@ pub extern "C" fn yelomawin_bytes_setup(
     254
 }
 
-#[unsafe(no_mangle)]
-pub extern "C" fn yelomawin_bytes_apply(
+pub fn yelomawin_bytes_apply(
     record: &[u8],
     setup_ints: &[u8],
     setup_floats: &[u8],

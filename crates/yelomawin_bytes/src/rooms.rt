@@ -30,18 +30,18 @@ pub(crate) fn read_matrix(
     row_ptr: &[u8],
     col_idx: &[u8],
     values: &[u8],
-    row_room_lem: &mut [u32],
+    row_room: &mut [u32],
     col_room: &mut [u32],
     value_room: &mut [f64],
 )
-    requires row_room_value { reads 4 row_ptr.now row_room_lem.old ≡ true }
+    requires row_room_value { reads 4 row_ptr.now row_room.old ≡ true }
     requires col_room_value { reads 4 col_idx.now col_room.old ≡ true }
     requires value_room_value { reads 8 values.now value_room.old ≡ true }
-    ensures read { Read 4 ints_of row_ptr.now row_room_lem.old row_room_lem.new }
+    ensures read { Read 4 ints_of row_ptr.now row_room.old row_room.new }
     ensures read_2 { Read 4 ints_of col_idx.now col_room.old col_room.new }
     ensures read_3 { Read 8 floats_of values.now value_room.old value_room.new }
 {
-    read_ints(row_ptr, row_room_lem);
+    read_ints(row_ptr, row_room);
     read_ints(col_idx, col_room);
     read_floats(values, value_room);
 }
@@ -101,12 +101,12 @@ pub(crate) fn read_kept(
     read_solve(setup_floats, residual, floats_room, residual_room);
 }
 
-pub(crate) fn clear_matrix(row_room_lem: &mut [u32], col_room: &mut [u32], value_room: &mut [f64])
-    ensures row_room_after { row_room_lem.new ≡ emptied 0 row_room_lem.old }
+pub(crate) fn clear_matrix(row_room: &mut [u32], col_room: &mut [u32], value_room: &mut [f64])
+    ensures row_room_after { row_room.new ≡ emptied 0 row_room.old }
     ensures col_room_after { col_room.new ≡ emptied 0 col_room.old }
     ensures value_room_after { value_room.new ≡ emptied zeroᶠ value_room.old }
 {
-    numbers::zero_ints(row_room_lem);
+    numbers::zero_ints(row_room);
     numbers::zero_ints(col_room);
     numbers::zero_floats(value_room);
 }
