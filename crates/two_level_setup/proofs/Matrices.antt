@@ -53,6 +53,7 @@ row_all rows i = elim (dec_lt i (length rows)) [
 
 is_true : (b : Bool) → T b → b ≡ true
 is_true true t = refl
+is_true false t = elim t [ ]
 
 module _ (a : Matrix) (s : Setup) (ints : List ℕ) (floats : List Float) (work_ints : List ℕ) (work_floats : List Float) (w : MatrixFit a s (room_in ints floats work_ints work_floats)) where
   abbrev n : ℕ

@@ -12,12 +12,12 @@ use Rattle.grouping_text.proofs.finish.Tie as tie
 
 returns : tie.Need-returns
 returns c =
-    let a = c.before.before.before.before.before.before.before.before.before.before.before.before.before.args in
-    let k = c.before.before.before.before.before.before.before.before.before.close in
-    let m = c.before.before.before.before.before.before.least in
-    let f = c.before.before.say in
-    let l = k.new.1.0 in
-    let p = puts_whole a.out.now (printed (answered (asked_in (take (m.result - 0) (drop 0 l)) k.result.good))) (said (held a.reader a.numbers.now)) f.new.1.1.0 f.result (said_is (held a.reader a.numbers.now) k.result l m.result k.ensures m.ensures) f.ensures in
+    let a = c.args in
+    let k = c.close-last in
+    let m = c.least-end in
+    let f = c.say in
+    let l = k.new.numbers in
+    let p = puts_whole a.out.now (printed (answered (asked_in (take (m.result - 0) (drop 0 l)) k.result.good))) (said (held a.reader a.numbers.now)) f.new.out f.result (said_is (held a.reader a.numbers.now) k.result l m.result k.ensures m.ensures) f.ensures in
     (p.0, (p.1, ap (λ h. h.numbers) k.ensures))
 
 pub finish_spec : {M : Type 1} → statement M

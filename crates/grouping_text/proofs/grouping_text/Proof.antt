@@ -11,15 +11,15 @@ use Rattle.grouping_text.proofs.grouping_text.Tie as tie
 
 returns : tie.Need-returns
 returns c =
-    let a = c.before.before.before.before.before.before.before.before.before.before.before.before.args in
-    let s = c.before.before.before.before.before.before.before.before.before.start in
-    let d = c.before.before.before.before.before.before.before.feed in
-    let f = c.before.before.before.finish in
-    let e = text_said a.text.now (replicate 2307 0) s.result d.result d.new.1.1.0 (omega (arith, length-replicate {A = ℕ} 2307 0)) s.ensures d.ensures in
+    let a = c.args in
+    let s = c.start in
+    let d = c.feed-all in
+    let f = c.finish in
+    let e = text_said a.text.now (replicate 2307 0) s.result d.result d.new.numbers (omega (arith, length-replicate {A = ℕ} 2307 0)) s.ensures d.ensures in
     (f.ensures.0 ∙ ap (λ p. min (length p) (length a.out.now)) e, f.ensures.1.0 ∙ ap (λ p. copied p a.out.now) e)
 
-pub grouping-text-spec : {M : Type 1} → statement M
-grouping-text-spec =
+pub grouping_text_spec : {M : Type 1} → statement M
+grouping_text_spec =
     tie.close
     (tie.spec
     (λ c κs. tt)

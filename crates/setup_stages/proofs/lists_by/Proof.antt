@@ -11,12 +11,12 @@ unfolding lists_by
 not_zero zero h = absurd (h refl)
 not_zero (suc n) h = refl
 
-returns : tie.Need-returns
+returns : tie.Need-returns-then-strong-eq0
 unfolding lists_by
-returns c = rw c.if1.true
+returns c = rw c.if-strong-eq0.true
 
-returns-2 : tie.Need-returns-2
-returns-2 c = not_zero c.before.args.strong c.if1.false
+returns-2 : tie.Need-returns
+returns-2 c = not_zero c.args.strong c.if-strong-eq0.false
 
-pub lists-by-spec : {M : Type 1} → statement M
-lists-by-spec = tie.close (tie.spec returns returns-2)
+pub lists_by_spec : {M : Type 1} → statement M
+lists_by_spec = tie.close (tie.spec returns returns-2)

@@ -4,8 +4,8 @@ use Rattle.setup_stages.proofs.yelomawin_bench_coarse_inverse.Statement.{stateme
 use Rattle.setup_stages.proofs.yelomawin_bench_coarse_inverse.Tie as tie
 
 returns : tie.Need-returns
-returns c = let g = c.before.before.before.coarse-inverse.ensures in let t = c.number.ensures in rw (← g.0) (t, g.1)
+returns c = let g = c.coarse_inverse-a.ensures in let t = c.number.ensures in rw (← g.0) (t, g.1)
 
-pub yelomawin-bench-coarse-inverse-spec : {M : Type 1} → statement M
-yelomawin-bench-coarse-inverse-spec =
+pub yelomawin_bench_coarse_inverse_spec : {M : Type 1} → statement M
+yelomawin_bench_coarse_inverse_spec =
     tie.close (tie.spec (λ c κs. search rules) (λ c κs. search rules) (λ c. search rules) returns)

@@ -4,8 +4,8 @@ use Rattle.setup_stages.proofs.yelomawin_bench_constant_coarse.Statement.{statem
 use Rattle.setup_stages.proofs.yelomawin_bench_constant_coarse.Tie as tie
 
 returns : tie.Need-returns
-returns c = let g = c.before.before.before.constant-coarse.ensures in let t = c.number.ensures in rw (← g.0) (t, g.1)
+returns c = let g = c.constant_coarse-a.ensures in let t = c.number.ensures in rw (← g.0) (t, g.1)
 
-pub yelomawin-bench-constant-coarse-spec : {M : Type 1} → statement M
-yelomawin-bench-constant-coarse-spec =
+pub yelomawin_bench_constant_coarse_spec : {M : Type 1} → statement M
+yelomawin_bench_constant_coarse_spec =
     tie.close (tie.spec (λ c κs. search rules) (λ c κs. search rules) (λ c. search rules) returns)

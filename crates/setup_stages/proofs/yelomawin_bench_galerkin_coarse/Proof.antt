@@ -4,8 +4,8 @@ use Rattle.setup_stages.proofs.yelomawin_bench_galerkin_coarse.Statement.{statem
 use Rattle.setup_stages.proofs.yelomawin_bench_galerkin_coarse.Tie as tie
 
 returns : tie.Need-returns
-returns c = let g = c.before.before.before.before.before.galerkin-coarse.ensures in let t = c.number.ensures in rw (← g.0) (t, (g.1, g.2))
+returns c = let g = c.galerkin_coarse-a.ensures in let t = c.number.ensures in rw (← g.0) (t, (g.1, g.2))
 
-pub yelomawin-bench-galerkin-coarse-spec : {M : Type 1} → statement M
-yelomawin-bench-galerkin-coarse-spec =
+pub yelomawin_bench_galerkin_coarse_spec : {M : Type 1} → statement M
+yelomawin_bench_galerkin_coarse_spec =
     tie.close (tie.spec (λ c κs. search rules) (λ c κs. search rules) (λ c. search rules) (λ c. search rules) returns)

@@ -7,30 +7,30 @@ use borrow.Author.Rules.{rules}
 use Rattle.two_level_setup.proofs.build_or_clear.Statement.{statement}
 use Rattle.two_level_setup.proofs.build_or_clear.Tie as tie
 
-returns : tie.Need-returns
+returns : tie.Need-returns-then-keeps_all
 unfolding lengths_of
 returns c =
-    let a = c.before.before.before.before.before.before.before.before.before.before.before.before.before.before.before.before.before.before.before.before.before.before.before.before.before.args in
-    let k = c.before.before.before.before.before.before.before.before.before.before.before.before.before.build in
-    judged_kept (csr a.rows a.cols a.row-ptr.now a.col-idx.now a.values.now) a.options (lent_of a.ints.now a.floats.now a.work-ints.now a.work-floats.now) (lent_of k.new.1.1.1.1.1.1.0 k.new.1.1.1.1.1.1.1.0 k.new.1.1.1.1.1.1.1.1.0 k.new.1.1.1.1.1.1.1.1.1.0) k.result k.ensures _ c.before.before.before.answer2.given.1 (sym c.before.keeps-all.ensures ∙ c.if1.true)
+    let a = c.args in
+    let k = c.build-answer in
+    judged_kept (csr a.rows a.cols a.row_ptr.now a.col_idx.now a.values.now) a.options (lent_of a.ints.now a.floats.now a.work_ints.now a.work_floats.now) (lent_of k.new.ints k.new.floats k.new.work_ints k.new.work_floats) k.result k.ensures _ c.in-Refused.is (sym c.keeps_all.ensures ∙ c.if-keeps_all.true)
 
-returns-2 : tie.Need-returns-2
+returns-2 : tie.Need-returns-in-Built
 unfolding lengths_of
 returns-2 c =
-    let a = c.before.before.before.before.before.before.before.before.before.before.before.before.before.before.before.before.before.before.before.before.before.before.before.args in
-    let k = c.before.before.before.before.before.before.before.before.before.before.before.build in
-    judged_built (csr a.rows a.cols a.row-ptr.now a.col-idx.now a.values.now) a.options (lent_of a.ints.now a.floats.now a.work-ints.now a.work-floats.now) (lent_of k.new.1.1.1.1.1.1.0 k.new.1.1.1.1.1.1.1.0 k.new.1.1.1.1.1.1.1.1.0 k.new.1.1.1.1.1.1.1.1.1.0) k.result k.ensures _ c.before.answer.given.1 (k.auto.1.1.1.1.1.1.0, k.auto.1.1.1.1.1.1.1.0, k.auto.1.1.1.1.1.1.1.1.0, k.auto.1.1.1.1.1.1.1.1.1.0)
+    let a = c.args in
+    let k = c.build-answer in
+    judged_built (csr a.rows a.cols a.row_ptr.now a.col_idx.now a.values.now) a.options (lent_of a.ints.now a.floats.now a.work_ints.now a.work_floats.now) (lent_of k.new.ints k.new.floats k.new.work_ints k.new.work_floats) k.result k.ensures _ c.in-Built.is (k.auto.ints, k.auto.floats, k.auto.work_ints, k.auto.work_floats)
 
-returns-3 : tie.Need-returns-3
+returns-3 : tie.Need-returns-else-keeps_all
 unfolding lengths_of
 returns-3 c =
-    let a = c.before.before.before.before.before.before.before.before.before.before.before.before.before.before.before.before.before.before.before.before.before.before.before.before.before.before.before.before.before.before.before.before.before.before.before.before.before.before.args in
-    let k = c.before.before.before.before.before.before.before.before.before.before.before.before.before.before.before.before.before.before.before.before.before.before.before.before.before.before.build in
-    let z = c.before.before.before.before.before.before.before.before.zero-all in
-    judged_cleared (csr a.rows a.cols a.row-ptr.now a.col-idx.now a.values.now) a.options (lent_of a.ints.now a.floats.now a.work-ints.now a.work-floats.now) (lent_of k.new.1.1.1.1.1.1.0 k.new.1.1.1.1.1.1.1.0 k.new.1.1.1.1.1.1.1.1.0 k.new.1.1.1.1.1.1.1.1.1.0) k.result k.ensures _ (lent_of z.new.0 z.new.1.0 z.new.1.1.0 z.new.1.1.1.0) c.before.before.before.before.before.before.before.before.before.before.before.before.before.before.before.before.answer2.given.1 (sym c.before.before.before.before.before.before.before.before.before.before.before.before.before.before.keeps-all.ensures ∙ c.before.before.before.before.before.before.before.before.before.before.before.before.before.if1.false) z.ensures (k.auto.1.1.1.1.1.1.0, k.auto.1.1.1.1.1.1.1.0, k.auto.1.1.1.1.1.1.1.1.0, k.auto.1.1.1.1.1.1.1.1.1.0)
+    let a = c.args in
+    let k = c.build-answer in
+    let z = c.zero_all in
+    judged_cleared (csr a.rows a.cols a.row_ptr.now a.col_idx.now a.values.now) a.options (lent_of a.ints.now a.floats.now a.work_ints.now a.work_floats.now) (lent_of k.new.ints k.new.floats k.new.work_ints k.new.work_floats) k.result k.ensures _ (lent_of z.new.ints z.new.floats z.new.work_ints z.new.work_floats) c.in-Refused.is (sym c.keeps_all.ensures ∙ c.if-keeps_all.false) z.ensures (k.auto.ints, k.auto.floats, k.auto.work_ints, k.auto.work_floats)
 
-pub build-or-clear-spec : {M : Type 1} → statement M
-build-or-clear-spec =
+pub build_or_clear_spec : {M : Type 1} → statement M
+build_or_clear_spec =
     tie.close
     (tie.spec
     (λ c κs. search rules)

@@ -6,30 +6,30 @@ use borrow.Author.Rules.{rules}
 use Rattle.two_level_setup.proofs.setup.Statement.{statement}
 use Rattle.two_level_setup.proofs.setup.Tie as tie
 
-build-or-clear-requires : tie.Need-build-or-clear-requires
-build-or-clear-requires c κs = c.before.before.before.before.before.sizes-fit.ensures.fit c.before.before.before.before.if1.true
+build-or-clear-requires : tie.Need-build_or_clear-requires
+build-or-clear-requires c κs = c.sizes_fit.ensures.fit c.if-sizes_fit.true
 
-returns : tie.Need-returns
+returns : tie.Need-returns-then-sizes_fit
 unfolding lengths_of
 returns c =
-    let a = c.before.before.before.before.before.before.before.before.before.before.before.before.before.before.before.before.before.before.before.before.before.before.args in
-    rw (whole_is (csr a.rows a.cols a.row-ptr.now a.col-idx.now a.values.now) a.options (lent_of a.ints.now a.floats.now a.work-ints.now a.work-floats.now) (c.before.before.before.before.before.before.before.before.before.before.before.before.before.before.sizes-fit.ensures.fit c.before.before.before.before.before.before.before.before.before.before.before.before.before.if1.true)) at c.before.before.before.before.before.before.before.before.build-or-clear.ensures
+    let a = c.args in
+    rw (whole_is (csr a.rows a.cols a.row_ptr.now a.col_idx.now a.values.now) a.options (lent_of a.ints.now a.floats.now a.work_ints.now a.work_floats.now) (c.sizes_fit.ensures.fit c.if-sizes_fit.true)) at c.build_or_clear.ensures
 
-returns-2 : tie.Need-returns-2
+returns-2 : tie.Need-returns-in-Refused
 returns-2 c =
-    let a = c.before.before.before.before.before.before.before.before.before.before.before.before.before.args in
-    let v = c.before.before.before.front in
-    stopped (csr a.rows a.cols a.row-ptr.now a.col-idx.now a.values.now) a.options (lent_of a.ints.now a.floats.now a.work-ints.now a.work-floats.now) v.result v.ensures _ c.before.checked.given.1
+    let a = c.args in
+    let v = c.front-checked in
+    stopped (csr a.rows a.cols a.row_ptr.now a.col_idx.now a.values.now) a.options (lent_of a.ints.now a.floats.now a.work_ints.now a.work_floats.now) v.result v.ensures _ c.in-Refused.is
 
-returns-3 : tie.Need-returns-3
+returns-3 : tie.Need-returns-in-Accepted
 unfolding lengths_of
 returns-3 c =
-    let a = c.before.before.before.before.before.before.before.before.before.before.before.before.args in
-    let v = c.before.before.front in
-    short (csr a.rows a.cols a.row-ptr.now a.col-idx.now a.values.now) a.options (lent_of a.ints.now a.floats.now a.work-ints.now a.work-floats.now) v.result v.ensures c.enum_told.given.1 (c.before.before.before.before.sizes-fit.ensures.misfit c.before.before.before.if1.false)
+    let a = c.args in
+    let v = c.front-checked in
+    short (csr a.rows a.cols a.row_ptr.now a.col_idx.now a.values.now) a.options (lent_of a.ints.now a.floats.now a.work_ints.now a.work_floats.now) v.result v.ensures c.in-Accepted.is (c.sizes_fit.ensures.misfit c.if-sizes_fit.false)
 
-pub setup-spec : {M : Type 1} → statement M
-setup-spec =
+pub setup_spec : {M : Type 1} → statement M
+setup_spec =
     tie.close
     (tie.spec
     (λ c κs. search rules)

@@ -8,12 +8,12 @@ use Rattle.grouping_text.proofs.answers.put_groups.Tie as tie
 
 returns : tie.Need-returns
 returns c =
-    let a = c.before.before.before.before.before.before.before.before.before.before.before.args in
-    let h = c.before.before.before.before.before.before.put-head in
-    let p = c.before.before.put-ids in
-    puts_then a.out.now 0 (line groups_word (decimal a.count)) h.new.0 h.result h.ensures (lines_from 0 a.ids.now) p.new.0 p.result p.ensures
+    let a = c.args in
+    let h = c.put_head-at in
+    let p = c.put_ids in
+    puts_then a.out.now 0 (line groups_word (decimal a.count)) h.new.out h.result h.ensures (lines_from 0 a.ids.now) p.new.out p.result p.ensures
 
-pub put-groups-spec : {M : Type 1} → statement M
-put-groups-spec =
+pub put_groups_spec : {M : Type 1} → statement M
+put_groups_spec =
     tie.close
     (tie.spec (λ c. search rules) (λ c κs. search rules) (λ c κs. search rules) (λ c. search rules) returns)

@@ -12,27 +12,25 @@ use borrow.Author.Rules.{rules}
 use Rattle.grouping_text.proofs.answers.run.Statement.{statement}
 use Rattle.grouping_text.proofs.answers.run.Tie as tie
 
-returns : tie.Need-returns
+returns : tie.Need-returns-in-Refused
 returns c =
-    let s = c.before.before.before.before.before.before.before.before.before.before.before.before.before.before.before.before.before.before.before.before.before in
-    let a = s.args in
-    let g = c.before.before.before.before.before.before.before.before.before.before.before.before.before.group in
-    let m = c.before.before.before.number_of_lem in
-    let h = c.before.before.put-head in
-    let e : g.result ≡ grouping_answer (grouping_call a.nodes a.size a.offsets.now a.neighbours.now a.nodes (8 * a.nodes + 4 * length a.neighbours.now + 16)) = g.ensures.0 ∙ ap (λ i. grouping_answer (grouping_call a.nodes a.size a.offsets.now a.neighbours.now i (length a.work.now))) s.requires.0 ∙ ap (λ j. grouping_answer (grouping_call a.nodes a.size a.offsets.now a.neighbours.now a.nodes j)) s.requires.1 in
-    puts_as a.out.now 0 (line refused_word (decimal m.result)) (printed (grouping_call a.nodes a.size a.offsets.now a.neighbours.now a.nodes (8 * a.nodes + 4 * length a.neighbours.now + 16))) h.new.0 h.result (printed_refused (grouping_call a.nodes a.size a.offsets.now a.neighbours.now a.nodes (8 * a.nodes + 4 * length a.neighbours.now + 16)) g.result c.before.before.before.before.before.before.before.found.given.0.0 m.result e c.before.before.before.before.before.before.before.found.given.1 m.ensures) h.ensures
+    let a = c.args in
+    let g = c.group-found in
+    let m = c.number_of in
+    let h = c.put_head in
+    let e : g.result ≡ grouping_answer (grouping_call a.nodes a.size a.offsets.now a.neighbours.now a.nodes (8 * a.nodes + 4 * length a.neighbours.now + 16)) = g.ensures.0 ∙ ap (λ i. grouping_answer (grouping_call a.nodes a.size a.offsets.now a.neighbours.now i (length a.work.now))) c.requires.0 ∙ ap (λ j. grouping_answer (grouping_call a.nodes a.size a.offsets.now a.neighbours.now a.nodes j)) c.requires.1 in
+    puts_as a.out.now 0 (line refused_word (decimal m.result)) (printed (grouping_call a.nodes a.size a.offsets.now a.neighbours.now a.nodes (8 * a.nodes + 4 * length a.neighbours.now + 16))) h.new.out h.result (printed_refused (grouping_call a.nodes a.size a.offsets.now a.neighbours.now a.nodes (8 * a.nodes + 4 * length a.neighbours.now + 16)) g.result c.in-Refused.cause m.result e c.in-Refused.is m.ensures) h.ensures
 
-returns-2 : tie.Need-returns-2
+returns-2 : tie.Need-returns-in-Groups
 returns-2 c =
-    let s = c.before.before.before.before.before.before.before.before.before.before.before.before.before.before.before.before.before.before.before.before in
-    let a = s.args in
-    let g = c.before.before.before.before.before.before.before.before.before.before.before.before.group in
-    let h = c.before.before.put-groups in
-    let ids = g.new.1.1.1.1.0 in
-    let k = c.before.before.before.before.before.before.found2.given.0.0 in
-    let e : g.result ≡ grouping_answer (grouping_call a.nodes a.size a.offsets.now a.neighbours.now a.nodes (8 * a.nodes + 4 * length a.neighbours.now + 16)) = g.ensures.0 ∙ ap (λ i. grouping_answer (grouping_call a.nodes a.size a.offsets.now a.neighbours.now i (length a.work.now))) s.requires.0 ∙ ap (λ j. grouping_answer (grouping_call a.nodes a.size a.offsets.now a.neighbours.now a.nodes j)) s.requires.1 in
-    let l : ids ≡ grouping_left (grouping_call a.nodes a.size a.offsets.now a.neighbours.now a.nodes (8 * a.nodes + 4 * length a.neighbours.now + 16)) a.ids.now = g.ensures.1.0 ∙ ap (λ i. grouping_left (grouping_call a.nodes a.size a.offsets.now a.neighbours.now i (length a.work.now)) a.ids.now) s.requires.0 ∙ ap (λ j. grouping_left (grouping_call a.nodes a.size a.offsets.now a.neighbours.now a.nodes j) a.ids.now) s.requires.1 in
-    puts_as a.out.now 0 (line groups_word (decimal k) ++ lines_from 0 ids) (printed (grouping_call a.nodes a.size a.offsets.now a.neighbours.now a.nodes (8 * a.nodes + 4 * length a.neighbours.now + 16))) h.new.0 h.result (printed_done a.nodes a.size a.offsets.now a.neighbours.now (8 * a.nodes + 4 * length a.neighbours.now + 16) g.result k a.ids.now ids s.requires.0 e c.before.before.before.before.before.before.found2.given.1 l) h.ensures
+    let a = c.args in
+    let g = c.group-found in
+    let h = c.put_groups in
+    let ids = g.new.ids in
+    let k = c.in-Groups.count in
+    let e : g.result ≡ grouping_answer (grouping_call a.nodes a.size a.offsets.now a.neighbours.now a.nodes (8 * a.nodes + 4 * length a.neighbours.now + 16)) = g.ensures.0 ∙ ap (λ i. grouping_answer (grouping_call a.nodes a.size a.offsets.now a.neighbours.now i (length a.work.now))) c.requires.0 ∙ ap (λ j. grouping_answer (grouping_call a.nodes a.size a.offsets.now a.neighbours.now a.nodes j)) c.requires.1 in
+    let l : ids ≡ grouping_left (grouping_call a.nodes a.size a.offsets.now a.neighbours.now a.nodes (8 * a.nodes + 4 * length a.neighbours.now + 16)) a.ids.now = g.ensures.1.0 ∙ ap (λ i. grouping_left (grouping_call a.nodes a.size a.offsets.now a.neighbours.now i (length a.work.now)) a.ids.now) c.requires.0 ∙ ap (λ j. grouping_left (grouping_call a.nodes a.size a.offsets.now a.neighbours.now a.nodes j) a.ids.now) c.requires.1 in
+    puts_as a.out.now 0 (line groups_word (decimal k) ++ lines_from 0 ids) (printed (grouping_call a.nodes a.size a.offsets.now a.neighbours.now a.nodes (8 * a.nodes + 4 * length a.neighbours.now + 16))) h.new.out h.result (printed_done a.nodes a.size a.offsets.now a.neighbours.now (8 * a.nodes + 4 * length a.neighbours.now + 16) g.result k a.ids.now ids c.requires.0 e c.in-Groups.is l) h.ensures
 
 pub run_spec : {M : Type 1} → statement M
 run_spec =

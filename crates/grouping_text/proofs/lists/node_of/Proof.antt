@@ -5,43 +5,39 @@ use Rattle.grouping_text.proofs.lists.Nodes.{got_none, got_large, got_short, got
 use Rattle.grouping_text.proofs.lists.node_of.Statement.{statement}
 use Rattle.grouping_text.proofs.lists.node_of.Tie as tie
 
-returns : tie.Need-returns
+returns : tie.Need-returns-else-at-numbers
 unfolding got_of
 returns c =
-    let s = c.before.before.before in
-    let a = s.args in
-    (λ o. got_none a.numbers.now a.neighbours.now a.at a.have s.requires.0 s.requires.1 o c.if1.false, omega arith)
+    let a = c.args in
+    (λ o. got_none a.numbers.now a.neighbours.now a.at a.have c.requires.0 c.requires.1 o c.if-at-numbers.false, omega arith)
 
-returns-2 : tie.Need-returns-2
+returns-2 : tie.Need-returns-then-have-count
 unfolding got_of
 returns-2 c =
-    let s = c.before.before.before.before.before in
-    let a = s.args in
-    (λ o. got_large a.numbers.now a.neighbours.now a.at a.have s.requires.0 s.requires.1 o c.before.before.if1.true c.if2.true, omega arith)
+    let a = c.args in
+    (λ o. got_large a.numbers.now a.neighbours.now a.at a.have c.requires.0 c.requires.1 o c.if-at-numbers.true c.if-have-count.true, omega arith)
 
-returns-3 : tie.Need-returns-3
+returns-3 : tie.Need-returns-then-numbers-from
 unfolding got_of
 returns-3 c =
-    let s = c.before.before.before.before.before.before in
-    let a = s.args in
-    (λ o. got_short a.numbers.now a.neighbours.now a.at a.have s.requires.0 s.requires.1 o c.before.before.before.if1.true c.before.if2.false c.if3.true, omega arith)
+    let a = c.args in
+    (λ o. got_short a.numbers.now a.neighbours.now a.at a.have c.requires.0 c.requires.1 o c.if-at-numbers.true c.if-have-count.false c.if-numbers-from.true, omega arith)
 
-returns-4 : tie.Need-returns-4
+returns-4 : tie.Need-returns
 unfolding got_of
 returns-4 c =
-    let s = c.before.before.before.before.before.before.before.before.before.before.before in
-    let a = s.args in
-    let k = c.before.before.copy-ints in
-    (λ o. got_lists a.numbers.now a.neighbours.now a.at a.have s.requires.0 s.requires.1 o c.before.before.before.before.before.before.before.before.if1.true c.before.before.before.before.before.before.if2.false c.before.before.before.before.before.if3.false k.new.1.0 k.ensures, omega (arith, c.before.before.before.before.before.before.if2.false, s.requires.0))
+    let a = c.args in
+    let k = c.copy_ints in
+    (λ o. got_lists a.numbers.now a.neighbours.now a.at a.have c.requires.0 c.requires.1 o c.if-at-numbers.true c.if-have-count.false c.if-numbers-from.false k.new.to k.ensures, omega (arith, c.if-have-count.false, c.requires.0))
 
-pub node-of-spec : {M : Type 1} → statement M
-node-of-spec =
+pub node_of_spec : {M : Type 1} → statement M
+node_of_spec =
     tie.close
     (tie.spec
     returns
     (λ c. omega arith)
     (λ c. omega arith)
-    (λ c. omega (arith, c.shared-slice-known2.given c.before.before.before.before.args.at))
+    (λ c. omega (arith, c.shared_slice_known-2-1.given c.args.at))
     (λ c. omega arith)
     returns-2
     (λ c. omega arith)

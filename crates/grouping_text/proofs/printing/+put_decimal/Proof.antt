@@ -26,7 +26,7 @@ abbrev put_decimal_below : ℕ → In 1 put-decimal-kinds.ps
 put_decimal_below t =
     and 1 put-decimal-kinds.ps (falls 1 put-decimal-kinds.ps ◌<◌ μ-put_decimal t) put-decimal.Pre
 
-put_decimal_returns : (t : ℕ) → put-decimal-lts.Need-returns (
+put_decimal_returns : (t : ℕ) → put-decimal-lts.Need-returns-then-places-eq0 (
   put_reads.Asked,
   put_reads.Learnt,
   put_decimal_below t,
@@ -35,24 +35,24 @@ put_decimal_returns : (t : ℕ) → put-decimal-lts.Need-returns (
 put_decimal_returns t c =
     let s = c.before.before in
     let a = s.args in
-    let z : decimal_in a.places a.n ≡ [] = ap (λ p. decimal_in p a.n) c.if1.true ∙ decimal_none a.n in
+    let z : decimal_in a.places a.n ≡ [] = ap (λ p. decimal_in p a.n) c.if-places-eq0.true ∙ decimal_none a.n in
     rw z (puts_none a.out.now a.at s.requires.1)
 
-put_decimal_cast_put : (t : ℕ) → put-decimal-lts.Need-overflow-cast-put (
+put_decimal_cast_put : (t : ℕ) → put-decimal-lts.Need-overflow_cast-n (
   put_reads.Asked,
   put_reads.Learnt,
   put_decimal_below t,
   put-decimal.Post,
 ) (put_decimal_at t) put-decimal.Post
-put_decimal_cast_put t c = omega (arith, c.before.if2.true)
+put_decimal_cast_put t c = omega (arith, c.if-rest-eq0.true)
 
-put_decimal_add_put : (t : ℕ) → put-decimal-lts.Need-overflow-add-put (
+put_decimal_add_put : (t : ℕ) → put-decimal-lts.Need-overflow_add-n (
   put_reads.Asked,
   put_reads.Learnt,
   put_decimal_below t,
   put-decimal.Post,
 ) (put_decimal_at t) put-decimal.Post
-put_decimal_add_put t c = omega (arith, c.before.if2.true)
+put_decimal_add_put t c = omega (arith, c.if-rest-eq0.true)
 
 put_decimal_put_requires : (t : ℕ) → put-decimal-lts.Need-put-requires (
   put_reads.Asked,
@@ -60,17 +60,17 @@ put_decimal_put_requires : (t : ℕ) → put-decimal-lts.Need-put-requires (
   put_decimal_below t,
   put-decimal.Post,
 ) (put_decimal_at t) put-decimal.Post
-put_decimal_put_requires t c κs = c.before.before.before.before.requires.1
+put_decimal_put_requires t c κs = c.requires.1
 
-put_decimal_same_length : (t : ℕ) → put-decimal-lts.Need-same-length (
+put_decimal_same_length : (t : ℕ) → put-decimal-lts.Need-shape_of-out-then-rest-eq0 (
   put_reads.Asked,
   put_reads.Learnt,
   put_decimal_below t,
   put-decimal.Post,
 ) (put_decimal_at t) put-decimal.Post
-put_decimal_same_length t c = c.before.before.put.auto.0
+put_decimal_same_length t c = c.put.auto.out
 
-put_decimal_returns_2 : (t : ℕ) → put-decimal-lts.Need-returns-2 (
+put_decimal_returns_2 : (t : ℕ) → put-decimal-lts.Need-returns-then-rest-eq0 (
   put_reads.Asked,
   put_reads.Learnt,
   put_decimal_below t,
@@ -79,27 +79,27 @@ put_decimal_returns_2 : (t : ℕ) → put-decimal-lts.Need-returns-2 (
 put_decimal_returns_2 t c =
     let s = c.before.before.before.before.before.before.before in
     let a = s.args in
-    let p : a.places ≡ suc (a.places - 1) = omega (arith, c.before.before.before.before.before.if1.false) in
-    let z : decimal_in a.places a.n ≡ (48 + a.n) ∷ [] = ap (λ k. decimal_in k a.n) p ∙ decimal_one (a.places - 1) a.n c.before.before.before.before.if2.true in
-    rw z c.before.before.put.ensures
+    let p : a.places ≡ suc (a.places - 1) = omega (arith, c.if-places-eq0.false) in
+    let z : decimal_in a.places a.n ≡ (48 + a.n) ∷ [] = ap (λ k. decimal_in k a.n) p ∙ decimal_one (a.places - 1) a.n c.if-rest-eq0.true in
+    rw z c.put.ensures
 
-put_decimal_sub_put_decimal : (t : ℕ) → put-decimal-lts.Need-overflow-sub-put-decimal (
+put_decimal_sub_put_decimal : (t : ℕ) → put-decimal-lts.Need-overflow_sub-places (
   put_reads.Asked,
   put_reads.Learnt,
   put_decimal_below t,
   put-decimal.Post,
 ) (put_decimal_at t) put-decimal.Post
-put_decimal_sub_put_decimal t c = omega (arith, c.before.before.if1.false)
+put_decimal_sub_put_decimal t c = omega (arith, c.if-places-eq0.false)
 
-put_decimal_put_decimal_requires : (t : ℕ) → put-decimal-lts.Need-put-decimal-requires (
+put_decimal_put_decimal_requires : (t : ℕ) → put-decimal-lts.Need-put_decimal-next-requires (
   put_reads.Asked,
   put_reads.Learnt,
   put_decimal_below t,
   put-decimal.Post,
 ) (put_decimal_at t) put-decimal.Post
-put_decimal_put_decimal_requires t c κs = (omega (arith, c.before.before.if1.false, c.before.before.before.before.requires.0), c.before.before.before.before.requires.1)
+put_decimal_put_decimal_requires t c κs = (omega (arith, c.if-places-eq0.false, c.requires.0), c.requires.1)
 
-put_decimal_cast_put_2 : (t : ℕ) → put-decimal-lts.Need-overflow-cast-put-2 (
+put_decimal_cast_put_2 : (t : ℕ) → put-decimal-lts.Need-overflow_cast-n-2 (
   put_reads.Asked,
   put_reads.Learnt,
   put_decimal_below t,
@@ -107,7 +107,7 @@ put_decimal_cast_put_2 : (t : ℕ) → put-decimal-lts.Need-overflow-cast-put-2 
 ) (put_decimal_at t) put-decimal.Post
 put_decimal_cast_put_2 t c = omega arith
 
-put_decimal_add_put_2 : (t : ℕ) → put-decimal-lts.Need-overflow-add-put-2 (
+put_decimal_add_put_2 : (t : ℕ) → put-decimal-lts.Need-overflow_add-n-2 (
   put_reads.Asked,
   put_reads.Learnt,
   put_decimal_below t,
@@ -122,19 +122,19 @@ put_decimal_put_requires_2 : (t : ℕ) → put-decimal-lts.Need-put-requires-2 (
   put-decimal.Post,
 ) (put_decimal_at t) put-decimal.Post
 put_decimal_put_requires_2 t c κs =
-    let a = c.before.before.before.before.before.before.before.before.args in
-    let d = c.before.before.before.put-decimal in
-    puts_within a.out.now a.at (decimal_in (a.places - 1) (a.n / 10)) d.new.0 d.result d.ensures
+    let a = c.args in
+    let d = c.put_decimal-next in
+    puts_within a.out.now a.at (decimal_in (a.places - 1) (a.n / 10)) d.new.out d.result d.ensures
 
-put_decimal_same_length_2 : (t : ℕ) → put-decimal-lts.Need-same-length-2 (
+put_decimal_same_length_2 : (t : ℕ) → put-decimal-lts.Need-shape_of-out (
   put_reads.Asked,
   put_reads.Learnt,
   put_decimal_below t,
   put-decimal.Post,
 ) (put_decimal_at t) put-decimal.Post
-put_decimal_same_length_2 t c = c.before.before.put2.auto.0 ∙ c.before.before.before.before.before.before.put-decimal.auto.0
+put_decimal_same_length_2 t c = c.put-2.auto.out ∙ c.put_decimal-next.auto.out
 
-put_decimal_returns_3 : (t : ℕ) → put-decimal-lts.Need-returns-3 (
+put_decimal_returns_3 : (t : ℕ) → put-decimal-lts.Need-returns (
   put_reads.Asked,
   put_reads.Learnt,
   put_decimal_below t,
@@ -143,15 +143,15 @@ put_decimal_returns_3 : (t : ℕ) → put-decimal-lts.Need-returns-3 (
 put_decimal_returns_3 t c =
     let s = c.before.before.before.before.before.before.before.before.before.before.before in
     let a = s.args in
-    let d = c.before.before.before.before.before.before.put-decimal in
-    let q = c.before.before.put2 in
-    let p : a.places ≡ suc (a.places - 1) = omega (arith, c.before.before.before.before.before.before.before.before.before.if1.false) in
-    let k : a.n / 10 ≡ suc (a.n / 10 - 1) = omega (arith, c.before.before.before.before.before.before.before.before.if2.false) in
+    let d = c.put_decimal-next in
+    let q = c.put-2 in
+    let p : a.places ≡ suc (a.places - 1) = omega (arith, c.if-places-eq0.false) in
+    let k : a.n / 10 ≡ suc (a.n / 10 - 1) = omega (arith, c.if-rest-eq0.false) in
     let z : decimal_in a.places a.n ≡ decimal_in (a.places - 1) (a.n / 10) ++ ((48 + a.n % 10) ∷ []) = ap (λ j. decimal_in j a.n) p ∙ decimal_more (a.places - 1) a.n (a.n / 10 - 1) k in
-    rw z (puts_then a.out.now a.at (decimal_in (a.places - 1) (a.n / 10)) d.new.0 d.result d.ensures ((48 + a.n % 10) ∷ []) q.new.0 q.result q.ensures)
+    rw z (puts_then a.out.now a.at (decimal_in (a.places - 1) (a.n / 10)) d.new.out d.result d.ensures ((48 + a.n % 10) ∷ []) q.new.out q.result q.ensures)
 
-pub +put-decimal-spec : {M : Type 1} → statement M
-+put-decimal-spec = close μ-put_decimal λ t. put-decimal-lts.spec (
+pub +put_decimal_spec : {M : Type 1} → statement M
++put_decimal_spec = close μ-put_decimal λ t. put-decimal-lts.spec (
   put_reads.Asked,
   put_reads.Learnt,
   put_decimal_below t,

@@ -7,43 +7,40 @@ use borrow.Author.Rules.{rules}
 use Rattle.grouping_text.proofs.printing.put_all.Statement.{statement}
 use Rattle.grouping_text.proofs.printing.put_all.Tie as tie
 
-abbrev invariant-loop : tie.invariant-loop
-invariant-loop out₀ at bytes end₀ i₀ out end i = Copying out₀ at bytes out end i
+abbrev invariant-loop-i : tie.invariant-loop-i
+invariant-loop-i out₀ at bytes end₀ i₀ out end i = Copying out₀ at bytes out end i
 
-abbrev decreases-loop : tie.decreases-loop
-decreases-loop out₀ at bytes end₀ i₀ out end i = length bytes - i
+abbrev decreases-loop-i : tie.decreases-loop-i
+decreases-loop-i out₀ at bytes end₀ i₀ out end i = length bytes - i
 
-loop-holds : tie.Need-loop-init invariant-loop decreases-loop
+loop-holds : tie.Need-loop-i-init invariant-loop-i decreases-loop-i
 loop-holds c =
-    let s = c.before.before in
-    copy_first s.args.out.now s.args.at s.requires s.args.bytes.now
+    copy_first c.args.out.now c.args.at c.requires c.args.bytes.now
 
-loop-again : tie.Need-loop-preserved invariant-loop decreases-loop
+loop-again : tie.Need-loop-i-preserved invariant-loop-i decreases-loop-i
 loop-again c =
-    let s = c.before.before.before.before.before.before.before.before.before in
-    let a = s.args in
-    let l = c.before.before.before.before.before.before.loop in
-    let p = c.before.before.put in
-    copy_next a.out.now a.at s.requires a.bytes.now l.out l.end l.i l.invariant (omega arith) p.new.0 p.result p.ensures
+    let a = c.args in
+    let l = c.loop-i in
+    let p = c.put-end in
+    copy_next a.out.now a.at c.requires a.bytes.now l.out l.end l.i l.invariant (omega arith) p.new.out p.result p.ensures
 
-returns : tie.Need-returns invariant-loop decreases-loop
+returns : tie.Need-returns invariant-loop-i decreases-loop-i
 returns c =
-    let s = c.before.before.before.before in
-    let a = s.args in
-    let l = c.before.loop in
-    copy_last a.out.now a.at s.requires a.bytes.now l.out l.end l.i l.invariant (omega arith)
+    let a = c.args in
+    let l = c.loop-i in
+    copy_last a.out.now a.at c.requires a.bytes.now l.out l.end l.i l.invariant (omega arith)
 
-pub put-all-spec : {M : Type 1} → statement M
-put-all-spec =
+pub put_all_spec : {M : Type 1} → statement M
+put_all_spec =
     tie.close
     (tie.spec
-    invariant-loop
-    decreases-loop
+    invariant-loop-i
+    decreases-loop-i
     loop-holds
     (λ c. search rules)
-    (λ c κs. c.before.before.before.loop.invariant.within)
+    (λ c κs. c.loop-i.invariant.within)
     (λ c. search rules)
     (λ c. omega arith)
     loop-again
-    (λ c. c.before.loop.invariant.same)
+    (λ c. c.loop-i.invariant.same)
     returns)

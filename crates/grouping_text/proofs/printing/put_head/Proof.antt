@@ -7,16 +7,15 @@ use Rattle.grouping_text.proofs.printing.put_head.Tie as tie
 
 returns : tie.Need-returns
 returns c =
-    let s = c.before.before.before.before.before.before.before.before.before.before.before.before.before.before.before.before.before.before in
-    let a = s.args in
-    let p = c.before.before.before.before.before.before.before.before.before.before.before.before.before.before.put_all_lem in
-    let q = c.before.before.before.before.before.before.before.before.before.before.put in
-    let r = c.before.before.before.before.before.before.put-decimal in
-    let z = c.before.before.put2 in
-    puts_line a.out.now 0 a.word.now (decimal a.n) p.new.0 q.new.0 r.new.0 z.new.0 p.result q.result r.result z.result p.ensures q.ensures (puts_decimal q.new.0 q.result a.n r.new.0 r.result r.ensures) z.ensures
+    let a = c.args in
+    let p = c.put_all-first in
+    let q = c.put-second in
+    let r = c.put_decimal-third in
+    let z = c.put in
+    puts_line a.out.now 0 a.word.now (decimal a.n) p.new.out q.new.out r.new.out z.new.out p.result q.result r.result z.result p.ensures q.ensures (puts_decimal q.new.out q.result a.n r.new.out r.result r.ensures) z.ensures
 
-pub put-head-spec : {M : Type 1} → statement M
-put-head-spec =
+pub put_head_spec : {M : Type 1} → statement M
+put_head_spec =
     tie.close
     (tie.spec
     (λ c κs. search rules)

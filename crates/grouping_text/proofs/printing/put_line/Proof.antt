@@ -7,16 +7,15 @@ use Rattle.grouping_text.proofs.printing.put_line.Tie as tie
 
 returns : tie.Need-returns
 returns c =
-    let s = c.before.before.before.before.before.before.before.before.before.before.before.before.before.before.before.before.before in
-    let a = s.args in
-    let p = c.before.before.before.before.before.before.before.before.before.before.before.before.before.before.put-decimal in
-    let q = c.before.before.before.before.before.before.before.before.before.before.put in
-    let r = c.before.before.before.before.before.before.put-decimal2 in
-    let z = c.before.before.put2 in
-    puts_line a.out.now a.at (decimal a.v) (decimal a.id) p.new.0 q.new.0 r.new.0 z.new.0 p.result q.result r.result z.result (puts_decimal a.out.now a.at a.v p.new.0 p.result p.ensures) q.ensures (puts_decimal q.new.0 q.result a.id r.new.0 r.result r.ensures) z.ensures
+    let a = c.args in
+    let p = c.put_decimal-first in
+    let q = c.put-second in
+    let r = c.put_decimal-third in
+    let z = c.put in
+    puts_line a.out.now a.at (decimal a.v) (decimal a.id) p.new.out q.new.out r.new.out z.new.out p.result q.result r.result z.result (puts_decimal a.out.now a.at a.v p.new.out p.result p.ensures) q.ensures (puts_decimal q.new.out q.result a.id r.new.out r.result r.ensures) z.ensures
 
-pub put-line-spec : {M : Type 1} → statement M
-put-line-spec =
+pub put_line_spec : {M : Type 1} → statement M
+put_line_spec =
     tie.close
     (tie.spec
     (λ c κs. search rules)

@@ -5,30 +5,30 @@ use borrow.Author.Rules.{rules}
 use Rattle.grouping_text.proofs.reading.byte_in.Statement.{statement}
 use Rattle.grouping_text.proofs.reading.byte_in.Tie as tie
 
-returns : tie.Need-returns
+returns : tie.Need-returns-then-digit
 returns c =
-    let a = c.before.before.before.before.before.args in
-    byte_grown a.reader a.numbers.now a.b c.before.before.before.if1.true (sym c.before.before.digit.ensures ∙ c.before.if2.true) c.more.result c.more.ensures
+    let a = c.args in
+    byte_grown a.reader a.numbers.now a.b c.if-good.true (sym c.digit.ensures ∙ c.if-digit.true) c.more-value.result c.more-value.ensures
 
-returns-2 : tie.Need-returns-2
+returns-2 : tie.Need-returns-then-blank
 returns-2 c =
-    let a = c.before.before.before.before.before.before.before.before.before.before.args in
-    c.before.before.close.ensures ∙ byte_closed a.reader a.numbers.now a.b c.before.before.before.before.before.before.before.before.if1.true (sym c.before.before.before.before.before.before.before.digit.ensures ∙ c.before.before.before.before.before.before.if2.false) (sym c.before.before.before.before.before.blank.ensures ∙ c.before.before.before.before.if3.true)
+    let a = c.args in
+    c.close.ensures ∙ byte_closed a.reader a.numbers.now a.b c.if-good.true (sym c.digit.ensures ∙ c.if-digit.false) (sym c.blank.ensures ∙ c.if-blank.true)
 
-returns-3 : tie.Need-returns-3
+returns-3 : tie.Need-returns-then-good
 returns-3 c =
-    let a = c.before.before.before.before.before.before.args in
-    byte_spoilt a.reader a.numbers.now a.b c.before.before.before.before.if1.true (sym c.before.before.before.digit.ensures ∙ c.before.before.if2.false) (sym c.before.blank.ensures ∙ c.if3.false)
+    let a = c.args in
+    byte_spoilt a.reader a.numbers.now a.b c.if-good.true (sym c.digit.ensures ∙ c.if-digit.false) (sym c.blank.ensures ∙ c.if-blank.false)
 
-returns-4 : tie.Need-returns-4
-returns-4 c = let a = c.before.before.args in byte_same a.reader a.numbers.now a.b c.if1.false
+returns-4 : tie.Need-returns
+returns-4 c = let a = c.args in byte_same a.reader a.numbers.now a.b c.if-good.false
 
-pub byte-in-spec : {M : Type 1} → statement M
-byte-in-spec =
+pub byte_in_spec : {M : Type 1} → statement M
+byte_in_spec =
     tie.close
     (tie.spec
     (λ c κs. tt)
-    (λ c κs. digit_range c.before.before.before.before.args.b (sym c.before.digit.ensures ∙ c.if2.true))
+    (λ c κs. digit_range c.args.b (sym c.digit.ensures ∙ c.if-digit.true))
     returns
     (λ c κs. tt)
     (λ c κs. tt)

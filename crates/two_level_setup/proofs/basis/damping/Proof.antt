@@ -8,26 +8,26 @@ use borrow.Author.Rules.{rules}
 use Rattle.two_level_setup.proofs.basis.damping.Statement.{statement}
 use Rattle.two_level_setup.proofs.basis.damping.Tie as tie
 
-slice-aggregate-estimate : tie.Need-slice-aggregate-estimate
+slice-aggregate-estimate : tie.Need-slice_bounds-estimate-end-in-Accepted-2
 slice-aggregate-estimate c =
-    let a = c.before.before.before.before.before.before.before.before.before.before.before.before.before.before.args in
-    sym (length-take-le (3 * a.rows) a.work.now c.before.before.before.before.before.before.before.before.before.before.before.before.before.before.requires.work)
+    let a = c.args in
+    sym (length-take-le (3 * a.rows) a.work.now c.requires.work)
 
-returns : tie.Need-returns
+returns : tie.Need-returns-in-Refused
 returns c =
-    let a = c.before.before.before.before.before.before.before.before.before.before.before.before.args in
-    let d = c.before.before.before.before.before.diagonal in
-    diagonal_refused (csr a.rows a.cols a.row-ptr.now a.col-idx.now a.values.now) a.used a.floats.now a.work.now c.before.before.before.before.before.before.before.before.before.before.before.before.requires d.result d.ensures.0 _ _ _ c.before.answer.given.1
+    let a = c.args in
+    let d = c.diagonal-answer in
+    diagonal_refused (csr a.rows a.cols a.row_ptr.now a.col_idx.now a.values.now) a.used a.floats.now a.work.now c.requires d.result d.ensures.0 _ _ _ c.in-Refused.is
 
-returns-2 : tie.Need-returns-2
+returns-2 : tie.Need-returns-in-Accepted
 returns-2 c =
-    let a = c.before.before.before.before.before.before.before.before.before.before.before.before.before.before.before.before.before.args in
-    let d = c.before.before.before.before.before.before.before.before.before.before.diagonal in
-    let e = c.before.before.estimate in
-    damped (csr a.rows a.cols a.row-ptr.now a.col-idx.now a.values.now) a.used a.floats.now a.work.now c.before.before.before.before.before.before.before.before.before.before.before.before.before.before.before.before.before.requires d.result d.ensures.0 c.before.before.before.before.before.before.enum_told.given.1 d.new.1.1.1.1.1.0 d.ensures.1 e.result e.ensures.0 e.new.1.1.1.1.1.1.0 e.ensures.1
+    let a = c.args in
+    let d = c.diagonal-answer in
+    let e = c.estimate in
+    damped (csr a.rows a.cols a.row_ptr.now a.col_idx.now a.values.now) a.used a.floats.now a.work.now c.requires d.result d.ensures.0 c.in-Accepted.is d.new.diagonal d.ensures.1 e.result e.ensures.0 e.new.work e.ensures.1
 
-pub damping-spec : {M : Type 1} → statement M
-damping-spec =
+pub damping_spec : {M : Type 1} → statement M
+damping_spec =
     tie.close
     (tie.spec
     (λ c. search rules)

@@ -6,12 +6,12 @@ use Rattle.two_level_setup.proofs.basis.keep_columns.Tie as tie
 
 returns : tie.Need-returns
 returns c =
-    let a = c.before.before.before.before.before.before.before.before.before.before.before.before.args in
-    let k = c.before.before.before.before.before.before.copy-ints in
-    moved_ints a.nodes a.count a.ints.now a.work.now k.new.1.0 c.before.before.zero-ints.new.0 c.before.before.before.before.before.before.before.before.before.before.before.before.requires.1 k.ensures c.before.before.zero-ints.ensures
+    let a = c.args in
+    let k = c.copy_ints in
+    moved_ints a.nodes a.count a.ints.now a.work.now k.new.to c.zero_ints.new.s c.requires.1 k.ensures c.zero_ints.ensures
 
-pub keep-columns-spec : {M : Type 1} → statement M
-keep-columns-spec =
+pub keep_columns_spec : {M : Type 1} → statement M
+keep_columns_spec =
     tie.close
     (tie.spec
     (λ c. search rules)

@@ -9,56 +9,56 @@ use borrow.Author.Rules.{rules}
 use Rattle.two_level_setup.proofs.basis.list_columns.Statement.{statement}
 use Rattle.two_level_setup.proofs.basis.list_columns.Tie as tie
 
-abbrev invariant-loop : tie.invariant-loop
-invariant-loop size ids columns₀ node₀ part₀ row₀ row-end columns node part row = (row ≤ row-end) × (row-end ≡ length columns₀) × Listing size ids columns₀ columns node part row
+abbrev invariant-loop-row : tie.invariant-loop-row
+invariant-loop-row size ids columns₀ node₀ part₀ row₀ row-end columns node part row = (row ≤ row-end) × (row-end ≡ length columns₀) × Listing size ids columns₀ columns node part row
 
-abbrev decreases-loop : tie.decreases-loop
-decreases-loop size ids columns₀ node₀ part₀ row₀ row-end columns node part row = row-end - row
+abbrev decreases-loop-row : tie.decreases-loop-row
+decreases-loop-row size ids columns₀ node₀ part₀ row₀ row-end columns node part row = row-end - row
 
-loop-holds : tie.Need-loop-init invariant-loop decreases-loop
-loop-holds c = (omega arith, refl, listing_first c.before.before.args.size c.before.before.args.ids.now c.before.before.args.columns.now c.before.before.requires.0)
+loop-holds : tie.Need-loop-row-init invariant-loop-row decreases-loop-row
+loop-holds c = (omega arith, refl, listing_first c.args.size c.args.ids.now c.args.columns.now c.requires.0)
 
-mul-column-of : tie.Need-overflow-mul-column-of invariant-loop decreases-loop
-mul-column-of c = omega (arith, listing_reads c.before.before.before.before.args.size c.before.before.before.before.args.ids.now c.before.before.before.before.args.columns.now c.before.loop.columns c.before.loop.node c.before.loop.part c.before.loop.row c.before.loop.invariant.2 c.before.before.before.before.requires.2 (omega arith), c.before.before.before.before.well-formed)
+mul-column-of : tie.Need-offset_bounds-ids-node invariant-loop-row decreases-loop-row
+mul-column-of c = omega (arith, listing_reads c.args.size c.args.ids.now c.args.columns.now c.loop-row.columns c.loop-row.node c.loop-row.part c.loop-row.row c.loop-row.invariant.2 c.requires.2 (omega arith), c.well_formed)
 
-shared-slice-read-column-of : tie.Need-shared-slice-read-column-of invariant-loop decreases-loop
-shared-slice-read-column-of c = listing_reads c.before.before.before.before.before.args.size c.before.before.before.before.before.args.ids.now c.before.before.before.before.before.args.columns.now c.before.before.loop.columns c.before.before.loop.node c.before.before.loop.part c.before.before.loop.row c.before.before.loop.invariant.2 c.before.before.before.before.before.requires.2 (omega arith)
+shared-slice-read-column-of : tie.Need-bounds-ids-node invariant-loop-row decreases-loop-row
+shared-slice-read-column-of c = listing_reads c.args.size c.args.ids.now c.args.columns.now c.loop-row.columns c.loop-row.node c.loop-row.part c.loop-row.row c.loop-row.invariant.2 c.requires.2 (omega arith)
 
-column-of-requires : tie.Need-column-of-requires invariant-loop decreases-loop
-column-of-requires c κs = (c.before.before.before.before.before.requires.1, c.before.before.loop.invariant.2.inside)
+column-of-requires : tie.Need-column_of-requires invariant-loop-row decreases-loop-row
+column-of-requires c κs = (c.requires.1, c.loop-row.invariant.2.inside)
 
-add-part : tie.Need-overflow-add-part invariant-loop decreases-loop
-add-part c = omega (arith, c.before.before.before.before.before.before.requires.1, c.before.before.before.loop.invariant.2.inside)
+add-part : tie.Need-overflow_add-part invariant-loop-row decreases-loop-row
+add-part c = omega (arith, c.requires.1, c.loop-row.invariant.2.inside)
 
-add-node : tie.Need-overflow-add-node invariant-loop decreases-loop
-add-node c = omega (arith, listing_reads c.before.before.before.before.before.before.before.args.size c.before.before.before.before.before.before.before.args.ids.now c.before.before.before.before.before.before.before.args.columns.now c.before.before.before.before.loop.columns c.before.before.before.before.loop.node c.before.before.before.before.loop.part c.before.before.before.before.loop.row c.before.before.before.before.loop.invariant.2 c.before.before.before.before.before.before.before.requires.2 (omega arith), c.before.before.before.before.before.before.before.well-formed)
+add-node : tie.Need-overflow_add-node invariant-loop-row decreases-loop-row
+add-node c = omega (arith, listing_reads c.args.size c.args.ids.now c.args.columns.now c.loop-row.columns c.loop-row.node c.loop-row.part c.loop-row.row c.loop-row.invariant.2 c.requires.2 (omega arith), c.well_formed)
 
-loop-again : tie.Need-loop-preserved invariant-loop decreases-loop
+loop-again : tie.Need-loop-row-preserved invariant-loop-row decreases-loop-row
 loop-again c =
-    let a = c.before.before.before.before.before.before.before.args in
-    let l = c.before.before.before.before.loop in
-    let v = c.before.column-of in
-    let k = listing_reads a.size a.ids.now a.columns.now l.columns l.node l.part l.row l.invariant.2 c.before.before.before.before.before.before.before.requires.2 (omega arith) in (
+    let a = c.args in
+    let l = c.loop-row in
+    let v = c.column_of in
+    let k = listing_reads a.size a.ids.now a.columns.now l.columns l.node l.part l.row l.invariant.2 c.requires.2 (omega arith) in (
       omega arith,
       refl,
       ⊎_elim
-          (λ w. rw (w.1, w.2) (listing_over a.size a.ids.now a.columns.now l.columns l.node l.part l.row l.invariant.2 k (omega arith) v.result v.ensures w.0.taken))
-          (λ w. rw (w.1, w.2) (listing_on a.size a.ids.now a.columns.now l.columns l.node l.part l.row l.invariant.2 k (omega arith) v.result v.ensures w.0.left))
-          c.if1.branch,
+          (λ w. rw (w.node-is, w.part-is) (listing_over a.size a.ids.now a.columns.now l.columns l.node l.part l.row l.invariant.2 k (omega arith) v.result v.ensures w.if-part-size.true))
+          (λ w. rw (w.node-is, w.part-is) (listing_on a.size a.ids.now a.columns.now l.columns l.node l.part l.row l.invariant.2 k (omega arith) v.result v.ensures w.if-part-size.false))
+          c.if-part-size.branch-raw,
     )
 
-same_length : tie.Need-same-length invariant-loop decreases-loop
-same_length c = c.before.loop.invariant.2.long
+same_length : tie.Need-shape_of-columns invariant-loop-row decreases-loop-row
+same_length c = c.loop-row.invariant.2.long
 
-returns : tie.Need-returns invariant-loop decreases-loop
-returns c = listing_last c.before.before.before.before.args.size c.before.before.before.before.args.ids.now c.before.before.before.before.args.columns.now c.before.loop.columns c.before.loop.node c.before.loop.part c.before.loop.row c.before.loop.invariant.2 (omega arith)
+returns : tie.Need-returns invariant-loop-row decreases-loop-row
+returns c = listing_last c.args.size c.args.ids.now c.args.columns.now c.loop-row.columns c.loop-row.node c.loop-row.part c.loop-row.row c.loop-row.invariant.2 (omega arith)
 
-pub list-columns-spec : {M : Type 1} → statement M
-list-columns-spec =
+pub list_columns_spec : {M : Type 1} → statement M
+list_columns_spec =
     tie.close
     (tie.spec
-    invariant-loop
-    decreases-loop
+    invariant-loop-row
+    decreases-loop-row
     loop-holds
     mul-column-of
     shared-slice-read-column-of

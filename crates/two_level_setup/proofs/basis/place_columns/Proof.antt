@@ -8,25 +8,25 @@ use borrow.Author.Rules.{rules}
 use Rattle.two_level_setup.proofs.basis.place_columns.Statement.{statement}
 use Rattle.two_level_setup.proofs.basis.place_columns.Tie as tie
 
-slice-aggregate-list-columns : tie.Need-slice-aggregate-list-columns
-slice-aggregate-list-columns c = let a = c.before.before.before.before.before.args in sym (length-take-le a.rows a.work.now c.before.before.before.before.before.requires.4)
+slice-aggregate-list-columns : tie.Need-slice_bounds-list_columns-end-3
+slice-aggregate-list-columns c = let a = c.args in sym (length-take-le a.rows a.work.now c.requires.4)
 
-list-columns-requires : tie.Need-list-columns-requires
+list-columns-requires : tie.Need-list_columns-requires
 list-columns-requires c κs =
-    let a = c.before.before.before.before.before.args in
-    let h = c.before.before.before.before.before.requires in
+    let a = c.args in
+    let h = c.requires in
     (h.0, h.1, columns_fit a.size a.nodes a.rows a.ints.now a.work.now h.2 (omega (arith, h.3)) h.4)
 
 returns : tie.Need-returns
 returns c =
-    let a = c.before.before.before.before.before.before.before.before.before.before.before.before.before.before.before.args in
-    let h = c.before.before.before.before.before.before.before.before.before.before.before.before.before.before.before.requires in
-    let l = c.before.before.before.before.before.before.before.before.before.list-columns in
-    let k = c.before.before.before.before.keep-columns in
-    columns_moved a.size a.nodes a.rows a.ints.now a.work.now l.new.1.1.0 k.new.1.1.0 k.new.1.1.1.0 h.4 h.3 l.ensures (length_front a.work.now l.new.1.1.0 a.rows l.auto.1.1.0) k.ensures
+    let a = c.args in
+    let h = c.requires in
+    let l = c.list_columns in
+    let k = c.keep_columns in
+    columns_moved a.size a.nodes a.rows a.ints.now a.work.now l.new.columns k.new.ints k.new.work h.4 h.3 l.ensures (length_front a.work.now l.new.columns a.rows l.auto.columns) k.ensures
 
-pub place-columns-spec : {M : Type 1} → statement M
-place-columns-spec =
+pub place_columns_spec : {M : Type 1} → statement M
+place_columns_spec =
     tie.close
     (tie.spec
     (λ c. search rules)

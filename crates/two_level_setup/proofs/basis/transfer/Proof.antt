@@ -7,14 +7,14 @@ use borrow.Author.Rules.{rules}
 use Rattle.two_level_setup.proofs.basis.transfer.Statement.{statement}
 use Rattle.two_level_setup.proofs.basis.transfer.Tie as tie
 
-returns : tie.Need-returns
+returns : tie.Need-returns-in-PiecewiseConstant
 returns c =
-    let a = c.before.before.before.before.before.before.before.before.before.args in
-    let m = (csr a.rows a.cols a.row-ptr.now a.col-idx.now a.values.now) in
-    (constant_simulates m a.setup (lent_of a.ints.now a.floats.now a.work-ints.now a.work-floats.now) c.enum_told.given.1, stays_built m (room_in a.ints.now a.floats.now a.work-ints.now a.work-floats.now) a.setup c.before.before.before.before.before.before.before.before.before.requires)
+    let a = c.args in
+    let m = (csr a.rows a.cols a.row_ptr.now a.col_idx.now a.values.now) in
+    (constant_simulates m a.setup (lent_of a.ints.now a.floats.now a.work_ints.now a.work_floats.now) c.in-PiecewiseConstant.is, stays_built m (room_in a.ints.now a.floats.now a.work_ints.now a.work_floats.now) a.setup c.requires)
 
-pub transfer-spec : {M : Type 1} → statement M
-transfer-spec =
+pub transfer_spec : {M : Type 1} → statement M
+transfer_spec =
     tie.close
     (tie.spec
     (λ c. search rules)

@@ -6,26 +6,26 @@ use borrow.Author.Rules.{rules}
 use Rattle.two_level_setup.proofs.build.build.Statement.{statement}
 use Rattle.two_level_setup.proofs.build.build.Tie as tie
 
-coarse-level-requires : tie.Need-coarse-level-requires
+coarse-level-requires : tie.Need-coarse_level-requires
 coarse-level-requires c κs =
-    let a = c.before.before.before.before.before.before.before.before.before.before.before.before.before.before.before.before.before.before.before.before.before.before.before.before.before.before.before.args in
-    let f = c.before.before.before.before.before.before.before.before.before.before.before.before.before.before.before.fine in
-    level_fits (csr a.rows a.cols a.row-ptr.now a.col-idx.now a.values.now) a.options (lent_of a.ints.now a.floats.now a.work-ints.now a.work-floats.now) c.before.before.before.before.before.before.before.before.before.before.before.before.before.before.before.before.before.before.before.before.before.before.before.before.before.before.before.requires f.result (lent_of f.new.1.1.1.1.1.1.0 f.new.1.1.1.1.1.1.1.0 f.new.1.1.1.1.1.1.1.1.0 f.new.1.1.1.1.1.1.1.1.1.0) f.ensures f.auto.1.1.1.1.1.1.0 f.auto.1.1.1.1.1.1.1.0 f.auto.1.1.1.1.1.1.1.1.0 f.auto.1.1.1.1.1.1.1.1.1.0 _ c.before.before.before.before.before.answer2.given.1
+    let a = c.args in
+    let f = c.fine-answer in
+    level_fits (csr a.rows a.cols a.row_ptr.now a.col_idx.now a.values.now) a.options (lent_of a.ints.now a.floats.now a.work_ints.now a.work_floats.now) c.requires f.result (lent_of f.new.ints f.new.floats f.new.work_ints f.new.work_floats) f.ensures f.auto.ints f.auto.floats f.auto.work_ints f.auto.work_floats _ c.in-Built.is
 
-returns : tie.Need-returns
+returns : tie.Need-returns-in-Refused
 returns c =
-    let a = c.before.before.before.before.before.before.before.before.before.before.before.before.before.before.before.before.before.before.before.before.before.before.before.args in
-    let f = c.before.before.before.before.before.before.before.before.before.before.before.fine in
-    built_refused (csr a.rows a.cols a.row-ptr.now a.col-idx.now a.values.now) a.options (lent_of a.ints.now a.floats.now a.work-ints.now a.work-floats.now) c.before.before.before.before.before.before.before.before.before.before.before.before.before.before.before.before.before.before.before.before.before.before.before.requires f.result (lent_of f.new.1.1.1.1.1.1.0 f.new.1.1.1.1.1.1.1.0 f.new.1.1.1.1.1.1.1.1.0 f.new.1.1.1.1.1.1.1.1.1.0) f.ensures f.auto.1.1.1.1.1.1.0 f.auto.1.1.1.1.1.1.1.0 f.auto.1.1.1.1.1.1.1.1.0 f.auto.1.1.1.1.1.1.1.1.1.0 _ c.before.answer.given.1
+    let a = c.args in
+    let f = c.fine-answer in
+    built_refused (csr a.rows a.cols a.row_ptr.now a.col_idx.now a.values.now) a.options (lent_of a.ints.now a.floats.now a.work_ints.now a.work_floats.now) c.requires f.result (lent_of f.new.ints f.new.floats f.new.work_ints f.new.work_floats) f.ensures f.auto.ints f.auto.floats f.auto.work_ints f.auto.work_floats _ c.in-Refused.is
 
-returns-2 : tie.Need-returns-2
+returns-2 : tie.Need-returns-in-Built
 returns-2 c =
-    let a = c.before.before.before.before.before.before.before.before.before.before.before.before.before.before.before.before.before.before.before.before.before.before.before.before.before.before.before.before.before.before.before.before.before.before.before.before.args in
-    let f = c.before.before.before.before.before.before.before.before.before.before.before.before.before.before.before.before.before.before.before.before.before.before.before.before.fine in
-    built_whole (csr a.rows a.cols a.row-ptr.now a.col-idx.now a.values.now) a.options (lent_of a.ints.now a.floats.now a.work-ints.now a.work-floats.now) c.before.before.before.before.before.before.before.before.before.before.before.before.before.before.before.before.before.before.before.before.before.before.before.before.before.before.before.before.before.before.before.before.before.before.before.before.requires f.result (lent_of f.new.1.1.1.1.1.1.0 f.new.1.1.1.1.1.1.1.0 f.new.1.1.1.1.1.1.1.1.0 f.new.1.1.1.1.1.1.1.1.1.0) f.ensures f.auto.1.1.1.1.1.1.0 f.auto.1.1.1.1.1.1.1.0 f.auto.1.1.1.1.1.1.1.1.0 f.auto.1.1.1.1.1.1.1.1.1.0 _ c.before.before.before.before.before.before.before.before.before.before.before.before.before.before.answer2.given.1 _ _ c.before.before.before.before.before.before.before.before.coarse-level.ensures
+    let a = c.args in
+    let f = c.fine-answer in
+    built_whole (csr a.rows a.cols a.row_ptr.now a.col_idx.now a.values.now) a.options (lent_of a.ints.now a.floats.now a.work_ints.now a.work_floats.now) c.requires f.result (lent_of f.new.ints f.new.floats f.new.work_ints f.new.work_floats) f.ensures f.auto.ints f.auto.floats f.auto.work_ints f.auto.work_floats _ c.in-Built.is _ _ c.coarse_level.ensures
 
-pub build-spec : {M : Type 1} → statement M
-build-spec =
+pub build_spec : {M : Type 1} → statement M
+build_spec =
     tie.close
     (tie.spec
     (λ c κs. search rules)

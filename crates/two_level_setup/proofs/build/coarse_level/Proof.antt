@@ -13,49 +13,49 @@ use borrow.Author.Rules.{rules}
 use Rattle.two_level_setup.proofs.build.coarse_level.Statement.{statement}
 use Rattle.two_level_setup.proofs.build.coarse_level.Tie as tie
 
-room-requires : tie.Need-room-requires
+room-requires : tie.Need-room-checked-requires
 room-requires c κs =
-    let a = c.before.before.before.before.before.before.before.args in
-    bounds (csr a.rows a.cols a.row-ptr.now a.col-idx.now a.values.now) (options_of a.setup) c.before.before.before.before.before.before.before.requires.0.front
+    let a = c.args in
+    bounds (csr a.rows a.cols a.row_ptr.now a.col_idx.now a.values.now) (options_of a.setup) c.requires.0.front
 
-transfer-requires : tie.Need-transfer-requires
+transfer-requires : tie.Need-transfer-answer-requires
 transfer-requires c κs =
-    let a = c.before.before.before.before.before.before.before.before.before.before.before.before.before.before.args in
-    let m = (csr a.rows a.cols a.row-ptr.now a.col-idx.now a.values.now) in
-    let h = c.before.before.before.before.before.before.before.before.before.before.before.before.before.before.requires in
-    ample_of m a.setup (room_in a.ints.now a.floats.now a.work-ints.now a.work-floats.now) h.0 h.1 (sym c.before.before.before.before.enum_told.given.1 ∙ c.before.before.before.before.before.before.room.ensures m refl refl)
+    let a = c.args in
+    let m = (csr a.rows a.cols a.row_ptr.now a.col_idx.now a.values.now) in
+    let h = c.requires in
+    ample_of m a.setup (room_in a.ints.now a.floats.now a.work_ints.now a.work_floats.now) h.0 h.1 (sym c.in-Accepted.is ∙ c.room-checked.ensures m refl refl)
 
 coarse-requires : tie.Need-coarse-requires
 coarse-requires c κs =
-    let a = c.before.before.before.before.before.before.before.before.before.before.before.before.before.before.before.before.before.before.before.before.before.before.before.before.before.before.before.before.before.before.args in
-    let t = c.before.before.before.before.before.before.before.before.before.before.before.before.before.before.before.transfer in
-    ample_same (csr a.rows a.cols a.row-ptr.now a.col-idx.now a.values.now) _ (length a.ints.now) _ (length a.floats.now) _ (length a.work-ints.now) _ (length a.work-floats.now) _ t.auto.1.1.1.1.1.1.0 t.auto.1.1.1.1.1.1.1.0 t.auto.1.1.1.1.1.1.1.1.0 t.auto.1.1.1.1.1.1.1.1.1.0 (t.ensures.1 _ c.before.before.before.before.before.answer2.given.1)
+    let a = c.args in
+    let t = c.transfer-answer in
+    ample_same (csr a.rows a.cols a.row_ptr.now a.col_idx.now a.values.now) _ (length a.ints.now) _ (length a.floats.now) _ (length a.work_ints.now) _ (length a.work_floats.now) _ t.auto.ints t.auto.floats t.auto.work_ints t.auto.work_floats (t.ensures.1 _ c.in-Built.is)
 
-returns : tie.Need-returns
+returns : tie.Need-returns-in-Refused
 returns c =
-    let a = c.before.before.before.before.before.before.before.before.before.before.before.args in
-    let m = (csr a.rows a.cols a.row-ptr.now a.col-idx.now a.values.now) in
-    let w = c.before.before.before.room in
-    room_refused m a.setup (room_in a.ints.now a.floats.now a.work-ints.now a.work-floats.now) (lent_of a.ints.now a.floats.now a.work-ints.now a.work-floats.now) w.result (w.ensures m refl refl) _ _ c.before.checked.given.1
+    let a = c.args in
+    let m = (csr a.rows a.cols a.row_ptr.now a.col_idx.now a.values.now) in
+    let w = c.room-checked in
+    room_refused m a.setup (room_in a.ints.now a.floats.now a.work_ints.now a.work_floats.now) (lent_of a.ints.now a.floats.now a.work_ints.now a.work_floats.now) w.result (w.ensures m refl refl) _ _ c.in-Refused.is
 
-returns-2 : tie.Need-returns-2
+returns-2 : tie.Need-returns-in-Refused-answer
 returns-2 c =
-    let a = c.before.before.before.before.before.before.before.before.before.before.before.before.before.before.before.before.before.before.before.before.before.before.before.before.before.before.args in
-    let m = (csr a.rows a.cols a.row-ptr.now a.col-idx.now a.values.now) in
-    let w = c.before.before.before.before.before.before.before.before.before.before.before.before.before.before.before.before.before.before.room in
-    let t = c.before.before.before.before.before.before.before.before.before.before.before.transfer in
-    level_refused m a.setup (room_in a.ints.now a.floats.now a.work-ints.now a.work-floats.now) (lent_of a.ints.now a.floats.now a.work-ints.now a.work-floats.now) w.result (w.ensures m refl refl) c.before.before.before.before.before.before.before.before.before.before.before.before.before.before.before.before.enum_told.given.1 t.result _ t.ensures.0 _ _ c.before.answer.given.1
+    let a = c.args in
+    let m = (csr a.rows a.cols a.row_ptr.now a.col_idx.now a.values.now) in
+    let w = c.room-checked in
+    let t = c.transfer-answer in
+    level_refused m a.setup (room_in a.ints.now a.floats.now a.work_ints.now a.work_floats.now) (lent_of a.ints.now a.floats.now a.work_ints.now a.work_floats.now) w.result (w.ensures m refl refl) c.in-Accepted.is t.result _ t.ensures.0 _ _ c.in-Refused-answer.is
 
-returns-3 : tie.Need-returns-3
+returns-3 : tie.Need-returns-in-Built
 returns-3 c =
-    let a = c.before.before.before.before.before.before.before.before.before.before.before.before.before.before.before.before.before.before.before.before.before.before.before.before.before.before.before.before.before.before.before.before.before.before.before.before.before.before.before.args in
-    let m = (csr a.rows a.cols a.row-ptr.now a.col-idx.now a.values.now) in
-    let w = c.before.before.before.before.before.before.before.before.before.before.before.before.before.before.before.before.before.before.before.before.before.before.before.before.before.before.before.before.before.before.before.room in
-    let t = c.before.before.before.before.before.before.before.before.before.before.before.before.before.before.before.before.before.before.before.before.before.before.before.before.transfer in
-    level_built m a.setup (room_in a.ints.now a.floats.now a.work-ints.now a.work-floats.now) (lent_of a.ints.now a.floats.now a.work-ints.now a.work-floats.now) w.result (w.ensures m refl refl) c.before.before.before.before.before.before.before.before.before.before.before.before.before.before.before.before.before.before.before.before.before.before.before.before.before.before.before.before.before.enum_told.given.1 t.result _ t.ensures.0 _ _ _ c.before.before.before.before.before.before.before.before.before.before.before.before.before.before.answer2.given.1 c.before.before.before.before.before.before.before.before.coarse.ensures
+    let a = c.args in
+    let m = (csr a.rows a.cols a.row_ptr.now a.col_idx.now a.values.now) in
+    let w = c.room-checked in
+    let t = c.transfer-answer in
+    level_built m a.setup (room_in a.ints.now a.floats.now a.work_ints.now a.work_floats.now) (lent_of a.ints.now a.floats.now a.work_ints.now a.work_floats.now) w.result (w.ensures m refl refl) c.in-Accepted.is t.result _ t.ensures.0 _ _ _ c.in-Built.is c.coarse.ensures
 
-pub coarse-level-spec : {M : Type 1} → statement M
-coarse-level-spec =
+pub coarse_level_spec : {M : Type 1} → statement M
+coarse_level_spec =
     tie.close
     (tie.spec
     room-requires

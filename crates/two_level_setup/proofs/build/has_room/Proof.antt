@@ -6,10 +6,10 @@ use Rattle.two_level_setup.proofs.build.has_room.Tie as tie
 
 returns : tie.Need-returns
 unfolding entry_needs coarse_needs
-returns c = λ m o er ev eb. rw (er, ev, eb, ← c.before.square.ensures.0) c.long-enough.ensures
+returns c = λ m o er ev eb. rw (er, ev, eb, ← c.square-dense.ensures.0) c.long_enough.ensures
 
-pub has-room-spec : {M : Type 1} → statement M
-has-room-spec =
+pub has_room_spec : {M : Type 1} → statement M
+has_room_spec =
     tie.close
     (tie.spec
     (λ c κs. search rules)

@@ -9,25 +9,25 @@ use borrow.Author.Rules.{rules}
 use Rattle.two_level_setup.proofs.coarse.factor.Statement.{statement}
 use Rattle.two_level_setup.proofs.coarse.factor.Tie as tie
 
-returns : tie.Need-returns
+returns : tie.Need-returns-in-Refused
 returns c =
-    let a = c.before.before.before.before.before.before.before.before.before.before.args in
-    let p = c.before.before.before.before.before.before.before.before.before.before.requires in
-    let f = c.before.before.before.before.before.coarse-factor in
-    unfactored a.setup a.start a.floats.now a.work.now p.0 p.1 p.2 f.result f.ensures.0 _ _ _ c.before.answer.given.1
+    let a = c.args in
+    let p = c.requires in
+    let f = c.coarse_factor-answer in
+    unfactored a.setup a.start a.floats.now a.work.now p.0 p.1 p.2 f.result f.ensures.0 _ _ _ c.in-Refused.is
 
-returns-2 : tie.Need-returns-2
+returns-2 : tie.Need-returns-in-Factored
 unfolding filled
 returns-2 c =
-    let a = c.before.before.before.before.before.before.before.before.before.before.before.before.before.before.before.before.before.args in
-    let p = c.before.before.before.before.before.before.before.before.before.before.before.before.before.before.before.before.before.requires in
-    let f = c.before.before.before.before.before.before.before.before.before.before.before.before.coarse-factor in
-    let more = f.new.1.1.0 in
-    factored a.setup a.start a.floats.now a.work.now p.0 p.1 p.2 f.result f.ensures.0 _ c.before.before.before.before.before.before.before.before.answer2.given.1 more f.ensures.1 _ _ _
-    (same_len_mid a.start (length a.floats.now - a.start) a.floats.now more f.auto.1.1.0) refl c.before.before.before.before.store.ensures
+    let a = c.args in
+    let p = c.requires in
+    let f = c.coarse_factor-answer in
+    let more = f.new.lower in
+    factored a.setup a.start a.floats.now a.work.now p.0 p.1 p.2 f.result f.ensures.0 _ c.in-Factored.is more f.ensures.1 _ _ _
+    (same_len_mid a.start (length a.floats.now - a.start) a.floats.now more f.auto.lower) refl c.store.ensures
 
-pub factor-spec : {M : Type 1} → statement M
-factor-spec =
+pub factor_spec : {M : Type 1} → statement M
+factor_spec =
     tie.close
     (tie.spec
     (λ c. search rules)

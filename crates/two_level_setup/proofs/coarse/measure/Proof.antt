@@ -12,25 +12,25 @@ use borrow.Author.Rules.{rules}
 use Rattle.two_level_setup.proofs.coarse.measure.Statement.{statement}
 use Rattle.two_level_setup.proofs.coarse.measure.Tie as tie
 
-slice-aggregate-nonzeros : tie.Need-slice-aggregate-nonzeros
-slice-aggregate-nonzeros c = let a = c.before.before.args in sym (length-take-le (a.setup.coarse * a.setup.coarse) a.work.now c.before.before.requires.2)
+slice-aggregate-nonzeros : tie.Need-slice_bounds-nonzeros-end
+slice-aggregate-nonzeros c = let a = c.args in sym (length-take-le (a.setup.coarse * a.setup.coarse) a.work.now c.requires.2)
 
-add-filled : tie.Need-overflow-add-filled
+add-filled : tie.Need-overflow_add-filled
 add-filled c =
-    let a = c.before.before.before.args in
-    let p = c.before.before.before.requires in
+    let a = c.args in
+    let p = c.requires in
     let n = a.setup.coarse * a.setup.coarse in
-    let k : c.nonzeros.result ≡ nonzeros (take n a.work.now) = c.nonzeros.ensures in
-    let h : a.entries + c.nonzeros.result ≤ 20_971_520 = omega (arith, p.0, whole_fits a.setup.coarse p.1, k, nonzeros_few (take n a.work.now), length-take-le n a.work.now p.2) in
+    let k : c.nonzeros-count.result ≡ nonzeros (take n a.work.now) = c.nonzeros-count.ensures in
+    let h : a.entries + c.nonzeros-count.result ≤ 20_971_520 = omega (arith, p.0, whole_fits a.setup.coarse p.1, k, nonzeros_few (take n a.work.now), length-take-le n a.work.now p.2) in
     record { fits = omega (arith, h) }
 
 returns : tie.Need-returns
 unfolding measured filled
 returns c =
-    let a = c.before.before.before.args in
+    let a = c.args in
     let n = a.setup.coarse * a.setup.coarse in
-    let k : c.nonzeros.result ≡ nonzeros (take n a.work.now) = c.nonzeros.ensures in
+    let k : c.nonzeros-count.result ≡ nonzeros (take n a.work.now) = c.nonzeros-count.ensures in
     ap (λ x. filled a.setup a.setup.transfers a.setup.damping a.setup.scale (a.entries + x)) k
 
-pub measure-spec : {M : Type 1} → statement M
-measure-spec = tie.close (tie.spec (λ c. search rules) slice-aggregate-nonzeros (λ c κs. search rules) add-filled returns)
+pub measure_spec : {M : Type 1} → statement M
+measure_spec = tie.close (tie.spec (λ c. search rules) slice-aggregate-nonzeros (λ c κs. search rules) add-filled returns)

@@ -7,22 +7,22 @@ use borrow.Author.Rules.{rules}
 use Rattle.two_level_setup.proofs.coarse.store.Statement.{statement}
 use Rattle.two_level_setup.proofs.coarse.store.Tie as tie
 
-returns : tie.Need-returns
+returns : tie.Need-returns-in-Auto
 returns c =
-    let a = c.before.before.before.before.before.before.before.before.args in
-    kept_auto a.policy a.c a.start a.floats.now a.work.now c.before.before.zero-floats.new.0 c.before.before.zero-floats.ensures c.before.before.before.before.enum_told.given.1
+    let a = c.args in
+    kept_auto a.policy a.c a.start a.floats.now a.work.now c.zero_floats.new.s c.zero_floats.ensures c.in-Auto.is
 
-returns-2 : tie.Need-returns-2
+returns-2 : tie.Need-returns-in-FactorSolve
 returns-2 c =
-    let a = c.before.before.before.before.before.before.before.before.args in
-    kept_factor a.policy a.c a.start a.floats.now a.work.now c.before.before.zero-floats2.new.0 c.before.before.zero-floats2.ensures c.before.before.before.before.enum-told2.given.1
+    let a = c.args in
+    kept_factor a.policy a.c a.start a.floats.now a.work.now c.zero_floats-in-FactorSolve.new.s c.zero_floats-in-FactorSolve.ensures c.in-FactorSolve.is
 
-returns-3 : tie.Need-returns-3
+returns-3 : tie.Need-returns-in-ExplicitInverse
 returns-3 c =
-    let a = c.before.before.before.before.before.before.before.before.before.before.before.before.before.before.before.args in
-    let i = c.before.before.before.before.before.before.before.before.invert in
-    let z = c.before.before.zero-floats3 in
-    kept_inverse a.policy a.c a.start a.floats.now a.work.now i.new.1.1.0 z.new.0 c.before.before.before.before.before.before.before.before.before.before.before.enum-told3.given.1 i.ensures (z.ensures ∙ ap (λ n. replicate n zeroᶠ) i.auto.1.1.1.0)
+    let a = c.args in
+    let i = c.invert in
+    let z = c.zero_floats-in-ExplicitInverse in
+    kept_inverse a.policy a.c a.start a.floats.now a.work.now i.new.floats z.new.s c.in-ExplicitInverse.is i.ensures (z.ensures ∙ ap (λ n. replicate n zeroᶠ) i.auto.work)
 
 pub store_spec : {M : Type 1} → statement M
 store_spec =

@@ -8,45 +8,45 @@ use Rattle.two_level_setup.proofs.fine.fine.Tie as tie
 
 start-requires : tie.Need-start-requires
 start-requires c κs =
-    let a = c.before.before.before.before.before.before.before.before.before.before.before.before.before.before.before.before.before.before.before.before.before.before.before.before.before.before.args in
-    let m = (csr a.rows a.cols a.row-ptr.now a.col-idx.now a.values.now) in
-    let sized = c.before.before.before.before.before.before.before.before.before.before.before.before.before.before.before.before.before.before.before.before.before.before.before.before.before.before.requires in
-    let b = c.before.before.before.before.before.before.before.before.before.before.before.before.before.before.before.before.before.blocks2 in
-    let told = c.before.before.before.before.before.before.before.before.before.before.before.before.before.enum_told.given.1 in
-    let p = blocks_fit m a.options a.ints.now a.floats.now a.work-ints.now a.work-floats.now sized b.result b.ensures.0 told in
-    let g = c.before.before.before.before.before.before.before.before.before.aggregate in
-    let few = groups_few m a.options a.ints.now a.floats.now a.work-ints.now a.work-floats.now p b.result b.ensures.0 told g.result g.new.1.1.1.1.1.1.0 g.new.1.1.1.1.1.1.1.0 g.new.1.1.1.1.1.1.1.1.0 g.ensures _ c.before.found2.given.1 in
+    let a = c.args in
+    let m = (csr a.rows a.cols a.row_ptr.now a.col_idx.now a.values.now) in
+    let sized = c.requires in
+    let b = c.blocks-answer in
+    let told = c.in-Accepted.is in
+    let p = blocks_fit m a.options a.ints.now a.floats.now a.work_ints.now a.work_floats.now sized b.result b.ensures.0 told in
+    let g = c.aggregate-found in
+    let few = groups_few m a.options a.ints.now a.floats.now a.work_ints.now a.work_floats.now p b.result b.ensures.0 told g.result g.new.ids g.new.work_ints g.new.work_floats g.ensures _ c.in-Groups.is in
     (groups_most m a.options _ p.front few, (bounds m a.options p.front).entries_most, p.front.least)
 
-returns : tie.Need-returns
+returns : tie.Need-returns-in-Refused
 returns c =
-    let a = c.before.before.before.before.before.before.before.before.before.before.before.before.before.before.args in
-    let b = c.before.before.before.before.before.blocks2 in
-    blocks_judged (csr a.rows a.cols a.row-ptr.now a.col-idx.now a.values.now) a.options a.ints.now a.floats.now a.work-ints.now a.work-floats.now c.before.before.before.before.before.before.before.before.before.before.before.before.before.before.requires b.result b.ensures.0 _ b.new.1.1.1.1.1.1.0 c.before.answer.given.1 b.ensures.1
+    let a = c.args in
+    let b = c.blocks-answer in
+    blocks_judged (csr a.rows a.cols a.row_ptr.now a.col_idx.now a.values.now) a.options a.ints.now a.floats.now a.work_ints.now a.work_floats.now c.requires b.result b.ensures.0 _ b.new.factors c.in-Refused.is b.ensures.1
 
-returns-2 : tie.Need-returns-2
+returns-2 : tie.Need-returns-in-Refused-found
 returns-2 c =
-    let a = c.before.before.before.before.before.before.before.before.before.before.before.before.before.before.before.before.before.before.before.before.before.before.before.before.before.before.args in
-    let b = c.before.before.before.before.before.before.before.before.before.before.before.before.before.before.before.before.before.blocks2 in
-    let g = c.before.before.before.before.before.before.before.before.before.aggregate in
-    let m = csr a.rows a.cols a.row-ptr.now a.col-idx.now a.values.now in
-    let told = c.before.before.before.before.before.before.before.before.before.before.before.before.before.enum_told.given.1 in
-    let fit = blocks_fit m a.options a.ints.now a.floats.now a.work-ints.now a.work-floats.now c.before.before.before.before.before.before.before.before.before.before.before.before.before.before.before.before.before.before.before.before.before.before.before.before.before.before.requires b.result b.ensures.0 told in
-    blocks_as m a.options a.ints.now a.floats.now a.work-ints.now a.work-floats.now c.before.before.before.before.before.before.before.before.before.before.before.before.before.before.before.before.before.before.before.before.before.before.before.before.before.before.requires b.result b.ensures.0 told _ _ (groups_refused m a.options a.ints.now a.floats.now a.work-ints.now a.work-floats.now fit b.result b.ensures.0 told g.result g.new.1.1.1.1.1.1.0 g.new.1.1.1.1.1.1.1.0 g.new.1.1.1.1.1.1.1.1.0 g.ensures _ _ c.before.found.given.1)
+    let a = c.args in
+    let b = c.blocks-answer in
+    let g = c.aggregate-found in
+    let m = csr a.rows a.cols a.row_ptr.now a.col_idx.now a.values.now in
+    let told = c.in-Accepted.is in
+    let fit = blocks_fit m a.options a.ints.now a.floats.now a.work_ints.now a.work_floats.now c.requires b.result b.ensures.0 told in
+    blocks_as m a.options a.ints.now a.floats.now a.work_ints.now a.work_floats.now c.requires b.result b.ensures.0 told _ _ (groups_refused m a.options a.ints.now a.floats.now a.work_ints.now a.work_floats.now fit b.result b.ensures.0 told g.result g.new.ids g.new.work_ints g.new.work_floats g.ensures _ _ c.in-Refused-found.is)
 
-returns-3 : tie.Need-returns-3
+returns-3 : tie.Need-returns-in-Groups
 returns-3 c =
-    let a = c.before.before.before.before.before.before.before.before.before.before.before.before.before.before.before.before.before.before.before.before.before.before.before.before.before.before.before.args in
-    let b = c.before.before.before.before.before.before.before.before.before.before.before.before.before.before.before.before.before.before.blocks2 in
-    let g = c.before.before.before.before.before.before.before.before.before.before.aggregate in
+    let a = c.args in
+    let b = c.blocks-answer in
+    let g = c.aggregate-found in
     let s = c.start in
-    let m = csr a.rows a.cols a.row-ptr.now a.col-idx.now a.values.now in
-    let told = c.before.before.before.before.before.before.before.before.before.before.before.before.before.before.enum_told.given.1 in
-    let fit = blocks_fit m a.options a.ints.now a.floats.now a.work-ints.now a.work-floats.now c.before.before.before.before.before.before.before.before.before.before.before.before.before.before.before.before.before.before.before.before.before.before.before.before.before.before.before.requires b.result b.ensures.0 told in
-    blocks_as m a.options a.ints.now a.floats.now a.work-ints.now a.work-floats.now c.before.before.before.before.before.before.before.before.before.before.before.before.before.before.before.before.before.before.before.before.before.before.before.before.before.before.before.requires b.result b.ensures.0 told _ _ (fine_built m a.options a.ints.now a.floats.now a.work-ints.now a.work-floats.now fit b.result b.ensures.0 told g.result g.new.1.1.1.1.1.1.0 g.new.1.1.1.1.1.1.1.0 g.new.1.1.1.1.1.1.1.1.0 g.ensures _ c.before.before.found2.given.1 s.result s.ensures b.new.1.1.1.1.1.1.0 b.ensures.1 g.auto.1.1.1.1.1.1.0 b.auto.1.1.1.1.1.1.0 g.auto.1.1.1.1.1.1.1.0 g.auto.1.1.1.1.1.1.1.1.0)
+    let m = csr a.rows a.cols a.row_ptr.now a.col_idx.now a.values.now in
+    let told = c.in-Accepted.is in
+    let fit = blocks_fit m a.options a.ints.now a.floats.now a.work_ints.now a.work_floats.now c.requires b.result b.ensures.0 told in
+    blocks_as m a.options a.ints.now a.floats.now a.work_ints.now a.work_floats.now c.requires b.result b.ensures.0 told _ _ (fine_built m a.options a.ints.now a.floats.now a.work_ints.now a.work_floats.now fit b.result b.ensures.0 told g.result g.new.ids g.new.work_ints g.new.work_floats g.ensures _ c.in-Groups.is s.result s.ensures b.new.factors b.ensures.1 g.auto.ids b.auto.factors g.auto.work_ints g.auto.work_floats)
 
-pub fine-spec : {M : Type 1} → statement M
-fine-spec =
+pub fine_spec : {M : Type 1} → statement M
+fine_spec =
     tie.close
     (tie.spec
     (λ c κs. search rules)

@@ -4,22 +4,22 @@ use borrow.Author.Rules.{rules}
 use Rattle.two_level_setup.proofs.fine.resolve.Statement.{statement}
 use Rattle.two_level_setup.proofs.fine.resolve.Tie as tie
 
-returns : tie.Need-returns
+returns : tie.Need-returns-then-c
 returns c =
-    auto_factor c.before.before.before.args.policy c.before.before.before.args.c c.before.enum_told.given.1 c.if1.true
+    auto_factor c.args.policy c.args.c c.in-Auto.is c.if-c.true
 
-returns-2 : tie.Need-returns-2
+returns-2 : tie.Need-returns-else-c
 returns-2 c =
-    auto_inverse c.before.before.before.args.policy c.before.before.before.args.c c.before.enum_told.given.1 c.if1.false
+    auto_inverse c.args.policy c.args.c c.in-Auto.is c.if-c.false
 
-returns-3 : tie.Need-returns-3
+returns-3 : tie.Need-returns-in-FactorSolve
 returns-3 c =
-    asked_factor c.before.before.args.policy c.before.before.args.c c.enum-told2.given.1
+    asked_factor c.args.policy c.args.c c.in-FactorSolve.is
 
-returns-4 : tie.Need-returns-4
+returns-4 : tie.Need-returns-in-ExplicitInverse
 returns-4 c =
-    asked_inverse c.before.before.args.policy c.before.before.args.c c.enum-told3.given.1
+    asked_inverse c.args.policy c.args.c c.in-ExplicitInverse.is
 
-pub resolve-spec : {M : Type 1} → statement M
-resolve-spec =
+pub resolve_spec : {M : Type 1} → statement M
+resolve_spec =
     tie.close (tie.spec (λ c. search rules) (λ c. search rules) (λ c. search rules) returns returns-2 returns-3 returns-4)

@@ -7,7 +7,7 @@ use Rattle.two_level_setup.proofs.fine.start.Tie as tie
 returns : tie.Need-returns
 unfolding started
 returns c =
-    rw c.before.resolve.ensures
+    rw c.resolve-policy.ensures
 
 pub start_spec : {M : Type 1} → statement M
 start_spec = tie.close (tie.spec (λ c. search rules) (λ c κs. search rules) (λ c. search rules) returns)
