@@ -12,7 +12,7 @@ use borrow.Author.Rules.{rules}
 use Rattle.grouping_text.proofs.say.Statement.{statement}
 use Rattle.grouping_text.proofs.say.Tie as tie
 
-returns : tie.Need-answer-requires
+returns : tie.Need-returns-then-cause-eq0
 returns c =
     let a = c.args in
     let k = c.ask-asked in
@@ -28,7 +28,7 @@ returns c =
     ∙ ap (λ l. printed (grouping_call r.nodes r.size (take (r.nodes + 1) o) l r.nodes (8 * r.nodes + 4 * length l + 16))) (parts r.count n) ∙ e)
     f.ensures
 
-returns-2 : tie.Need-shape_of-out-then-cause-eq1
+returns-2 : tie.Need-returns-then-cause-eq1
 returns-2 c =
     let a = c.args in
     let k = c.ask-asked in
@@ -65,11 +65,9 @@ say_spec =
     (λ c κs. search rules)
     (λ c. omega arith)
     returns
-    (λ c. omega arith)
     (λ c κs. tt)
     (λ c. omega arith)
     returns-2
-    (λ c. omega arith)
     (λ c κs. tt)
     (λ c. omega arith)
     returns-3)

@@ -12,19 +12,19 @@ use borrow.Author.Rules.{rules}
 use Rattle.yelomawin.proofs.yelomawin_apply.Statement.{statement}
 use Rattle.yelomawin.proofs.yelomawin_apply.Tie as tie
 
-record-of-requires : tie.Need-record-of-requires
-record-of-requires c κs = long _ (sym c.before.is_record_lem.ensures ∙ c.if1.true)
+record-of-requires : tie.Need-record_of-s-requires
+record-of-requires c κs = long _ (sym c.is_record.ensures ∙ c.if-is_record.true)
 
-returns : tie.Need-returns
+returns : tie.Need-returns-then-is_record
 unfolding exported_apply exported whether apply_left apply_work_left
-returns c = let g = c.before.before.before.before.before.before.before.before.apply.ensures in let t = c.before.before.plain.ensures in rw (sym c.before.before.before.before.before.before.before.before.before.before.before.before.before.is_record_lem.ensures ∙ c.before.before.before.before.before.before.before.before.before.before.before.before.if1.true, ← c.before.before.before.before.before.before.before.before.before.before.before.record_of.ensures, ← g.0) (handed_is t.0 (pair_is g.1 g.2) t.1)
+returns c = let g = c.apply-a.ensures in let t = c.plain.ensures in rw (sym c.is_record.ensures ∙ c.if-is_record.true, ← c.record_of-s.ensures, ← g.0) (handed_is t.0 (pair_is g.1 g.2) t.1)
 
-returns-2 : tie.Need-returns-2
+returns-2 : tie.Need-returns-else-is_record
 unfolding exported_apply exported whether answer_of answer_number answer_values number_of values_of cause_of result_left work_left keeps_all
-returns-2 c = rw (sym c.before.before.before.before.before.is_record_lem.ensures ∙ c.before.before.before.before.if1.false) (handed_is refl refl (c.before.before.receive.ensures ∙ none_told _))
+returns-2 c = rw (sym c.is_record.ensures ∙ c.if-is_record.false) (handed_is refl refl (c.receive.ensures ∙ none_told _))
 
-pub yelomawin-apply-spec : {M : Type 1} → statement M
-yelomawin-apply-spec =
+pub yelomawin_apply_spec : {M : Type 1} → statement M
+yelomawin_apply_spec =
     tie.close
     (tie.spec
     (λ c κs. search rules)

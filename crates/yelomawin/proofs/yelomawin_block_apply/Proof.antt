@@ -7,8 +7,8 @@ use Rattle.yelomawin.proofs.yelomawin_block_apply.Tie as tie
 
 returns : tie.Need-returns
 unfolding exported_block_apply exported
-returns c = let g = c.before.before.before.before.before.before.block-apply.ensures in let t = c.before.before.plain.ensures in rw (← g.0) (handed_is t.0 g.1 t.1)
+returns c = let g = c.block_apply-a.ensures in let t = c.plain.ensures in rw (← g.0) (handed_is t.0 g.1 t.1)
 
-pub yelomawin-block-apply-spec : {M : Type 1} → statement M
-yelomawin-block-apply-spec =
+pub yelomawin_block_apply_spec : {M : Type 1} → statement M
+yelomawin_block_apply_spec =
     tie.close (tie.spec (λ c κs. search rules) (λ c κs. search rules) (λ c. search rules) (λ c. search rules) returns)

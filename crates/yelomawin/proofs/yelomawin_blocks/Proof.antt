@@ -7,8 +7,8 @@ use Rattle.yelomawin.proofs.yelomawin_blocks.Tie as tie
 
 returns : tie.Need-returns
 unfolding exported_blocks exported
-returns c = let g = c.before.before.before.before.before.before.blocks2.ensures in let t = c.before.before.plain.ensures in rw (← g.0) (handed_is t.0 g.1 t.1)
+returns c = let g = c.blocks-a.ensures in let t = c.plain.ensures in rw (← g.0) (handed_is t.0 g.1 t.1)
 
-pub yelomawin-blocks-spec : {M : Type 1} → statement M
-yelomawin-blocks-spec =
+pub yelomawin_blocks_spec : {M : Type 1} → statement M
+yelomawin_blocks_spec =
     tie.close (tie.spec (λ c κs. search rules) (λ c κs. search rules) (λ c. search rules) (λ c. search rules) returns)

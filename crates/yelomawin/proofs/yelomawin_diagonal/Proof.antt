@@ -7,8 +7,8 @@ use Rattle.yelomawin.proofs.yelomawin_diagonal.Tie as tie
 
 returns : tie.Need-returns
 unfolding exported_diagonal exported
-returns c = let g = c.before.before.before.before.before.before.diagonal.ensures in let t = c.before.before.plain.ensures in rw (← g.0) (handed_is t.0 g.1 t.1)
+returns c = let g = c.diagonal-a.ensures in let t = c.plain.ensures in rw (← g.0) (handed_is t.0 g.1 t.1)
 
-pub yelomawin-diagonal-spec : {M : Type 1} → statement M
-yelomawin-diagonal-spec =
+pub yelomawin_diagonal_spec : {M : Type 1} → statement M
+yelomawin_diagonal_spec =
     tie.close (tie.spec (λ c κs. search rules) (λ c κs. search rules) (λ c. search rules) (λ c. search rules) returns)

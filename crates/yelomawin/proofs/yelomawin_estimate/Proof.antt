@@ -7,8 +7,8 @@ use Rattle.yelomawin.proofs.yelomawin_estimate.Tie as tie
 
 returns : tie.Need-returns
 unfolding exported_estimate
-returns c = let g = c.before.before.before.before.before.before.estimate.ensures in let t = c.before.before.estimate2.ensures in rw (← g.0) (handed_is t.0 g.1 t.1)
+returns c = let g = c.estimate-a.ensures in let t = c.estimate.ensures in rw (← g.0) (handed_is t.0 g.1 t.1)
 
-pub yelomawin-estimate-spec : {M : Type 1} → statement M
-yelomawin-estimate-spec =
+pub yelomawin_estimate_spec : {M : Type 1} → statement M
+yelomawin_estimate_spec =
     tie.close (tie.spec (λ c κs. search rules) (λ c κs. search rules) (λ c. search rules) (λ c. search rules) returns)

@@ -7,9 +7,9 @@ use Rattle.yelomawin.proofs.yelomawin_group.Tie as tie
 
 returns : tie.Need-returns
 unfolding exported_group
-returns c = let g = c.before.before.before.before.before.before.before.before.group.ensures in let t = c.before.before.grouping.ensures in rw (← g.0) (handed_is t.0 (pair_is g.1.0 g.1.1) t.1)
+returns c = let g = c.group-a.ensures in let t = c.grouping.ensures in rw (← g.0) (handed_is t.0 (pair_is g.1.0 g.1.1) t.1)
 
-pub yelomawin-group-spec : {M : Type 1} → statement M
-yelomawin-group-spec =
+pub yelomawin_group_spec : {M : Type 1} → statement M
+yelomawin_group_spec =
     tie.close
     (tie.spec (λ c κs. search rules) (λ c κs. search rules) (λ c. search rules) (λ c. search rules) (λ c. search rules) returns)

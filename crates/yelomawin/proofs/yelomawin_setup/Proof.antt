@@ -8,16 +8,16 @@ use borrow.Author.Rules.{rules}
 use Rattle.yelomawin.proofs.yelomawin_setup.Statement.{statement}
 use Rattle.yelomawin.proofs.yelomawin_setup.Tie as tie
 
-returns : tie.Need-returns
+returns : tie.Need-returns-then-are_policies
 unfolding exported_setup whether options_of
-returns c = let g = c.before.before.before.before.before.before.before.before.before.before.before.before.setup.ensures in let t = c.before.before.setup2.ensures in rw (sym c.before.before.before.before.before.before.before.before.before.before.before.before.before.before.before.before.before.before.before.before.before.are-policies.ensures ∙ c.before.before.before.before.before.before.before.before.before.before.before.before.before.before.before.before.before.before.before.before.if1.true, ← c.before.before.before.before.before.before.before.before.before.before.before.before.before.before.before.before.before.before.before.aggregation-of.ensures, ← c.before.before.before.before.before.before.before.before.before.before.before.before.before.before.before.before.before.before.basis-of.ensures, ← c.before.before.before.before.before.before.before.before.before.before.before.before.before.before.before.before.before.policy-of.ensures, ← g.0) (handed_is t.0 g.1 t.1)
+returns c = let g = c.setup-a.ensures in let t = c.setup.ensures in rw (sym c.are_policies.ensures ∙ c.if-are_policies.true, ← c.aggregation_of-g.ensures, ← c.basis_of-b.ensures, ← c.policy_of-p.ensures, ← g.0) (handed_is t.0 g.1 t.1)
 
-returns-2 : tie.Need-returns-2
+returns-2 : tie.Need-returns-else-are_policies
 unfolding exported_setup whether
-returns-2 c = rw (sym c.before.before.before.before.before.are-policies.ensures ∙ c.before.before.before.before.if1.false) (handed_is refl refl (c.before.before.receive.ensures ∙ none_told _))
+returns-2 c = rw (sym c.are_policies.ensures ∙ c.if-are_policies.false) (handed_is refl refl (c.receive.ensures ∙ none_told _))
 
-pub yelomawin-setup-spec : {M : Type 1} → statement M
-yelomawin-setup-spec =
+pub yelomawin_setup_spec : {M : Type 1} → statement M
+yelomawin_setup_spec =
     tie.close
     (tie.spec
     (λ c κs. search rules)

@@ -16,4 +16,4 @@ returns c =
 pub put_groups_spec : {M : Type 1} → statement M
 put_groups_spec =
     tie.close
-    (tie.spec (λ c. search rules) (λ c κs. search rules) (λ c κs. search rules) (λ c. search rules) returns)
+    (tie.spec (λ c κs. search rules) (λ c κs. search rules) (λ c. search rules) returns)

@@ -5,8 +5,8 @@ use borrow.Author.Rules.{rules}
 use Rattle.yelomawin.proofs.answers.put.Statement.{statement}
 use Rattle.yelomawin.proofs.answers.put.Tie as tie
 
-returns-2 : tie.Need-returns-2
-returns-2 c = set_beyond c.before.args.list.now c.before.args.at c.before.args.x (omega arith)
+returns-2 : tie.Need-returns-else-at-list
+returns-2 c = set_beyond c.args.list.now c.args.at c.args.x (omega arith)
 
 pub put_spec : {M : Type 1} → statement M
 put_spec = tie.close (tie.spec (λ c. search rules) (λ c. search rules) (λ c. search rules) (λ c. search rules) returns-2)

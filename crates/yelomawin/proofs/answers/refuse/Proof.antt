@@ -10,9 +10,9 @@ use Rattle.yelomawin.proofs.answers.refuse.Tie as tie
 returns : tie.Need-returns
 unfolding told_of
 returns c =
-    let a = c.before.before.before.before.before.before.args in
-    let row = c.before.before.before.before.told in
-    (ap (λ (x : Row). x.number) row.ensures, c.before.before.receive.ensures ∙ rw row.ensures (told a.cause a.list.now))
+    let a = c.args in
+    let row = c.told-told in
+    (ap (λ (x : Row). x.number) row.ensures, c.receive.ensures ∙ rw row.ensures (told a.cause a.list.now))
 
-pub refuse-spec : {M : Type 1} → statement M
-refuse-spec = tie.close (tie.spec (λ c κs. search rules) (λ c κs. search rules) (λ c. search rules) returns)
+pub refuse_spec : {M : Type 1} → statement M
+refuse_spec = tie.close (tie.spec (λ c κs. search rules) (λ c κs. search rules) (λ c. search rules) returns)

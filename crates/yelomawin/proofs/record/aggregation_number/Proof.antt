@@ -4,18 +4,18 @@ use borrow.Author.Rules.{rules}
 use Rattle.yelomawin.proofs.record.aggregation_number.Statement.{statement}
 use Rattle.yelomawin.proofs.record.aggregation_number.Tie as tie
 
-returns : tie.Need-returns
+returns : tie.Need-returns-in-Contiguous
 unfolding aggregation_number
-returns c = rw c.enum_told.given.1
+returns c = rw c.in-Contiguous.is
 
-returns-2 : tie.Need-returns-2
+returns-2 : tie.Need-returns-in-Graph
 unfolding aggregation_number
-returns-2 c = rw c.enum-told2.given.1
+returns-2 c = rw c.in-Graph.is
 
-returns-3 : tie.Need-returns-3
+returns-3 : tie.Need-returns-in-StrongGraph
 unfolding aggregation_number
-returns-3 c = rw c.enum-told3.given.1
+returns-3 c = rw c.in-StrongGraph.is
 
-pub aggregation-number-spec : {M : Type 1} → statement M
-aggregation-number-spec =
+pub aggregation_number_spec : {M : Type 1} → statement M
+aggregation_number_spec =
     tie.close (tie.spec (λ c. search rules) (λ c. search rules) (λ c. search rules) returns returns-2 returns-3)

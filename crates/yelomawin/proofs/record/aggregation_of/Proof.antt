@@ -4,16 +4,16 @@ use Rattle.yelomawin.proofs.Policies.{last_aggregation}
 use Rattle.yelomawin.proofs.record.aggregation_of.Statement.{statement}
 use Rattle.yelomawin.proofs.record.aggregation_of.Tie as tie
 
-returns : tie.Need-returns
+returns : tie.Need-returns-then-n-eq0
 unfolding aggregation_of
-returns c = rw c.if1.true
+returns c = rw c.if-n-eq0.true
 
-returns-2 : tie.Need-returns-2
+returns-2 : tie.Need-returns-then-n-eq1
 unfolding aggregation_of
-returns-2 c = rw c.if2.true
+returns-2 c = rw c.if-n-eq1.true
 
-returns-3 : tie.Need-returns-3
-returns-3 c = last_aggregation c.before.before.args.n c.before.if1.false c.if2.false
+returns-3 : tie.Need-returns
+returns-3 c = last_aggregation c.args.n c.if-n-eq0.false c.if-n-eq1.false
 
-pub aggregation-of-spec : {M : Type 1} → statement M
-aggregation-of-spec = tie.close (tie.spec returns returns-2 returns-3)
+pub aggregation_of_spec : {M : Type 1} → statement M
+aggregation_of_spec = tie.close (tie.spec returns returns-2 returns-3)

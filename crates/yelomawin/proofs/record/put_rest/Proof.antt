@@ -4,10 +4,10 @@ use Rattle.yelomawin.proofs.record.put_rest.Statement.{statement}
 use Rattle.yelomawin.proofs.record.put_rest.Tie as tie
 
 returns : tie.Need-returns
-returns c = rw (c.before.before.put7.ensures, c.before.before.before.before.before.before.put6.ensures, c.before.before.before.before.before.before.before.before.before.before.put5.ensures, c.before.before.before.before.before.before.before.before.before.before.before.bits-of2.ensures, c.before.before.before.before.before.before.before.before.before.before.before.before.before.before.before.put4.ensures, c.before.before.before.before.before.before.before.before.before.before.before.before.before.before.before.before.bits_of.ensures, c.before.before.before.before.before.before.before.before.before.before.before.before.before.before.before.before.before.before.before.before.put3.ensures, c.before.before.before.before.before.before.before.before.before.before.before.before.before.before.before.before.before.before.before.before.before.policy-number.ensures, c.before.before.before.before.before.before.before.before.before.before.before.before.before.before.before.before.before.before.before.before.before.before.before.before.before.put2.ensures, c.before.before.before.before.before.before.before.before.before.before.before.before.before.before.before.before.before.before.before.before.before.before.before.before.before.before.basis-number.ensures, c.before.before.before.before.before.before.before.before.before.before.before.before.before.before.before.before.before.before.before.before.before.before.before.before.before.before.before.before.before.before.put.ensures, c.before.before.before.before.before.before.before.before.before.before.before.before.before.before.before.before.before.before.before.before.before.before.before.before.before.before.before.before.before.before.before.aggregation-number.ensures)
+returns c = rw (c.put-7.ensures, c.put-6.ensures, c.put-5.ensures, c.bits_of-2.ensures, c.put-4.ensures, c.bits_of.ensures, c.put-3.ensures, c.policy_number.ensures, c.put-2.ensures, c.basis_number.ensures, c.put.ensures, c.aggregation_number.ensures)
 
-pub put-rest-spec : {M : Type 1} → statement M
-put-rest-spec =
+pub put_rest_spec : {M : Type 1} → statement M
+put_rest_spec =
     tie.close
     (tie.spec
     (λ c κs. search rules)

@@ -4,10 +4,10 @@ use Rattle.yelomawin.proofs.record.put_sizes.Statement.{statement}
 use Rattle.yelomawin.proofs.record.put_sizes.Tie as tie
 
 returns : tie.Need-returns
-returns c = rw (c.before.before.put8.ensures, c.before.before.before.before.before.before.put7.ensures, c.before.before.before.before.before.before.before.before.before.before.put6.ensures, c.before.before.before.before.before.before.before.before.before.before.before.before.before.before.put5.ensures, c.before.before.before.before.before.before.before.before.before.before.before.before.before.before.before.before.before.before.put4.ensures, c.before.before.before.before.before.before.before.before.before.before.before.before.before.before.before.before.before.before.before.before.before.before.put3.ensures, c.before.before.before.before.before.before.before.before.before.before.before.before.before.before.before.before.before.before.before.before.before.before.before.before.before.before.put2.ensures, c.before.before.before.before.before.before.before.before.before.before.before.before.before.before.before.before.before.before.before.before.before.before.before.before.before.before.before.before.before.before.put.ensures)
+returns c = rw (c.put-8.ensures, c.put-7.ensures, c.put-6.ensures, c.put-5.ensures, c.put-4.ensures, c.put-3.ensures, c.put-2.ensures, c.put.ensures)
 
-pub put-sizes-spec : {M : Type 1} → statement M
-put-sizes-spec =
+pub put_sizes_spec : {M : Type 1} → statement M
+put_sizes_spec =
     tie.close
     (tie.spec
     (λ c κs. search rules)

@@ -7,8 +7,8 @@ use Rattle.yelomawin.proofs.record.receive_record.Tie as tie
 
 returns : tie.Need-returns
 unfolding written record_numbers
-returns c = let a = c.before.before.before.before.before.before.before.before.before.before.before.before.before.args in rw (c.before.before.put_rest.ensures, c.before.before.before.before.before.before.put-sizes.ensures, c.before.before.before.before.before.before.before.before.before.before.clear.ensures) (receives (record_numbers a.s) a.list.now)
+returns c = let a = c.args in rw (c.put_rest.ensures, c.put_sizes.ensures, c.clear.ensures) (receives (record_numbers a.s) a.list.now)
 
-pub receive-record-spec : {M : Type 1} → statement M
-receive-record-spec =
+pub receive_record_spec : {M : Type 1} → statement M
+receive_record_spec =
     tie.close (tie.spec (λ c κs. search rules) (λ c κs. search rules) (λ c κs. search rules) (λ c. search rules) returns)

@@ -6,10 +6,10 @@ use Rattle.yelomawin.proofs.record.record_of.Tie as tie
 
 returns : tie.Need-returns
 unfolding record_of
-returns c = rw (c.before.before.before.before.before.before.before.before.before.before.before.before.before.before.before.before.before.before.aggregation-of.ensures, c.before.before.before.before.before.before.before.before.before.before.before.before.before.before.before.before.basis-of.ensures, c.before.before.before.before.before.before.before.before.before.before.before.before.before.before.policy-of.ensures, c.before.before.before.before.before.before.before.before.before.before.before.before.of-bits.ensures, c.before.before.before.before.before.before.before.before.before.before.of-bits2.ensures)
+returns c = rw (c.aggregation_of-aggregation.ensures, c.basis_of-basis.ensures, c.policy_of-policy.ensures, c.of_bits-damping.ensures, c.of_bits-scale.ensures)
 
-pub record-of-spec : {M : Type 1} → statement M
-record-of-spec =
+pub record_of_spec : {M : Type 1} → statement M
+record_of_spec =
     tie.close
     (tie.spec
     (λ c. search rules)

@@ -5,16 +5,16 @@ use borrow.Author.Rules.{rules}
 use Rattle.yelomawin.proofs.told.estimate.Statement.{statement}
 use Rattle.yelomawin.proofs.told.estimate.Tie as tie
 
-returns : tie.Need-returns
+returns : tie.Need-returns-in-Estimated
 unfolding estimate_number estimate_values
-returns c = rw c.before.before.before.before.before.before.before.answer.given.1 (refl, rw (c.before.before.receive.ensures, c.before.before.before.bits-of2.ensures, c.before.before.before.before.bits_of.ensures))
+returns c = rw c.in-Estimated.is (refl, rw (c.receive.ensures, c.bits_of-in-Estimated.ensures, c.bits_of.ensures))
 
-returns-2 : tie.Need-returns-2
+returns-2 : tie.Need-returns-in-Refused
 unfolding estimate_number estimate_values
-returns-2 c = rw c.before.before.before.before.before.answer2.given.1 c.before.before.refuse.ensures
+returns-2 c = rw c.in-Refused.is c.refuse.ensures
 
-pub estimate-spec : {M : Type 1} → statement M
-estimate-spec =
+pub estimate_spec : {M : Type 1} → statement M
+estimate_spec =
     tie.close
     (tie.spec
     (λ c. search rules)

@@ -6,16 +6,16 @@ use borrow.Author.Rules.{rules}
 use Rattle.yelomawin.proofs.told.grouping.Statement.{statement}
 use Rattle.yelomawin.proofs.told.grouping.Tie as tie
 
-returns : tie.Need-returns
+returns : tie.Need-returns-in-Groups
 unfolding grouping_number grouping_values
-returns c = let l = c.before.before.before.before.before.before.before.before.args.list.now in rw c.before.before.before.before.before.answer.given.1 (refl, c.before.before.receive.ensures ∙ one_told _ l)
+returns c = let l = c.args.list.now in rw c.in-Groups.is (refl, c.receive.ensures ∙ one_told _ l)
 
-returns-2 : tie.Need-returns-2
+returns-2 : tie.Need-returns-in-Refused
 unfolding grouping_number grouping_values
-returns-2 c = rw c.before.before.before.before.before.answer2.given.1 c.before.before.refuse.ensures
+returns-2 c = rw c.in-Refused.is c.refuse.ensures
 
-pub grouping-spec : {M : Type 1} → statement M
-grouping-spec =
+pub grouping_spec : {M : Type 1} → statement M
+grouping_spec =
     tie.close
     (tie.spec
     (λ c. search rules)

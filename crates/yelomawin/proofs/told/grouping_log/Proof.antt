@@ -5,16 +5,16 @@ use borrow.Author.Rules.{rules}
 use Rattle.yelomawin.proofs.told.grouping_log.Statement.{statement}
 use Rattle.yelomawin.proofs.told.grouping_log.Tie as tie
 
-returns : tie.Need-returns
+returns : tie.Need-returns-in-Logged
 unfolding grouping_log_number grouping_log_values
-returns c = rw c.before.before.before.before.before.answer.given.1 (refl, c.before.before.receive.ensures)
+returns c = rw c.in-Logged.is (refl, c.receive.ensures)
 
-returns-2 : tie.Need-returns-2
+returns-2 : tie.Need-returns-in-Refused
 unfolding grouping_log_number grouping_log_values
-returns-2 c = rw c.before.before.before.before.before.answer2.given.1 c.before.before.refuse.ensures
+returns-2 c = rw c.in-Refused.is c.refuse.ensures
 
-pub grouping-log-spec : {M : Type 1} → statement M
-grouping-log-spec =
+pub grouping_log_spec : {M : Type 1} → statement M
+grouping_log_spec =
     tie.close
     (tie.spec
     (λ c. search rules)

@@ -4,13 +4,13 @@ use borrow.Author.Rules.{rules}
 use Rattle.yelomawin.proofs.told.number.Statement.{statement}
 use Rattle.yelomawin.proofs.told.number.Tie as tie
 
-returns : tie.Need-returns
+returns : tie.Need-returns-in-Accepted
 unfolding answer_number
-returns c = rw c.enum_told.given.1
+returns c = rw c.in-Accepted.is
 
-returns-2 : tie.Need-returns-2
+returns-2 : tie.Need-returns-in-Refused
 unfolding answer_number
-returns-2 c = rw c.before.before.answer.given.1 c.number_of_lem.ensures
+returns-2 c = rw c.in-Refused.is c.number_of.ensures
 
-pub number-spec : {M : Type 1} → statement M
-number-spec = tie.close (tie.spec (λ c. search rules) (λ c. search rules) (λ c κs. search rules) returns returns-2)
+pub number_spec : {M : Type 1} → statement M
+number_spec = tie.close (tie.spec (λ c. search rules) (λ c. search rules) (λ c κs. search rules) returns returns-2)

@@ -6,16 +6,16 @@ use borrow.Author.Rules.{rules}
 use Rattle.yelomawin.proofs.told.plain.Statement.{statement}
 use Rattle.yelomawin.proofs.told.plain.Tie as tie
 
-returns : tie.Need-returns
+returns : tie.Need-returns-in-Accepted
 unfolding answer_number answer_values
-returns c = let l = c.before.before.before.before.before.before.before.args.list.now in rw c.before.before.before.before.enum_told.given.1 (refl, c.before.before.receive.ensures ∙ none_told l)
+returns c = let l = c.args.list.now in rw c.in-Accepted.is (refl, c.receive.ensures ∙ none_told l)
 
-returns-2 : tie.Need-returns-2
+returns-2 : tie.Need-returns-in-Refused
 unfolding answer_number answer_values
-returns-2 c = rw c.before.before.before.before.before.answer.given.1 c.before.before.refuse.ensures
+returns-2 c = rw c.in-Refused.is c.refuse.ensures
 
-pub plain-spec : {M : Type 1} → statement M
-plain-spec =
+pub plain_spec : {M : Type 1} → statement M
+plain_spec =
     tie.close
     (tie.spec
     (λ c. search rules)

@@ -5,16 +5,16 @@ use borrow.Author.Rules.{rules}
 use Rattle.yelomawin.proofs.told.setup.Statement.{statement}
 use Rattle.yelomawin.proofs.told.setup.Tie as tie
 
-returns : tie.Need-returns
+returns : tie.Need-returns-in-Built
 unfolding setup_number setup_values
-returns c = rw c.before.before.before.before.before.answer.given.1 (refl, c.before.before.receive-record.ensures)
+returns c = rw c.in-Built.is (refl, c.receive_record.ensures)
 
-returns-2 : tie.Need-returns-2
+returns-2 : tie.Need-returns-in-Refused
 unfolding setup_number setup_values
-returns-2 c = rw c.before.before.before.before.before.answer2.given.1 c.before.before.refuse.ensures
+returns-2 c = rw c.in-Refused.is c.refuse.ensures
 
-pub setup-spec : {M : Type 1} → statement M
-setup-spec =
+pub setup_spec : {M : Type 1} → statement M
+setup_spec =
     tie.close
     (tie.spec
     (λ c. search rules)
