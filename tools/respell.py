@@ -197,7 +197,7 @@ def main():
     for p in list(texts((".antt", ".rt", ".edit"))):
         t = read(p)
         theirs = imported(t)
-        own = defined(p, t) | taken(t)
+        own = (defined(p, t) | taken(t)) if p.endswith(".antt") else set()
         for n in LEMMAS:
             if n in own:
                 t = re.sub(r"(?<![.\w'-])%s(?![\w'-])" % n, n + "_lem", t)

@@ -11,34 +11,33 @@ use borrow.Author.Rules.{rules}
 use Rattle.yelomawin_bytes.proofs.yelomawin_bytes_blocks.Statement.{statement}
 use Rattle.yelomawin_bytes.proofs.yelomawin_bytes_blocks.Tie as tie
 
-read-matrix-requires : tie.Need-read-matrix-requires
-read-matrix-requires c κs = three _ _ _ (passed c.before.before.before.before.before.before.matrix.ensures c.before.before.before.before.before.floats.ensures c.before.before.before.before.both.ensures c.before.before.before.if1.true).1.0
+read-matrix-requires : tie.Need-read_matrix-requires
+read-matrix-requires c κs = three _ _ _ (passed c.matrix.ensures c.floats.ensures c.both.ensures c.if-both.true).1.0
 
-returns : tie.Need-returns
+returns : tie.Need-returns-then-both
 unfolding blocks_left exported_blocks exported
 returns c =
     let at-hand = c.before.before.before.before.before.before.before.before in
     let at_clear = at-hand.before.before.before.before.before.before.before.before.before.before.before in
     let at_call = at_clear.before.before.before.before.before.before.before.before in
     let at_read = at_call.before.before.before.before.before.before.before.before.before.before.before.before in
-    let at_test = at_read.before.before.before.before in
-    let a = at_test.before.before.before.before.before.before.before.before.before.before.before.before.before.before.args in
-    let q = passed at_test.before.before.before.matrix.ensures at_test.before.before.floats.ensures at_test.before.both.ensures at_test.if1.true in
-    let w = two (writes 8 a.factor-room.now a.factors.now) (writes 8 a.answer-room.now a.answer.now) q.1.1 in
-    let r = at_read.read-matrix.ensures in
-    let h = at-hand.hand-result.ensures in
-    let t = rw (r.0.front, r.1.0.front, r.1.1.front) at (parts at_call.yelomawin-blocks.ensures) in (
+    let a = c.args in
+    let q = passed c.matrix.ensures c.floats.ensures c.both.ensures c.if-both.true in
+    let w = two (writes 8 a.factor_room.now a.factors.now) (writes 8 a.answer_room.now a.answer.now) q.1.1 in
+    let r = c.read_matrix.ensures in
+    let h = c.hand_result.ensures in
+    let t = rw (r.0.front, r.1.0.front, r.1.1.front) at (parts c.yelomawin_blocks-number.ensures) in (
       told q.0 _ t.0,
-      matrix_emptied q.0 r at_clear.clear-matrix.ensures,
-      floats_told q.0 _ w.0 at_clear.before.before.before.before.before.before.before.factor-room.given h.0 t.0 t.1.0,
-      answer_told q.0 _ w.1 at_clear.before.before.before.before.before.answer-room.given h.1 t.1.1,
+      matrix_emptied q.0 r c.clear_matrix.ensures,
+      floats_told q.0 _ w.0 c.factor_room-1.given h.0 t.0 t.1.0,
+      answer_told q.0 _ w.1 c.answer_room-1.given h.1 t.1.1,
     )
 
-returns-2 : tie.Need-returns-2
-returns-2 c = rw (tested false c.before.before.before.matrix.ensures c.before.before.floats.ensures c.before.both.ensures c.if1.false) (refl, matrix_kept, result_kept, result_kept)
+returns-2 : tie.Need-returns
+returns-2 c = rw (tested false c.matrix.ensures c.floats.ensures c.both.ensures c.if-both.false) (refl, matrix_kept, result_kept, result_kept)
 
-pub yelomawin-bytes-blocks-spec : {M : Type 1} → statement M
-yelomawin-bytes-blocks-spec =
+pub yelomawin_bytes_blocks_spec : {M : Type 1} → statement M
+yelomawin_bytes_blocks_spec =
     tie.close
     (tie.spec
     (λ c κs. search rules)

@@ -12,16 +12,16 @@ use borrow.Author.Rules.{rules}
 use Rattle.yelomawin_bytes.proofs.yelomawin_bytes_estimate.Statement.{statement}
 use Rattle.yelomawin_bytes.proofs.yelomawin_bytes_estimate.Tie as tie
 
-read-floats-requires : tie.Need-read-floats-requires
+read-floats-requires : tie.Need-read_floats-requires
 read-floats-requires c κs =
-    let a = c.before.before.before.before.before.before.before.before.before.before.before.before.before.before.before.before.args in
-    let q = passed c.before.before.before.before.matrix.ensures c.before.before.before.diagonal.ensures c.before.before.both.ensures c.before.if1.true in
-    (two (reads 8 a.diagonal.now a.diagonal-room.now) (writes 8 a.answer-room.now a.answer.now) q.1.1).0
+    let a = c.args in
+    let q = passed c.matrix.ensures c.diagonal.ensures c.both.ensures c.if-both.true in
+    (two (reads 8 a.diagonal.now a.diagonal_room.now) (writes 8 a.answer_room.now a.answer.now) q.1.1).0
 
-read-matrix-requires : tie.Need-read-matrix-requires
-read-matrix-requires c κs = three _ _ _ (passed c.before.before.before.before.before.before.before.before.before.before.matrix.ensures c.before.before.before.before.before.before.before.before.before.diagonal.ensures c.before.before.before.before.before.before.before.before.both.ensures c.before.before.before.before.before.before.before.if1.true).1.0
+read-matrix-requires : tie.Need-read_matrix-requires
+read-matrix-requires c κs = three _ _ _ (passed c.matrix.ensures c.diagonal.ensures c.both.ensures c.if-both.true).1.0
 
-returns : tie.Need-returns
+returns : tie.Need-returns-then-both
 unfolding estimate_work_left exported_estimate
 returns c =
     let at-hand = c.before.before.before.before in
@@ -30,25 +30,24 @@ returns c =
     let at_call = at_clear.before.before.before.before.before.before.before.before in
     let at_read = at_call.before.before.before.before.before.before.before.before.before.before.before.before.before in
     let at-diagonal = at_read.before.before.before.before.before.before in
-    let at_test = at-diagonal.before.before in
-    let a = at_test.before.before.before.before.before.before.before.before.before.before.before.before.before.before.before.args in
-    let q = passed at_test.before.before.before.matrix.ensures at_test.before.before.diagonal.ensures at_test.before.both.ensures at_test.if1.true in
-    let w = two (reads 8 a.diagonal.now a.diagonal-room.now) (writes 8 a.answer-room.now a.answer.now) q.1.1 in
-    let r = at_read.read-matrix.ensures in
-    let d = at-diagonal.read-floats.ensures in
-    let t = rw (r.0.front, r.1.0.front, r.1.1.front, d.front) at (parts at_call.yelomawin-estimate.ensures) in (
+    let a = c.args in
+    let q = passed c.matrix.ensures c.diagonal.ensures c.both.ensures c.if-both.true in
+    let w = two (reads 8 a.diagonal.now a.diagonal_room.now) (writes 8 a.answer_room.now a.answer.now) q.1.1 in
+    let r = c.read_matrix.ensures in
+    let d = c.read_floats.ensures in
+    let t = rw (r.0.front, r.1.0.front, r.1.1.front, d.front) at (parts c.yelomawin_estimate-number.ensures) in (
       told q.0 _ t.0,
-      matrix_emptied q.0 r at_clear.clear-matrix.ensures,
-      emptied_out q.0 zeroᶠ d at_zero.zero-floats.ensures,
+      matrix_emptied q.0 r c.clear_matrix.ensures,
+      emptied_out q.0 zeroᶠ d c.zero_floats.ensures,
       told q.0 _ t.1.0,
-      answer_told q.0 _ w.1 at_clear.before.before.before.before.before.answer-room.given at-hand.hand-answer.ensures t.1.1,
+      answer_told q.0 _ w.1 c.answer_room-1.given c.hand_answer.ensures t.1.1,
     )
 
-returns-2 : tie.Need-returns-2
-returns-2 c = rw (tested false c.before.before.before.matrix.ensures c.before.before.diagonal.ensures c.before.both.ensures c.if1.false) (refl, matrix_kept, refl, refl, result_kept)
+returns-2 : tie.Need-returns
+returns-2 c = rw (tested false c.matrix.ensures c.diagonal.ensures c.both.ensures c.if-both.false) (refl, matrix_kept, refl, refl, result_kept)
 
-pub yelomawin-bytes-estimate-spec : {M : Type 1} → statement M
-yelomawin-bytes-estimate-spec =
+pub yelomawin_bytes_estimate_spec : {M : Type 1} → statement M
+yelomawin_bytes_estimate_spec =
     tie.close
     (tie.spec
     (λ c κs. search rules)
@@ -71,7 +70,7 @@ yelomawin-bytes-estimate-spec =
     (λ c. search rules)
     (λ c. search rules)
     (λ c. search rules)
-    (λ c. c.before.before.before.before.before.before.before.before.diagonal-room2.given ∙ c.before.before.before.before.before.before.before.before.before.before.before.before.before.before.before.before.before.before.before.before.before.before.before.before.before.before.before.before.before.before.before.before.before.before.before.before.before.before.before.before.before.before.before.diagonal-room.given)
+    (λ c. c.diagonal_room-then-both-1.given ∙ c.diagonal_room-1.given)
     (λ c. search rules)
     (λ c. search rules)
     (λ c. search rules)

@@ -10,10 +10,10 @@ use borrow.Author.Rules.{rules}
 use Rattle.yelomawin_bytes.proofs.yelomawin_bytes_group_log.Statement.{statement}
 use Rattle.yelomawin_bytes.proofs.yelomawin_bytes_group_log.Tie as tie
 
-read-graph-requires : tie.Need-read-graph-requires
-read-graph-requires c κs = two _ _ (passed c.before.before.before.before.before.graph.ensures c.before.before.before.before.logged.ensures c.before.before.before.both.ensures c.before.before.if1.true).1.0
+read-graph-requires : tie.Need-read_graph-requires
+read-graph-requires c κs = two _ _ (passed c.graph.ensures c.logged.ensures c.both.ensures c.if-both.true).1.0
 
-returns : tie.Need-returns
+returns : tie.Need-returns-then-both
 unfolding exported_group_log
 returns c =
     let at-answer = c.before.before.before.before in
@@ -22,26 +22,25 @@ returns c =
     let at_clear = at-ids.before.before.before.before.before.before.before in
     let at_call = at_clear.before.before.before.before.before.before.before.before.before.before.before in
     let at_read = at_call.before.before.before.before.before.before.before.before.before.before.before in
-    let at_test = at_read.before.before.before in
-    let a = at_test.before.before.before.before.before.before.before.before.before.before.before.before.before.before.before.args in
-    let q = passed at_test.before.before.before.graph.ensures at_test.before.before.logged.ensures at_test.before.both.ensures at_test.if1.true in
-    let w = three (writes 4 a.ids_room.now a.ids.now) (writes 4 a.log-room.now a.log.now) (writes 8 a.answer-room.now a.answer.now) q.1.1 in
-    let r = at_read.read-graph.ensures in
-    let k = at_clear.clear-graph.ensures in
-    let t = rw (r.0.front, r.1.front) at (log_parts at_call.yelomawin-group-log.ensures) in (
+    let a = c.args in
+    let q = passed c.graph.ensures c.logged.ensures c.both.ensures c.if-both.true in
+    let w = three (writes 4 a.ids_room.now a.ids.now) (writes 4 a.log_room.now a.log.now) (writes 8 a.answer_room.now a.answer.now) q.1.1 in
+    let r = c.read_graph.ensures in
+    let k = c.clear_graph.ensures in
+    let t = rw (r.0.front, r.1.front) at (log_parts c.yelomawin_group_log-number.ensures) in (
       told q.0 _ t.0,
       both_emptied q.0 0 r.0 r.1 k.0 k.1,
-      logged_ids_told q.0 _ w.0 at_clear.before.before.before.before.before.before.before.before.before.before.ids_room.given at-ids.hand-ints.ensures t.0 t.1.0,
-      log_told q.0 _ w.1.0 at_clear.before.before.before.before.before.before.before.before.log-room.given at-log.hand-ints2.ensures t.0 t.1.1.0,
+      logged_ids_told q.0 _ w.0 c.ids_room-1.given c.hand_ints.ensures t.0 t.1.0,
+      log_told q.0 _ w.1.0 c.log_room-1.given c.hand_ints-then-both.ensures t.0 t.1.1.0,
       told q.0 _ t.1.1.1.0,
-      answer_told q.0 _ w.1.1 at_clear.before.before.before.before.answer-room.given at-answer.hand-answer.ensures t.1.1.1.1,
+      answer_told q.0 _ w.1.1 c.answer_room-1.given c.hand_answer.ensures t.1.1.1.1,
     )
 
-returns-2 : tie.Need-returns-2
-returns-2 c = rw (tested false c.before.before.before.graph.ensures c.before.before.logged.ensures c.before.both.ensures c.if1.false) (refl, both_kept, result_kept, result_kept, refl, result_kept)
+returns-2 : tie.Need-returns
+returns-2 c = rw (tested false c.graph.ensures c.logged.ensures c.both.ensures c.if-both.false) (refl, both_kept, result_kept, result_kept, refl, result_kept)
 
-pub yelomawin-bytes-group-log-spec : {M : Type 1} → statement M
-yelomawin-bytes-group-log-spec =
+pub yelomawin_bytes_group_log_spec : {M : Type 1} → statement M
+yelomawin_bytes_group_log_spec =
     tie.close
     (tie.spec
     (λ c κs. search rules)
@@ -57,12 +56,12 @@ yelomawin-bytes-group-log-spec =
     (λ c κs. search rules)
     (λ c κs. search rules)
     (λ c κs. search rules)
-    (λ c. c.before.before.before.before.before.before.before.before.before.before.before.before.before.before.before.before.before.before.before.before.before.before.before.before.offset-room2.given ∙ c.before.before.before.before.before.before.before.before.before.before.before.before.before.before.before.before.before.before.before.before.before.before.before.before.before.before.before.before.before.before.before.before.before.before.before.before.before.before.before.before.before.before.before.before.before.before.offset-room.given)
-    (λ c. c.before.before.before.before.before.before.before.before.before.before.before.before.before.before.before.before.before.before.before.before.before.before.neighbour-room2.given ∙ c.before.before.before.before.before.before.before.before.before.before.before.before.before.before.before.before.before.before.before.before.before.before.before.before.before.before.before.before.before.before.before.before.before.before.before.before.before.before.before.before.before.before.before.before.neighbour-room.given)
-    (λ c. c.before.before.before.before.before.before.before.before.before.before.before.before.before.before.before.before.before.ids-room2.given ∙ c.before.before.before.before.before.before.before.before.before.before.before.before.before.before.before.before.before.before.before.before.before.before.before.before.before.before.before.before.before.before.before.before.before.before.before.ids_room.given)
-    (λ c. c.before.before.before.before.before.before.before.before.before.before.log-room2.given ∙ c.before.before.before.before.before.before.before.before.before.before.before.before.before.before.before.before.before.before.before.before.before.before.before.before.before.before.before.before.before.before.before.before.before.log-room.given)
+    (λ c. c.offset_room-then-both-1.given ∙ c.offset_room-1.given)
+    (λ c. c.neighbour_room-then-both-1.given ∙ c.neighbour_room-1.given)
+    (λ c. c.ids_room-then-both-1.given ∙ c.ids_room-1.given)
+    (λ c. c.log_room-then-both-1.given ∙ c.log_room-1.given)
     (λ c. search rules)
-    (λ c. c.before.before.before.answer-room2.given ∙ c.before.before.before.before.before.before.before.before.before.before.before.before.before.before.before.before.before.before.before.before.before.before.before.before.before.before.before.before.before.answer-room.given)
+    (λ c. c.answer_room-then-both-1.given ∙ c.answer_room-1.given)
     (λ c. search rules)
     (λ c. search rules)
     (λ c. search rules)

@@ -4,8 +4,8 @@ use Rattle.yelomawin_bytes.proofs.yelomawin_bytes_root.Statement.{statement}
 use Rattle.yelomawin_bytes.proofs.yelomawin_bytes_root.Tie as tie
 
 returns : tie.Need-returns
-returns c = rw (← c.before.before.of-bits.ensures, ← c.before.yelomawin-root.ensures) c.bits_of.ensures
+returns c = rw (← c.of_bits-x.ensures, ← c.yelomawin_root-y.ensures) c.bits_of.ensures
 
-pub yelomawin-bytes-root-spec : {M : Type 1} → statement M
-yelomawin-bytes-root-spec =
+pub yelomawin_bytes_root_spec : {M : Type 1} → statement M
+yelomawin_bytes_root_spec =
     tie.close (tie.spec (λ c κs. search rules) (λ c κs. search rules) (λ c κs. search rules) returns)

@@ -38,7 +38,6 @@ run_spec =
     (tie.spec
     (λ c κs. search rules)
     (λ c. search rules)
-    (λ c. search rules)
     (λ c κs. search rules)
     (λ c κs. search rules)
     (λ c. search rules)

@@ -134,7 +134,7 @@ put_decimal_same_length_2 : (t : ℕ) → put-decimal-lts.Need-shape_of-out (
 ) (put_decimal_at t) put-decimal.Post
 put_decimal_same_length_2 t c = c.put-2.auto.out ∙ c.put_decimal-next.auto.out
 
-put_decimal_returns_3 : (t : ℕ) → put-decimal-lts.Need-returns-then-places-eq0 (
+put_decimal_returns_3 : (t : ℕ) → put-decimal-lts.Need-returns (
   put_reads.Asked,
   put_reads.Learnt,
   put_decimal_below t,

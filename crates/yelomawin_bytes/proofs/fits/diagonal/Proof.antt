@@ -6,5 +6,5 @@ use Rattle.yelomawin_bytes.proofs.fits.diagonal.Tie as tie
 returns : tie.Need-returns
 returns c = cc
 
-pub diagonal-spec : {M : Type 1} → statement M
-diagonal-spec = tie.close (tie.spec (λ c κs. search rules) (λ c κs. search rules) (λ c κs. search rules) returns)
+pub diagonal_spec : {M : Type 1} → statement M
+diagonal_spec = tie.close (tie.spec (λ c κs. search rules) (λ c κs. search rules) (λ c κs. search rules) returns)

@@ -6,6 +6,6 @@ use Rattle.yelomawin_bytes.proofs.fits.floats.Tie as tie
 returns : tie.Need-returns
 returns c = cc
 
-pub floats-spec : {M : Type 1} → statement M
-floats-spec =
+pub floats_spec : {M : Type 1} → statement M
+floats_spec =
     tie.close (tie.spec (λ c κs. search rules) (λ c κs. search rules) (λ c κs. search rules) returns)

@@ -6,5 +6,5 @@ use Rattle.yelomawin_bytes.proofs.fits.graph.Tie as tie
 returns : tie.Need-returns
 returns c = cc
 
-pub graph-spec : {M : Type 1} → statement M
-graph-spec = tie.close (tie.spec (λ c κs. search rules) (λ c κs. search rules) (λ c κs. search rules) returns)
+pub graph_spec : {M : Type 1} → statement M
+graph_spec = tie.close (tie.spec (λ c κs. search rules) (λ c κs. search rules) (λ c κs. search rules) returns)

@@ -6,5 +6,5 @@ use Rattle.yelomawin_bytes.proofs.fits.ints.Tie as tie
 returns : tie.Need-returns
 returns c = cc
 
-pub ints-spec : {M : Type 1} → statement M
-ints-spec = tie.close (tie.spec (λ c κs. search rules) (λ c κs. search rules) (λ c κs. search rules) returns)
+pub ints_spec : {M : Type 1} → statement M
+ints_spec = tie.close (tie.spec (λ c κs. search rules) (λ c κs. search rules) (λ c κs. search rules) returns)

@@ -6,8 +6,8 @@ use Rattle.yelomawin_bytes.proofs.fits.kept.Tie as tie
 returns : tie.Need-returns
 returns c = cc
 
-pub kept-spec : {M : Type 1} → statement M
-kept-spec =
+pub kept_spec : {M : Type 1} → statement M
+kept_spec =
     tie.close
     (tie.spec
     (λ c κs. search rules)

@@ -6,5 +6,5 @@ use Rattle.yelomawin_bytes.proofs.fits.logged.Tie as tie
 returns : tie.Need-returns
 returns c = cc
 
-pub logged-spec : {M : Type 1} → statement M
-logged-spec = tie.close (tie.spec (λ c κs. search rules) (λ c κs. search rules) (λ c κs. search rules) returns)
+pub logged_spec : {M : Type 1} → statement M
+logged_spec = tie.close (tie.spec (λ c κs. search rules) (λ c κs. search rules) (λ c κs. search rules) returns)

@@ -6,8 +6,8 @@ use Rattle.yelomawin_bytes.proofs.fits.matrix.Tie as tie
 returns : tie.Need-returns
 returns c = cc
 
-pub matrix-spec : {M : Type 1} → statement M
-matrix-spec =
+pub matrix_spec : {M : Type 1} → statement M
+matrix_spec =
     tie.close
     (tie.spec
     (λ c κs. search rules)

@@ -6,5 +6,5 @@ use Rattle.yelomawin_bytes.proofs.fits.setup.Tie as tie
 returns : tie.Need-returns
 returns c = cc
 
-pub setup-spec : {M : Type 1} → statement M
-setup-spec = tie.close (tie.spec (λ c κs. search rules) (λ c κs. search rules) (λ c κs. search rules) returns)
+pub setup_spec : {M : Type 1} → statement M
+setup_spec = tie.close (tie.spec (λ c κs. search rules) (λ c κs. search rules) (λ c κs. search rules) returns)

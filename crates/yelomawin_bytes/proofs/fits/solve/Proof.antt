@@ -6,5 +6,5 @@ use Rattle.yelomawin_bytes.proofs.fits.solve.Tie as tie
 returns : tie.Need-returns
 returns c = cc
 
-pub solve-spec : {M : Type 1} → statement M
-solve-spec = tie.close (tie.spec (λ c κs. search rules) (λ c κs. search rules) (λ c κs. search rules) returns)
+pub solve_spec : {M : Type 1} → statement M
+solve_spec = tie.close (tie.spec (λ c κs. search rules) (λ c κs. search rules) (λ c κs. search rules) returns)

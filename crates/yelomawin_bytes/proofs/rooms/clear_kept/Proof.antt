@@ -4,10 +4,10 @@ use Rattle.yelomawin_bytes.proofs.rooms.clear_kept.Statement.{statement}
 use Rattle.yelomawin_bytes.proofs.rooms.clear_kept.Tie as tie
 
 returns : tie.Need-returns
-returns c = (c.before.before.before.before.before.before.before.before.before.before.before.before.before.zero-numbers.ensures, (c.before.before.before.before.before.before.before.before.before.zero-ints.ensures, c.before.before.before.before.clear-solve.ensures))
+returns c = (c.zero_numbers.ensures, (c.zero_ints.ensures, c.clear_solve.ensures))
 
-pub clear-kept-spec : {M : Type 1} → statement M
-clear-kept-spec =
+pub clear_kept_spec : {M : Type 1} → statement M
+clear_kept_spec =
     tie.close
     (tie.spec
     (λ c κs. search rules)

@@ -4,10 +4,10 @@ use Rattle.yelomawin_bytes.proofs.rooms.hand_answer.Statement.{statement}
 use Rattle.yelomawin_bytes.proofs.rooms.hand_answer.Tie as tie
 
 returns : tie.Need-returns
-returns c = record { cleared = c.before.before.zero-numbers.ensures; written = λ f. rw (f) at c.before.before.before.before.before.before.write-numbers.ensures.1 }
+returns c = record { cleared = c.zero_numbers.ensures; written = λ f. rw (f) at c.write_numbers.ensures.1 }
 
-pub hand-answer-spec : {M : Type 1} → statement M
-hand-answer-spec =
+pub hand_answer_spec : {M : Type 1} → statement M
+hand_answer_spec =
     tie.close
     (tie.spec
     (λ c κs. search rules)

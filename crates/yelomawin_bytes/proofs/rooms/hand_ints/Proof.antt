@@ -4,14 +4,14 @@ use borrow.Author.Rules.{rules}
 use Rattle.yelomawin_bytes.proofs.rooms.hand_ints.Statement.{statement}
 use Rattle.yelomawin_bytes.proofs.rooms.hand_ints.Tie as tie
 
-returns : tie.Need-returns
-returns c = rw c.if1.true (record { cleared = refl; written = λ _. refl })
+returns : tie.Need-returns-then-kept
+returns c = rw c.if-kept.true (record { cleared = refl; written = λ _. refl })
 
-returns-2 : tie.Need-returns-2
-returns-2 c = rw c.before.before.before.before.before.before.before.before.before.if1.false (record { cleared = c.before.before.zero-ints.ensures; written = λ f. rw (f) at c.before.before.before.before.before.before.write-ints.ensures.1 })
+returns-2 : tie.Need-returns
+returns-2 c = rw c.if-kept.false (record { cleared = c.zero_ints.ensures; written = λ f. rw (f) at c.write_ints.ensures.1 })
 
-pub hand-ints-spec : {M : Type 1} → statement M
-hand-ints-spec =
+pub hand_ints_spec : {M : Type 1} → statement M
+hand_ints_spec =
     tie.close
     (tie.spec
     returns

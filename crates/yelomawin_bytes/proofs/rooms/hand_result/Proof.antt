@@ -4,10 +4,10 @@ use Rattle.yelomawin_bytes.proofs.rooms.hand_result.Statement.{statement}
 use Rattle.yelomawin_bytes.proofs.rooms.hand_result.Tie as tie
 
 returns : tie.Need-returns
-returns c = (rw c.before.before.before.before.before.before.before.before.before.before.before.before.before.before.Leaves-all.ensures at c.before.before.before.before.before.before.before.before.before.before.before.hand-floats.ensures, c.before.before.before.before.hand-answer.ensures)
+returns c = (rw c.leaves_all.ensures at c.hand_floats.ensures, c.hand_answer.ensures)
 
-pub hand-result-spec : {M : Type 1} → statement M
-hand-result-spec =
+pub hand_result_spec : {M : Type 1} → statement M
+hand_result_spec =
     tie.close
     (tie.spec
     (λ c κs. search rules)

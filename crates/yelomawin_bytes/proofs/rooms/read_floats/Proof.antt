@@ -8,10 +8,10 @@ use Rattle.yelomawin_bytes.proofs.rooms.read_floats.Tie as tie
 
 returns : tie.Need-returns
 unfolding floats_of
-returns c = read_in 8 (λ b k. of_bits binary64 (word_at 8 b k)) c.before.before.before.before.before.before.requires c.before.room.given c.before.before.read-floats.ensures.1
+returns c = read_in 8 (λ b k. of_bits binary64 (word_at 8 b k)) c.requires c.room-1.given c.read_floats.ensures.1
 
-pub read-floats-spec : {M : Type 1} → statement M
-read-floats-spec =
+pub read_floats_spec : {M : Type 1} → statement M
+read_floats_spec =
     tie.close
     (tie.spec
     (λ c κs. search rules)

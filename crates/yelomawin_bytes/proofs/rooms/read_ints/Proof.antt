@@ -7,10 +7,10 @@ use Rattle.yelomawin_bytes.proofs.rooms.read_ints.Tie as tie
 
 returns : tie.Need-returns
 unfolding words_of
-returns c = read_in 4 (word_at 4) c.before.before.before.before.before.before.requires c.before.room.given c.before.before.read-ints.ensures.1
+returns c = read_in 4 (word_at 4) c.requires c.room-1.given c.read_ints.ensures.1
 
-pub read-ints-spec : {M : Type 1} → statement M
-read-ints-spec =
+pub read_ints_spec : {M : Type 1} → statement M
+read_ints_spec =
     tie.close
     (tie.spec
     (λ c κs. search rules)

@@ -4,10 +4,10 @@ use Rattle.yelomawin_bytes.proofs.rooms.read_kept.Statement.{statement}
 use Rattle.yelomawin_bytes.proofs.rooms.read_kept.Tie as tie
 
 returns : tie.Need-returns
-returns c = (c.before.before.before.before.before.before.before.before.before.before.before.before.before.read_numbers_lem.ensures, (c.before.before.before.before.before.before.before.before.before.read-ints.ensures, c.before.before.before.before.read-solve.ensures))
+returns c = (c.read_numbers.ensures, (c.read_ints.ensures, c.read_solve.ensures))
 
-pub read-kept-spec : {M : Type 1} → statement M
-read-kept-spec =
+pub read_kept_spec : {M : Type 1} → statement M
+read_kept_spec =
     tie.close
     (tie.spec
     (λ c κs. search rules)

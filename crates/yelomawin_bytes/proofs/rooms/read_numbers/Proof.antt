@@ -7,10 +7,10 @@ use Rattle.yelomawin_bytes.proofs.rooms.read_numbers.Tie as tie
 
 returns : tie.Need-returns
 unfolding words_of
-returns c = read_in 8 (word_at 8) c.before.before.before.before.before.before.requires c.before.room.given c.before.before.read_numbers_lem.ensures.1
+returns c = read_in 8 (word_at 8) c.requires c.room-1.given c.read_numbers.ensures.1
 
-pub read-numbers-spec : {M : Type 1} → statement M
-read-numbers-spec =
+pub read_numbers_spec : {M : Type 1} → statement M
+read_numbers_spec =
     tie.close
     (tie.spec
     (λ c κs. search rules)
