@@ -1,5 +1,5 @@
 -- The coarse column of a row as code forms it: the id of the row's node times the block size, and what the node leaves of the row.
-use Prim.Native.Nat.{ℕ, ◌+◌, ◌-◌, ◌*◌, ◌/◌, ◌<◌, ◌≤◌}
+use Prim.Native.Nat.{ℕ, ◌+◌, ◌-◌, ◌*◌, ◌/◌, ◌≤◌}
 use mathlib.Core.Path.{◌≡◌}
 use mathlib.Core.List.{List}
 use native.Mathlib.Nat.{mod-eq-sub-div-mul, div-mul-le_self}

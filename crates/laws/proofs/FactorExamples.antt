@@ -22,7 +22,8 @@ use Rattle.definitions.specs.declared.TwoLevelAggregation.TheVariants.{Contiguou
 use Rattle.definitions.specs.declared.TwoLevelBasis.TheVariants.{JacobiSmoothed}
 use Rattle.definitions.specs.declared.TwoLevelCoarseApplyPolicy.TheVariants.{Auto}
 use Rattle.laws.proofs.BlockFactors.{own_part}
-use Rattle.laws.proofs.FiniteFactor.{FiniteFactor, blocks_finite, coarse_finite}
+use Rattle.laws.proofs.FiniteFactor.{FiniteFactor}
+use Rattle.laws.proofs.FiniteFactors.{blocks_finite, coarse_finite}
 
 -- [4 2; 2 5], and x in a third row of its own
 abbrev matrix : ℕ → Matrix

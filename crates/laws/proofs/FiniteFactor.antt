@@ -15,17 +15,12 @@ use lib.Ieee.Fits.{and_l, up_pos, add-fits, sub-fits}
 use lib.Ieee.Positive.{positive, positive-finite}
 use lib.Ieee.Scale.{finite}
 use Rattle.definitions.specs.Numbers.{◌+ᶠ◌, ◌-ᶠ◌, ◌*ᶠ◌, zeroᶠ, oneᶠ, pivot_tol, larger, largest, magnitude, total, reduced, above}
-use Rattle.definitions.specs.Refusal.{done}
-use Rattle.definitions.specs.Matrix.{Matrix, stored_at}
 use Rattle.definitions.specs.Factor.{entry, products, rest}
-use Rattle.definitions.specs.Block.{block_count, width_of, block_entry, block_of, in_block, top_of, block_factor, factors_of, blocks_call, block_part}
-use Rattle.definitions.specs.Coarse.{packed, coarse_factor, entry_in}
 use Rattle.laws.proofs.Lists.{Each, none, more, tab_each}
 use Rattle.laws.proofs.Same.{Finite, nil, sub_finite, mul_finite}
 use Rattle.laws.proofs.Near.{zero_fits}
 use Rattle.laws.proofs.RootLaws.{root_positive}
-use Rattle.laws.proofs.Factor.{Rows, coarse_rows}
-use Rattle.laws.proofs.BlockFactors.{block_tol, block_rows, block_stands, call_accepted}
+use Rattle.laws.proofs.Factor.{Rows}
 
 -- every entry on and below the diagonal is finite, and every entry on it is above zero
 pub record FiniteFactor (place : ℕ → ℕ → ℕ) (n : ℕ) (l : List Float) : Type 0 where
@@ -186,25 +181,3 @@ finite_factor place a tol n l p held r = record { real = λ i j h g. at i j h (e
     at : (i j : ℕ) → i < n → (j ≡ i) ⊎ (j < i) → Finite (entry place l i j)
     at i j h (inl e) = subst (λ (x : ℕ). Finite (entry place l i x)) (sym e) (positive-finite (entry place l i i) (root_is i h))
     at i j h (inr g) = (mul_finite binary64 (entry place l i j) (entry place l i j) (tab_each (λ k. entry place l i k *ᶠ entry place l i k) i j (row_finite i h) g)).0
-
--- ---- a block that gives neither 14 nor 15
-
-pub block_finite : (a : Matrix) (start w : ℕ) (l : List Float) → block_factor a start w ≡ done l → FiniteFactor (in_block w) w l
-unfolding block_entry top_of
-block_finite a start w l e =
-    finite_factor (in_block w) (block_entry a start) (block_tol a start w) w l (tolerance_unsigned (block_of a start w)) (λ i g. total_fits (stored_at a (start + i) (start + i))) (block_rows a start w l e)
-
--- every block of an accepted setup's or call's factors
-pub factors_finite : (a : Matrix) (size : ℕ) (factors : List Float) → 1 ≤ size → factors_of a size ≡ done factors → (k : ℕ) → k < block_count a.rows size
-    → FiniteFactor (in_block (width_of a.rows size k)) (width_of a.rows size k) (block_part size (width_of a.rows size k) k factors)
-factors_finite a size factors p e k l =
-    block_finite a (k * size) (width_of a.rows size k) (block_part size (width_of a.rows size k) k factors) (block_stands a size p factors e k l)
-
-pub blocks_finite : (a : Matrix) (size room : ℕ) (factors : List Float) → blocks_call a size room ≡ done factors → (k : ℕ) → k < block_count a.rows size
-    → FiniteFactor (in_block (width_of a.rows size k)) (width_of a.rows size k) (block_part size (width_of a.rows size k) k factors)
-blocks_finite a size room factors e k l = let c = call_accepted a size room factors e in factors_finite a size factors c.some c.factored k l
-
--- ---- a coarse factor that gives neither 23 nor 24
-
-pub coarse_finite : (c : ℕ) (m l : List Float) → ((i : ℕ) → i < c → T (fits binary64 (entry_in m c i i))) → coarse_factor c m ≡ done l → FiniteFactor packed c l
-coarse_finite c m l held e = finite_factor packed (entry_in m c) (pivot_tol *ᶠ larger (largest m) oneᶠ) c l (tolerance_unsigned m) held (coarse_rows c m l e)

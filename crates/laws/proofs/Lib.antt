@@ -11,6 +11,7 @@ pub mod RootExamples
 -- numbers that are the same but for a zero's sign, and what operations keep of that
 pub mod Same
 pub mod Near
+pub mod NearSums
 -- tests of two parts, tests over whole lists; lists, places in a square and squares by their elements, what grows by one, what passes a test, what loops that add leave, coarse columns, compressed rows, counts
 pub mod Tests
 pub mod Scans
@@ -32,12 +33,14 @@ pub mod KeptColumn
 pub mod Factor
 pub mod BlockFactors
 pub mod FiniteFactor
+pub mod FiniteFactors
 pub mod FactorExamples
 -- numbers of causes, and those that leave zeros; diagonal sums behind accepted blocks, and the causes that setup never is
 pub mod Causes
 pub mod Clearing
 pub mod Diagonals
 pub mod SetupCauses
+pub mod SetupClear
 -- the groups of setup: new numbers by first appearance, how many ids and groups; the lists of a setup, and the rows of the transfer
 pub mod Renumbered
 pub mod GroupIds

@@ -148,23 +148,6 @@ module _ {A : Type 0} where
   nears_flat_map f g none = both_none
   nears_flat_map f g (more h t) = nears_append h (nears_flat_map f g t)
 
-pub near_sums : {s t : Float} {xs ys : List Float} → Near s t → Nears xs ys → Near (foldl (λ a x. a +ᶠ x) s xs) (foldl (λ a x. a +ᶠ x) t ys)
-near_sums p both_none = p
-near_sums {s} {t} p (both_more {x = x} {y = y} h k) = near_sums {s = s +ᶠ x} {t = t +ᶠ y} (near_add s t x y p h) k
-
-pub near_total : {xs ys : List Float} → Nears xs ys → Near (total xs) (total ys)
-unfolding total
-near_total h = near_sums (near_refl zeroᶠ zero_fits) h
-
-pub near_summed : {xs ys : List Float} → Nears xs ys → Near (summed xs) (summed ys)
-unfolding summed
-near_summed h = near_sums (near_refl minus_zero minus_fits) h
-
-pub near_reduced : {s t : Float} {xs ys : List Float} → Near s t → Nears xs ys → Near (reduced s xs) (reduced t ys)
-unfolding reduced
-near_reduced p both_none = p
-near_reduced {s} {t} p (both_more {x = x} {y = y} h k) = near_reduced {s = s -ᶠ x} {t = t -ᶠ y} (near_sub s t x y p h) k
-
 -- ---- a list of numbers that vanish
 
 pub vanish_sums : {s : Float} {xs : List Float} → Vanishing s → Each Vanishing xs → Vanishing (foldl (λ a x. a +ᶠ x) s xs)

@@ -96,8 +96,8 @@ module _ (s : Setup) (behind : List ℕ) where
       (le→leb 15 n (omega arith)) (policies s.aggregation s.basis s.policy)
 
 pub record_back : (s : Setup) → HoldsF64s s → record_of (record_numbers s) ≡ s
-unfolding record_numbers
-record_back s h = record_behind s [] h
+unfolding record_of record_numbers
+record_back s h = rw (aggregation_back s.aggregation, basis_back s.basis, policy_back s.policy, of_bits-to_bits binary64 s.damping h.damping, of_bits-to_bits binary64 s.scale h.scale)
 
 pub is_record_lem : (s : Setup) → T (is_record (record_numbers s))
 unfolding record_numbers
@@ -168,21 +168,21 @@ transfer_fits_lem JacobiSmoothed a size ids c =
     yields_bind (diagonal_of a) _ (λ d _.
     yields_bind (estimate_of a d) _ (λ e h. yielded (yields_at (estimate_fits a d) h)))
 
-setup_yields : (a : Matrix) (o : Options) (room : Lengths) → Yields (λ b. HoldsF64s b.setup) (setup_of a o room)
-unfolding setup_of built_from ◌>>=◌
-setup_yields a o room =
-    yields_bind (front_of a o) _ (λ _ _.
-    yields_bind (require (covers room (entry_needs a o)) ListTooShort) _ (λ _ _.
-    yields_bind (factors_of a o.block) _ (λ factors _.
-    yields_bind (grouping_of o.aggregation a o) _ (λ g _.
-    let c = g.count * o.block in
-    yields_bind (require (leb c max_coarse) (CoarseTooLarge c)) _ (λ _ _.
-    yields_bind (require (covers room (coarse_needs c (entry_needs a o))) (CoarseListTooShort c)) _ (λ _ _.
-    yields_bind (transfer_for o.basis a o.block g.ids c) _ (λ t h.
-    let m = averaged_square c (coarse_matrix a o g t) in
-    yields_bind (coarse_factor c m) _ (λ _ _.
-    yielded (record { damping = yields_at (transfer_fits_lem o.basis a o.block g.ids c) h; scale = largest_fits m (averages_fit c (coarse_matrix a o g t) (matrix_fits_lem a o g t)) })))))))))
-
 -- THE RECORD OF AN ACCEPTED SETUP
 pub setup_record_lem : (a : Matrix) (o : Options) (room : Lengths) (b : Built) → setup_of a o room ≡ done b → HoldsF64s b.setup
-setup_record_lem a o room b e = yields_at (setup_yields a o room) e
+unfolding setup_of built_from ◌>>=◌
+setup_record_lem a o room b e = yields_at setup_yields e
+  where
+    setup_yields : Yields (λ b. HoldsF64s b.setup) (setup_of a o room)
+    setup_yields =
+        yields_bind (front_of a o) _ (λ _ _.
+        yields_bind (require (covers room (entry_needs a o)) ListTooShort) _ (λ _ _.
+        yields_bind (factors_of a o.block) _ (λ factors _.
+        yields_bind (grouping_of o.aggregation a o) _ (λ g _.
+        let c = g.count * o.block in
+        yields_bind (require (leb c max_coarse) (CoarseTooLarge c)) _ (λ _ _.
+        yields_bind (require (covers room (coarse_needs c (entry_needs a o))) (CoarseListTooShort c)) _ (λ _ _.
+        yields_bind (transfer_for o.basis a o.block g.ids c) _ (λ t h.
+        let m = averaged_square c (coarse_matrix a o g t) in
+        yields_bind (coarse_factor c m) _ (λ _ _.
+        yielded (record { damping = yields_at (transfer_fits_lem o.basis a o.block g.ids c) h; scale = largest_fits m (averages_fit c (coarse_matrix a o g t) (matrix_fits_lem a o g t)) })))))))))

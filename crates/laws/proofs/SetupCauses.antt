@@ -1,37 +1,34 @@
--- Setup never answers 19, 20 or 21. These come from the diagonal sums, which setup takes only once its blocks are accepted; and then every diagonal sum is there, finite and above
--- zero (`sum_positive`). Every other stage has causes of its own. So a row that would be one of the three makes its block a cause of 14 or 15.
+-- The causes 19, 20 and 21 come from the diagonal sums, which setup takes only once its blocks are accepted; and then every diagonal sum is there, finite and above
+-- zero (`sum_positive`). Every other stage has causes of its own. So a row that would be one of the three makes its block a cause of 14 or 15. SetupClear has the theorem.
 use mathlib.Core.Path.{◌≡◌, refl, ◌∙◌, subst}
 use mathlib.Core.Bool.{Bool, true, false, not, ◌&&◌, ◌||◌}
 use mathlib.Core.List.{List, [], ◌∷◌, ◌++◌}
 use Prim.Native.Nat.{ℕ, zero, suc, ◌+◌, ◌*◌, ◌≤◌, ◌<◌}
 use native.Mathlib.Nat.{not-suc-le-zero, lt_irrefl, le_refl, le_of_lt, mul-pos, zero-lt-suc}
 use native.Mathlib.Omega.{arith}
-use lib.Dec.{T, leb, ltb, eqb, leb→le, ltb→lt, eqb→eq}
+use lib.Dec.{T, leb, ltb, eqb, ltb→lt, eqb→eq}
 use lib.ListN.{get_or, set, replicate}
 use lib.Ieee.{Float, nan, inf, fin, up, down, lt, eq, of_bits}
-use lib.Ieee.Fits.{and_l, and_r, up_pos}
+use lib.Ieee.Fits.{up_pos}
 use lib.Ieee.Positive.{positive}
 use Rattle.definitions.specs.Numbers.{◌*ᶠ◌, rootᶠ, zeroᶠ, oneᶠ, symmetry_tol, pivot_tol, larger, largest, total, usable, above}
 use Rattle.definitions.specs.Refusal.{Outcome, refused, done, require, ◌>>=◌, number_of, cause_of}
 use Rattle.definitions.specs.Matrix.{Matrix, stored_at, structure_of, valid_of}
 use Rattle.definitions.specs.Factor.{rest, below_diagonal, factor_rows}
-use Rattle.definitions.specs.Block.{max_block, block_count, width_of, block_of, in_block, top_of, skewed, block_factor, factors_from, factors_of}
-use Rattle.definitions.specs.Diagonal.{diagonal_from, diagonal_of}
-use Rattle.definitions.specs.Estimate.{usable_from, normalised, rounds, image, start_of, inverse_roots, rho_of, estimate_of}
-use Rattle.definitions.specs.Coarse.{packed, packed_length, entry_in, averaged_square, coarse_factor}
-use Rattle.definitions.specs.Places.{node_count, Lengths}
-use Rattle.definitions.specs.Setup.{front_of, graph_of, grouping_of, transfer_for, coarse_matrix, Built, setup_of}
+use Rattle.definitions.specs.Block.{width_of, block_of, in_block, top_of, skewed, block_factor, factors_from}
+use Rattle.definitions.specs.Diagonal.{diagonal_from}
+use Rattle.definitions.specs.Estimate.{usable_from}
+use Rattle.definitions.specs.Coarse.{packed, packed_length, entry_in, coarse_factor}
+use Rattle.definitions.specs.Places.{node_count}
+use Rattle.definitions.specs.Setup.{front_of, graph_of, grouping_of}
 use Rattle.definitions.specs.declared.Options.{Options}
 use Rattle.definitions.specs.declared.Refusal.{Refusal}
-use Rattle.definitions.specs.declared.Refusal.TheVariants.{TooLarge, RowListLength, ColumnListLength, FirstPointer, LastPointer, PointerFalls, ColumnOutside, ValueNotFinite, NotSquare, BlockSize, GroupSize, NotMultiple, ListTooShort, BlockNotSymmetric, BlockPivot, NoNode, CoarseTooLarge, CoarseListTooShort, MissingDiagonal, ZeroDiagonal, NegativeDiagonal, EstimateFailed, CoarseScale, CoarsePivot}
+use Rattle.definitions.specs.declared.Refusal.TheVariants.{TooLarge, RowListLength, ColumnListLength, FirstPointer, LastPointer, PointerFalls, ColumnOutside, ValueNotFinite, NotSquare, BlockSize, GroupSize, NotMultiple, BlockNotSymmetric, BlockPivot, NoNode, MissingDiagonal, ZeroDiagonal, NegativeDiagonal, CoarseScale, CoarsePivot}
 use Rattle.definitions.specs.declared.TwoLevelAggregation.{TwoLevelAggregation}
 use Rattle.definitions.specs.declared.TwoLevelAggregation.TheVariants.{Contiguous, Graph, StrongGraph}
-use Rattle.definitions.specs.declared.TwoLevelBasis.{TwoLevelBasis}
-use Rattle.definitions.specs.declared.TwoLevelBasis.TheVariants.{PiecewiseConstant, JacobiSmoothed}
 use Rattle.laws.proofs.Lists.{Each, none, more, each_head, each_tail, each_append}
-use Rattle.laws.proofs.Outcomes.{done_inj, refused_not_done, bind_done, test_passed}
+use Rattle.laws.proofs.Outcomes.{done_inj, refused_not_done}
 use Rattle.laws.proofs.Same.{nil}
-use Rattle.laws.proofs.Diagonals.{sum_positive}
 
 -- ---- what is not refused by one of the three
 
@@ -39,7 +36,7 @@ use Rattle.laws.proofs.Diagonals.{sum_positive}
 abbrev pub from_diagonal : Refusal → Bool
 from_diagonal r = leb 19 (number_of r) && leb (number_of r) 21
 
-abbrev Clear : {A : Type 0} → Outcome A → Type 0
+abbrev pub Clear : {A : Type 0} → Outcome A → Type 0
 Clear (refused r) = T (not (from_diagonal r))
 Clear (done x) = Unit {0}
 
@@ -48,13 +45,13 @@ unfolding require
 clear_require true r h = tt
 clear_require false r h = h
 
-clear_bind : {A B : Type 0} (x : Outcome A) (f : A → Outcome B) → Clear x → ((v : A) → x ≡ done v → Clear (f v)) → Clear (x >>= f)
+pub clear_bind : {A B : Type 0} (x : Outcome A) (f : A → Outcome B) → Clear x → ((v : A) → x ≡ done v → Clear (f v)) → Clear (x >>= f)
 unfolding ◌>>=◌
 clear_bind (refused r) f h k = h
 clear_bind (done v) f h k = k v refl
 
 -- a test, and what follows it
-clear_test : {B : Type 0} (b : Bool) (r : Refusal) (f : Unit {0} → Outcome B) → T (not (from_diagonal r)) → (T b → Clear (f tt)) → Clear (require b r >>= f)
+pub clear_test : {B : Type 0} (b : Bool) (r : Refusal) (f : Unit {0} → Outcome B) → T (not (from_diagonal r)) → (T b → Clear (f tt)) → Clear (require b r >>= f)
 unfolding require ◌>>=◌
 clear_test true r f h k = k tt
 clear_test false r f h k = h
@@ -76,7 +73,7 @@ valid_clear : (a : Matrix) → Clear (valid_of a)
 unfolding valid_of number_of cause_of
 valid_clear a = clear_bind (structure_of a) _ (structure_clear a) (λ _ _. clear_require _ ValueNotFinite tt)
 
-front_clear : (a : Matrix) (o : Options) → Clear (front_of a o)
+pub front_clear : (a : Matrix) (o : Options) → Clear (front_of a o)
 unfolding front_of number_of cause_of
 front_clear a o =
     clear_bind (valid_of a) _ (valid_clear a) (λ _ _.
@@ -112,12 +109,12 @@ block_clear a start w = go (skewed (block_of a start w) w (symmetry_tol *ᶠ top
     go true = tt
     go false = factor_clear (in_block w) (λ i. BlockPivot (start + i)) (λ i j. get_or (block_of a start w) (in_block w i j) nan) (pivot_tol *ᶠ top_of (block_of a start w)) (λ i. tt) w 0 (replicate (w * w) zeroᶠ)
 
-factors_clear : (a : Matrix) (size left k : ℕ) (fs : List Float) → Clear (factors_from a size left k fs)
+pub factors_clear : (a : Matrix) (size left k : ℕ) (fs : List Float) → Clear (factors_from a size left k fs)
 unfolding factors_from
 factors_clear a size zero k fs = tt
 factors_clear a size (suc left) k fs = clear_bind (block_factor a (k * size) (width_of a.rows size k)) _ (block_clear a (k * size) (width_of a.rows size k)) (λ l _. factors_clear a size left (suc k) (fs ++ l))
 
-coarse_clear : (c : ℕ) (m : List Float) → Clear (coarse_factor c m)
+pub coarse_clear : (c : ℕ) (m : List Float) → Clear (coarse_factor c m)
 unfolding coarse_factor number_of cause_of
 coarse_clear c m =
     clear_test _ CoarseScale _ tt (λ _.
@@ -129,7 +126,7 @@ graph_clear : (lists : List (List ℕ)) (nodes size : ℕ) → Clear (graph_of l
 unfolding graph_of number_of cause_of
 graph_clear lists nodes size = clear_test _ NoNode _ tt (λ _. tt)
 
-grouping_clear : (g : TwoLevelAggregation) (a : Matrix) (o : Options) → Clear (grouping_of g a o)
+pub grouping_clear : (g : TwoLevelAggregation) (a : Matrix) (o : Options) → Clear (grouping_of g a o)
 unfolding grouping_of
 grouping_clear Contiguous a o = tt
 grouping_clear Graph a o = graph_clear _ (node_count a o) o.group
@@ -137,7 +134,7 @@ grouping_clear StrongGraph a o = graph_clear _ (node_count a o) o.group
 
 -- ---- the diagonal sums, all of them positive
 
-abbrev Positive : Float → Type 0
+abbrev pub Positive : Float → Type 0
 Positive x = T (positive x)
 
 -- a sum of nothing is not
@@ -151,7 +148,7 @@ here x y = omega arith
 over : (x y r : ℕ) → r < suc x + y → r < x + suc y
 over x y r l = omega arith
 
-diagonal_clear : (a : Matrix) (left i : ℕ) (sums : List Float) → ((r : ℕ) → i ≤ r → r < i + left → Positive (total (stored_at a r r))) → Clear (diagonal_from a left i sums)
+pub diagonal_clear : (a : Matrix) (left i : ℕ) (sums : List Float) → ((r : ℕ) → i ≤ r → r < i + left → Positive (total (stored_at a r r))) → Clear (diagonal_from a left i sums)
 unfolding diagonal_from
 diagonal_clear a zero i sums P = tt
 diagonal_clear a (suc left) i sums P = go (stored_at a i i) (some_stored (stored_at a i i) (P i (le_refl i) (here i left)))
@@ -162,7 +159,7 @@ diagonal_clear a (suc left) i sums P = go (stored_at a i i) (some_stored (stored
     go [] f k = absurd (f refl)
     go (v ∷ ws) f k = k
 
-diagonal_sums : (a : Matrix) (left i : ℕ) (sums out : List Float) → ((r : ℕ) → i ≤ r → r < i + left → Positive (total (stored_at a r r))) → Each Positive sums
+pub diagonal_sums : (a : Matrix) (left i : ℕ) (sums out : List Float) → ((r : ℕ) → i ≤ r → r < i + left → Positive (total (stored_at a r r))) → Each Positive sums
     → diagonal_from a left i sums ≡ done out → Each Positive out
 unfolding diagonal_from
 diagonal_sums a zero i sums out P k e = subst (Each Positive) (done_inj e) k
@@ -202,7 +199,7 @@ positive_not_below (fin false m e) h = go (ltb (m * up e * 1) (0 * 1 * down e)) 
     go true f = not-suc-le-zero (subst (λ (x : ℕ). m * up e * 1 < x) (nil 1 (down e)) (f tt))
     go false f = tt
 
-usable_clear : (i : ℕ) (ds : List Float) → Each Positive ds → Clear (usable_from i ds)
+pub usable_clear : (i : ℕ) (ds : List Float) → Each Positive ds → Clear (usable_from i ds)
 unfolding usable_from
 usable_clear i [] k = tt
 usable_clear i (d ∷ ds) k = go (usable d) (positive_usable d (each_head k)) (lt d zeroᶠ) (positive_not_below d (each_head k)) (usable_clear (suc i) ds (each_tail k))
@@ -212,66 +209,3 @@ usable_clear i (d ∷ ds) k = go (usable d) (positive_usable d (each_head k)) (l
     go true p true q c = absurd q
     go true p false q c = c
     go false p n q c = absurd p
-
--- ---- the estimate and the transfer
-
-normalised_clear : (stage : ℕ) (x : List Float) → Clear (normalised stage x)
-unfolding normalised number_of cause_of
-normalised_clear stage x = clear_test _ (EstimateFailed stage) _ tt (λ _. tt)
-
-rounds_clear : (a : Matrix) (s : List Float) (k : ℕ) (x : List Float) → Clear (rounds a s k x)
-unfolding rounds
-rounds_clear a s zero x = tt
-rounds_clear a s (suc k) x = clear_bind (normalised 2 (image a s x)) _ (normalised_clear 2 (image a s x)) (λ y _. rounds_clear a s k y)
-
-estimate_clear : (a : Matrix) (d : List Float) → Each Positive d → Clear (estimate_of a d)
-unfolding estimate_of number_of cause_of
-estimate_clear a d k =
-    clear_bind (usable_from 0 d) _ (usable_clear 0 d k) (λ _ _.
-    clear_bind (normalised 1 (start_of a.rows)) _ (normalised_clear 1 (start_of a.rows)) (λ x _.
-    clear_bind (rounds a (inverse_roots d) 10 x) _ (rounds_clear a (inverse_roots d) 10 x) (λ y _.
-    clear_bind (done (rho_of a (inverse_roots d) y)) _ tt (λ rho _.
-    clear_test _ (EstimateFailed 3) _ tt (λ _.
-    clear_test _ (EstimateFailed 4) _ tt (λ _. tt))))))
-
-transfer_clear : (basis : TwoLevelBasis) (a : Matrix) (size : ℕ) (ids : List ℕ) (c : ℕ) → ((r : ℕ) → r < a.rows → Positive (total (stored_at a r r))) → Clear (transfer_for basis a size ids c)
-unfolding transfer_for diagonal_of
-transfer_clear PiecewiseConstant a size ids c P = tt
-transfer_clear JacobiSmoothed a size ids c P =
-    clear_bind (diagonal_of a) _ (diagonal_clear a a.rows 0 [] all_rows) (λ d e.
-    clear_bind (estimate_of a d) _ (estimate_clear a d (diagonal_sums a a.rows 0 [] d all_rows none e)) (λ _ _. tt))
-  where
-    plain : (x y : ℕ) → x < 0 + y → x < y
-    plain x y l = omega arith
-
-    all_rows : (r : ℕ) → 0 ≤ r → r < 0 + a.rows → Positive (total (stored_at a r r))
-    all_rows r h l = P r (plain r a.rows l)
-
--- ---- setup
-
-block_sizes : (a : Matrix) (o : Options) → front_of a o ≡ done tt → (1 ≤ o.block) × (o.block ≤ max_block)
-unfolding front_of
-block_sizes a o e =
-    let v = bind_done (valid_of a) _ tt e in
-    let f1 = test_passed _ NotSquare _ tt v.2 in
-    let f2 = test_passed _ BlockSize _ tt f1.1 in
-    (leb→le 1 o.block (and_l (leb 1 o.block) (leb o.block max_block) f2.0), leb→le o.block max_block (and_r (leb 1 o.block) (leb o.block max_block) f2.0))
-
-setup_clear : (a : Matrix) (o : Options) (room : Lengths) → Clear (setup_of a o room)
-unfolding setup_of number_of cause_of factors_of
-setup_clear a o room =
-    clear_bind (front_of a o) _ (front_clear a o) (λ _ front.
-    clear_test _ ListTooShort _ tt (λ _.
-    clear_bind (factors_of a o.block) _ (factors_clear a o.block (block_count a.rows o.block) 0 []) (λ factors factored.
-    clear_bind (grouping_of o.aggregation a o) _ (grouping_clear o.aggregation a o) (λ g _.
-    clear_bind (done (g.count * o.block)) _ tt (λ c _.
-    clear_test _ (CoarseTooLarge c) _ tt (λ _.
-    clear_test _ (CoarseListTooShort c) _ tt (λ _.
-    clear_bind (transfer_for o.basis a o.block g.ids c) _
-    (transfer_clear o.basis a o.block g.ids c (λ r l. let b = block_sizes a o front in sum_positive a o.block b.0 factors factored r l)) (λ t _.
-    clear_bind (done (averaged_square c (coarse_matrix a o g t))) _ tt (λ m _.
-    clear_bind (coarse_factor c m) _ (coarse_clear c m) (λ _ _. tt))))))))))
-
--- THE THEOREM
-pub setup_causes : (a : Matrix) (o : Options) (room : Lengths) (r : Refusal) → setup_of a o room ≡ refused r → T (not (from_diagonal r))
-setup_causes a o room r e = subst (λ (x : Outcome Built). Clear x) e (setup_clear a o room)

@@ -30,7 +30,8 @@ use Rattle.definitions.specs.declared.TwoLevelBasis.{TwoLevelBasis}
 use Rattle.definitions.specs.declared.TwoLevelBasis.TheVariants.{PiecewiseConstant, JacobiSmoothed}
 use Rattle.definitions.specs.declared.TwoLevelCoarseApplyPolicy.{TwoLevelCoarseApplyPolicy}
 use Rattle.laws.proofs.Lists.{Each, none, each_imp, each_any, each_both, each_keep, each_up_to, get_d_tab, get_d_rows}
-use Rattle.laws.proofs.Near.{Near, Nears, both_none, near_add, near_scale, near_total, near_summed, nears_map, nears_flat_map}
+use Rattle.laws.proofs.Near.{Near, Nears, both_none, near_add, near_scale, nears_map, nears_flat_map}
+use Rattle.laws.proofs.NearSums.{near_total, near_summed}
 use Rattle.laws.proofs.Outcomes.{done_inj, bind_done}
 use Rattle.separation.proofs.SolveApart.{Parted, split, differ_back, coarse_near, block_near, block_length}
 use Rattle.separation.proofs.FactorApart.{coarse_factor_vanish}

@@ -17,7 +17,8 @@ use Rattle.definitions.specs.declared.Options.{Options}
 use Rattle.definitions.specs.declared.Setup.{Setup}
 use Rattle.definitions.specs.declared.TwoLevelCoarseApplyPolicy.TheVariants.{FactorSolve}
 use Rattle.laws.proofs.Lists.{get_d_square}
-use Rattle.laws.proofs.FiniteFactor.{FiniteFactor, factors_finite, coarse_finite}
+use Rattle.laws.proofs.FiniteFactor.{FiniteFactor}
+use Rattle.laws.proofs.FiniteFactors.{factors_finite, coarse_finite}
 use Rattle.laws.proofs.Record.{entry_fits}
 use Rattle.separation.proofs.Stages.{Stages, dimension, coarse_averaged, built, sound, stages_of}
 use Rattle.laws.proofs.SetupLists.{blocks_are_nodes, width_is_size}

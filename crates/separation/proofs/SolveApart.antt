@@ -16,7 +16,8 @@ use Rattle.definitions.specs.Coarse.{entry_in, averaged, averaged_square, packed
 use Rattle.definitions.specs.declared.TwoLevelCoarseApplyPolicy.{TwoLevelCoarseApplyPolicy}
 use Rattle.definitions.specs.declared.TwoLevelCoarseApplyPolicy.TheVariants.{Auto, FactorSolve, ExplicitInverse}
 use Rattle.laws.proofs.Lists.{get_d_tab, get_d_square, get_d_rows, each_tab}
-use Rattle.laws.proofs.Near.{Near, Vanishing, near_scale, near_lost, near_sub, near_div, near_summed, near_reduced, nears_tab, vanish_add, vanish_sub, vanish_mul_l, vanish_mul_r, vanish_div, vanish_summed, vanish_zero, zero_zero}
+use Rattle.laws.proofs.Near.{Near, Vanishing, near_scale, near_lost, near_sub, near_div, nears_tab, vanish_add, vanish_sub, vanish_mul_l, vanish_mul_r, vanish_div, vanish_summed, vanish_zero, zero_zero}
+use Rattle.laws.proofs.NearSums.{near_summed, near_reduced}
 use Rattle.separation.proofs.Solves.{grown_all, stacked_all, stacked_length}
 
 pub split : (b : Bool) → T b ⊎ T (not b)

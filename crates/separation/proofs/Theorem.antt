@@ -91,20 +91,26 @@ module _ {a : Matrix} {o : Options} (s : Stages a o) where
       numbers : Each (λ x. T (finite x)) (setup_formed a o s.factors s.groups s.transfer s.factor ++ apply_formed (built s).setup (built s).ints (built s).floats r)
       numbers = each_all (λ x. finite x) _ (subst (λ (x : Outcome (List Float)). T (all_finite x)) (formed_is s r) f)
 
-  -- row by row: of all the numbers formed, only the two that are handed out for the row need be finite
-  pub separation_at : (part : ℕ → Bool) → T (follows_graph o.aggregation) → T (unconnected a o.block [] part) → (r r' : List Float) → length r ≡ a.rows → length r' ≡ a.rows
+  -- row by row the two corrections are near, whatever is formed on the way
+  near_at : (part : ℕ → Bool) → T (follows_graph o.aggregation) → T (unconnected a o.block [] part) → (r r' : List Float) → length r ≡ a.rows → length r' ≡ a.rows
       → T (f64s r) → T (f64s r') → T (agree part o.block a.rows r r')
-      → (i : ℕ) → i < a.rows → T (part (i / o.block)) → T (finite (get_or (applied_by s r) i nan)) → T (finite (get_or (applied_by s r') i nan))
-      → T (eq (get_or (applied_by s r) i nan) (get_or (applied_by s r') i nan))
+      → (i : ℕ) → i < a.rows → T (part (i / o.block)) → Near (get_or (applied_by s r) i nan) (get_or (applied_by s r') i nan)
   unfolding f64s
-  separation_at part graph unlinked r r' long long' held held' same i h t f f' =
-      near_to_eq (get_or (applied_by s r) i nan) (get_or (applied_by s r') i nan) (applied_near s part graph unlinked r r' long long' residuals i h t) f f'
+  near_at part graph unlinked r r' long long' held held' same = applied_near s part graph unlinked r r' long long' residuals
     where
       fits_at : (x : List Float) → length x ≡ a.rows → T (all (λ y. fits binary64 y) x) → (k : ℕ) → k < a.rows → T (fits binary64 (get_or x k nan))
       fits_at x l g k m = each_at {P = λ y. T (fits binary64 y)} x k nan (each_all (λ y. fits binary64 y) x g) (subst (λ (n : ℕ). k < n) (sym l) m)
 
       residuals : (k : ℕ) → k < a.rows → T (part (k / o.block)) → Near (get_or r k nan) (get_or r' k nan)
       residuals k m u = near_of_eq (get_or r k nan) (get_or r' k nan) (fits_at r long held k m) (fits_at r' long' held' k m) (agree_at part o.block a.rows r r' same k m u)
+
+  -- row by row: of all the numbers formed, only the two that are handed out for the row need be finite
+  pub separation_at : (part : ℕ → Bool) → T (follows_graph o.aggregation) → T (unconnected a o.block [] part) → (r r' : List Float) → length r ≡ a.rows → length r' ≡ a.rows
+      → T (f64s r) → T (f64s r') → T (agree part o.block a.rows r r')
+      → (i : ℕ) → i < a.rows → T (part (i / o.block)) → T (finite (get_or (applied_by s r) i nan)) → T (finite (get_or (applied_by s r') i nan))
+      → T (eq (get_or (applied_by s r) i nan) (get_or (applied_by s r') i nan))
+  separation_at part graph unlinked r r' long long' held held' same i h t f f' =
+      near_to_eq (get_or (applied_by s r) i nan) (get_or (applied_by s r') i nan) (near_at part graph unlinked r r' long long' held held' same i h t) f f'
 
 agreeing_done : (part : ℕ → Bool) (size rows : ℕ) (x y : List Float) (u v : Outcome (List Float)) → u ≡ done x → v ≡ done y → T (agree part size rows x y)
     → T (agreeing part size rows u v)
@@ -118,7 +124,8 @@ pub vectors_agree : (a : Matrix) (o : Options) (part : ℕ → Bool) (r r' : Lis
     → T (agree part o.block a.rows (applied_by s r) (applied_by s r'))
 vectors_agree a o part r r' A s =
     agree_by part o.block a.rows (applied_by s r) (applied_by s r')
-    (λ i h t. separation_at s part A.graph A.unlinked r r' A.long A.long' (and_r (f64s a.values) (f64s r) (and_l (f64s a.values && f64s r) (f64s r') A.are_f64)) (and_r (f64s a.values && f64s r) (f64s r') A.are_f64) A.same i h t
+    (λ i h t. near_to_eq (get_or (applied_by s r) i nan) (get_or (applied_by s r') i nan)
+    (near_at s part A.graph A.unlinked r r' A.long A.long' (and_r (f64s a.values) (f64s r) (and_l (f64s a.values && f64s r) (f64s r') A.are_f64)) (and_r (f64s a.values && f64s r) (f64s r') A.are_f64) A.same i h t)
     (outputs_finite s r A.long A.formed_finite i h) (outputs_finite s r' A.long' A.formed_finite' i h))
 
 pub separation : Separation
@@ -143,4 +150,5 @@ separation_by_row a o part r r' z z' graph unlinked same long long' held held' e
     let u : applied_by s r ≡ z = done_inj (sym (corrected_here s d r long) ∙ e) in
     let u' : applied_by s r' ≡ z' = done_inj (sym (corrected_here s d r' long') ∙ e') in
     subst (λ (w : List Float). T (eq (get_or w i nan) (get_or z' i nan))) u (subst (λ (w : List Float). T (eq (get_or (applied_by s r) i nan) (get_or w i nan))) u'
-    (separation_at s part graph unlinked r r' long long' held held' same i h t (subst (λ (w : List Float). T (finite (get_or w i nan))) (sym u) f) (subst (λ (w : List Float). T (finite (get_or w i nan))) (sym u') f')))
+    (near_to_eq (get_or (applied_by s r) i nan) (get_or (applied_by s r') i nan) (near_at s part graph unlinked r r' long long' held held' same i h t)
+    (subst (λ (w : List Float). T (finite (get_or w i nan))) (sym u) f) (subst (λ (w : List Float). T (finite (get_or w i nan))) (sym u') f')))
