@@ -1,4 +1,6 @@
 // A float's pattern of 64 bits, and the float of a pattern. All NaNs are one.
+#![tactic(auto)]
+
 ghost use Rattle.std.specs.Prelude.{◌≡◌};
 ghost use Rattle.std.specs.Float.{binary64};
 ghost use Rattle.std.specs.Float.Ieee.{of_bits, to_bits};

@@ -1,27 +1,37 @@
 // Reads nodes, size and what each node lists from standard input, piece by piece, and prints the groups.
-use grouping_text::Reader;
+#![tactic(auto)]
 
-// Reads the input to its end. A proved loop has to end, and nothing says that the input does: so it counts its turns down, from a number
-// that no input uses up.
-fn read_all(numbers: &mut [u32]) -> Reader {
-    let mut piece = io::large_buffer();
+ghost use Rattle.std.specs.Prelude.{◌≡◌, ℕ, List, IfOk};
+ghost use Rattle.std.specs.Io.KnownBytes.{Consumes};
+ghost use Rattle.grouping_text.specs.Feeding.{fresh, held, fed};
+
+use grouping_text::Reader;
+use std::io;
+use std::io::Read;
+
+// Reads the input to its end. A proved loop has to end, and nothing says that the input does: so it counts its turns, up to a number that no
+// input uses up.
+fn read_all<R: Read>(input: &mut R, numbers: &mut [u32]) -> io::Result<Reader>
+    ensures { IfOk result (λ reader. (text : List ℕ)
+        × Consumes (R.remaining input.old) (R.remaining input.new) text
+        × (held reader numbers.new ≡ fed text (held fresh numbers.old))) }
+{
+    let mut piece = [0u8; 65536];
     let mut reader = grouping_text::start();
-    let mut turns = u64::MAX;
-    while 0 < turns {
-        let n = io::read_full(0, &mut piece);
-        reader = grouping_text::feed(reader, &piece[..n], numbers);
-        if n < 65536 {
-            return reader;
+    for _ in 0..u64::MAX {
+        let n = input.read(&mut piece)?;
+        if n == 0 {
+            return Ok(reader);
         }
-        turns -= 1;
+        reader = grouping_text::feed(reader, &piece[..n], numbers);
     }
-    reader
+    Ok(reader)
 }
 
-fn main() {
+fn main(rt: HostRuntime) -> io::Result<()> {
     let mut numbers = [0u32; grouping_text::ROOM];
-    let reader = read_all(&mut numbers);
+    let reader = read_all(&mut rt.reader(), &mut numbers)?;
     let mut out = [0u8; 2059];
     let m = grouping_text::finish(reader, &mut numbers, &mut out);
-    io::write_all(1, &out[..m]);
+    rt.write_all(&out[..m])
 }

@@ -169,7 +169,7 @@ taken_on false false value count l = ap (λ ns. record { numbers = ns; whole = f
 
 -- ---- THE PIECES DO NOT MATTER
 
-fed_append : (a b : List ℕ) (h : Held) → fed (a ++ b) h ≡ fed b (fed a h)
+pub fed_append : (a b : List ℕ) (h : Held) → fed (a ++ b) h ≡ fed b (fed a h)
 unfolding fed
 fed_append [] b h = refl
 fed_append (x ∷ a) b h = fed_append a b (byte_in x h)

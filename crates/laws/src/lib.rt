@@ -1,1 +1,3 @@
+#![tactic(auto)]
+
 // Laws of the definitions, in proofs/; specs/ has words that contracts cite. No code.

@@ -1,4 +1,6 @@
 // Small tests on floats and on lengths, a quotient, and lists cleared, copied and scanned: what every stage uses.
+#![tactic(auto)]
+
 ghost use Rattle.std.specs.Prelude.{◌≡◌, ◌&&◌, ◌/◌, leb, length, replicate};
 ghost use Rattle.std.specs.Float.Ieee.Scale.{finite as is_finite};
 ghost use Rattle.definitions.specs.Numbers.{zeroᶠ, magnitude as magnitudeOf, larger as largerOf, usable as usableOf, above as above_of};

@@ -1,13 +1,18 @@
 // Replays the recorded answers of the Rust, document 01's examples among them, and says for each kind how many cases there are and how many differ.
+#![tactic(auto)]
+
 mod agreement; // agreement.rt: whether an answer is the recorded one
 mod alone; // alone.rt: the calls that stand alone
 mod lists; // lists.rt: lists to read into and to lend
 mod reading; // reading.rt: words and numbers of the text
 mod two_level; // two_level.rt: setup and the two-level apply
 
-ghost use Rattle.std.specs.Prelude.{◌≤◌};
+ghost use Rattle.std.specs.Prelude.{◌<◌, ◌≤◌, length, take, IfOk};
+ghost use Rattle.std.specs.Io.KnownBytes.{Consumes, IsAtEnd};
 
 use reading::{after, next_line};
+use std::io;
+use std::io::Read;
 
 // The kind whose word stands here; 7 for any other word.
 fn kind_at(text: &[u8], at: usize) -> usize
@@ -107,13 +112,14 @@ fn agrees(kind: usize, text: &[u8], at: usize) -> bool {
 }
 
 // Names a case that differs: the rest of its first line.
-fn name(text: &[u8], from: usize, to: usize) {
+fn name(rt: &impl Print, text: &[u8], from: usize, to: usize) -> io::Result<()> {
     if from <= to {
         if to <= text.len() {
-            io::write_all(1, b"differs: ");
-            io::write_all(1, &text[from..to]);
+            rt.write_all(b"differs: ")?;
+            rt.write_all(&text[from..to])?;
         }
     }
+    Ok(())
 }
 
 // A count that stops at a million.
@@ -121,17 +127,17 @@ fn one_more(n: u64) -> u64 {
     if n < 1_000_000 { n + 1 } else { n }
 }
 
-fn print(word: &[u8], cases: u64, differences: u64) {
-    io::write_all(1, word);
-    io::write_all(1, b": ");
-    io::print_decimal(1, cases);
-    io::write_all(1, b" cases, ");
-    io::print_decimal(1, differences);
-    io::write_all(1, b" differences\n");
+fn print(rt: &impl Print, word: &str, cases: u64, differences: u64) -> io::Result<()> {
+    println!(rt; "{word}: {cases} cases, {differences} differences")
 }
 
 // Counts and compares the cases of every kind, and names those that differ.
-fn replay(text: &[u8], cases: &mut [u64; 8], differences: &mut [u64; 8]) {
+fn replay(
+    rt: &impl Print,
+    text: &[u8],
+    cases: &mut [u64; 8],
+    differences: &mut [u64; 8],
+) -> io::Result<()> {
     let mut at: usize = 0;
     while at < text.len() {
         let from = after(text, at, b"case ");
@@ -141,33 +147,50 @@ fn replay(text: &[u8], cases: &mut [u64; 8], differences: &mut [u64; 8]) {
             cases[kind] = one_more(cases[kind]);
             if agrees(kind, text, next) {} else {
                 differences[kind] = one_more(differences[kind]);
-                name(text, from, next);
+                name(rt, text, from, next)?;
             }
         }
         at = next;
     }
+    Ok(())
 }
 
-fn replay_all(text: &[u8]) {
+fn replay_all(rt: &impl Print, text: &[u8]) -> io::Result<()> {
     let mut cases = [0u64; 8];
     let mut differences = [0u64; 8];
-    replay(text, &mut cases, &mut differences);
-    print(b"root", cases[0], differences[0]);
-    print(b"group", cases[1], differences[1]);
-    print(b"validate", cases[2], differences[2]);
-    print(b"diagonal", cases[3], differences[3]);
-    print(b"blocks", cases[4], differences[4]);
-    print(b"estimate", cases[5], differences[5]);
-    print(b"two_level", cases[6], differences[6]);
-    print(b"other", cases[7], differences[7]);
+    replay(rt, text, &mut cases, &mut differences)?;
+    print(rt, "root", cases[0], differences[0])?;
+    print(rt, "group", cases[1], differences[1])?;
+    print(rt, "validate", cases[2], differences[2])?;
+    print(rt, "diagonal", cases[3], differences[3])?;
+    print(rt, "blocks", cases[4], differences[4])?;
+    print(rt, "estimate", cases[5], differences[5])?;
+    print(rt, "two_level", cases[6], differences[6])?;
+    print(rt, "other", cases[7], differences[7])
 }
 
-fn main() {
-    let mut text = io::large_buffer();
-    let n = io::read_full(0, &mut text);
-    if 65536 <= n {
-        io::write_all(1, b"the text is too long\n");
-        return;
+// Reads until the list is full or the input ends, and says how many bytes.
+fn read_full<R: Read>(input: &mut R, text: &mut [u8]) -> io::Result<usize>
+    ensures within { IfOk result (λ n. n ≤ length text.old) }
+    ensures bytes { IfOk result (λ n. Consumes (R.remaining input.old) (R.remaining input.new) (take n text.new)) }
+    ensures end { IfOk result (λ n. n < length text.old → IsAtEnd (R.remaining input.new)) }
+{
+    let mut done: usize = 0;
+    while done < text.len() {
+        let n = input.read(&mut text[done..])?;
+        if n == 0 {
+            return Ok(done);
+        }
+        done += n;
     }
-    replay_all(&text[..n]);
+    Ok(done)
+}
+
+fn main(rt: HostRuntime) -> io::Result<()> {
+    let mut text = [0u8; 65536];
+    let n = read_full(&mut rt.reader(), &mut text)?;
+    if 65536 <= n {
+        return println!(rt; "the text is too long");
+    }
+    replay_all(&rt, &text[..n])
 }

@@ -1,4 +1,5 @@
 // Runs document 01's root examples, each as the patterns of a number and its root, and the published roots, and says how many of these agree.
+#![tactic(auto)]
 
 ghost use Rattle.std.specs.Prelude.{◌≡◌, ◌<◌};
 ghost use Rattle.std.specs.Float.{binary64};
@@ -8,6 +9,7 @@ ghost use Rattle.definitions.specs.Numbers.{rootᶠ};
 mod published;
 
 use published::ROOTS;
+use std::io;
 
 fn root_of(b: u64) -> u64
     ensures { result ≡ to_bits binary64 (rootᶠ (of_bits binary64 b)) }
@@ -37,18 +39,16 @@ fn agreeing() -> u64 {
     n
 }
 
-fn show(b: u64) {
-    io::print_hex(1, b, 16);
-    io::write_all(1, b" ");
-    io::print_hex(1, root_of(b), 16);
-    io::write_all(1, b"\n");
+fn show(rt: &impl Print, b: u64) -> io::Result<()> {
+    let root = root_of(b);
+    println!(rt; "{b:016x} {root:016x}")
 }
 
-fn main() {
+fn main(rt: HostRuntime) -> io::Result<()> {
     // 2, 2^-1074, the largest finite number
-    show(0x4000_0000_0000_0000);
-    show(0x0000_0000_0000_0001);
-    show(0x7fef_ffff_ffff_ffff);
-    io::print_decimal(1, agreeing());
-    io::write_all(1, b" of 105 published roots agree\n");
+    show(&rt, 0x4000_0000_0000_0000)?;
+    show(&rt, 0x0000_0000_0000_0001)?;
+    show(&rt, 0x7fef_ffff_ffff_ffff)?;
+    let n = agreeing();
+    println!(rt; "{n} of 105 published roots agree")
 }

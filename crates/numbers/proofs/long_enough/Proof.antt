@@ -1,7 +1,6 @@
 -- The second is asked only where the first is long enough.
 use borrow.Author.Tests.{le-leb, lt-leb}
 use native.Mathlib.Omega.{arith}
-use borrow.Author.Rules.{rules}
 use Rattle.numbers.proofs.long_enough.Statement.{statement}
 use Rattle.numbers.proofs.long_enough.Tie as tie
 
