@@ -1,4 +1,4 @@
-//! Links libyelomawin_bytes.a, which `rt staticlib yelomawin_bytes` writes. YELOMAWIN_LIB names its folder where that is another.
+//! Links libyelomawin_bytes.a, which `scripts/staticlib yelomawin_bytes` writes. YELOMAWIN_LIB names its folder where that is another.
 use std::path::{Path, PathBuf};
 
 fn main() {
@@ -10,7 +10,7 @@ fn main() {
     println!("cargo::rerun-if-env-changed=YELOMAWIN_LIB");
     println!("cargo::rerun-if-changed={}", library.display());
     if !library.is_file() {
-        println!("cargo::error=no libyelomawin_bytes.a in {}: run `rt staticlib yelomawin_bytes`, or set YELOMAWIN_LIB to the folder that has it", folder.display());
+        println!("cargo::error=no libyelomawin_bytes.a in {}: run `scripts/staticlib yelomawin_bytes`, or set YELOMAWIN_LIB to the folder that has it", folder.display());
     }
     println!("cargo::rustc-link-search=native={}", folder.display());
     println!("cargo::rustc-link-lib=static=yelomawin_bytes");

@@ -1,4 +1,4 @@
-//! Links libyelomawin.a, which `rt staticlib yelomawin` writes. YELOMAWIN_LIB names its folder where that is another.
+//! Links libyelomawin.a, which `scripts/staticlib yelomawin` writes. YELOMAWIN_LIB names its folder where that is another.
 use std::path::{Path, PathBuf};
 
 fn main() {
@@ -13,7 +13,7 @@ fn main() {
     if folder.is_relative() {
         println!("cargo::error=YELOMAWIN_LIB must be a full path, found '{}'", folder.display());
     } else if !library.is_file() {
-        println!("cargo::error=no libyelomawin.a in {}: run `rt staticlib yelomawin`, or set YELOMAWIN_LIB to the folder that has it", folder.display());
+        println!("cargo::error=no libyelomawin.a in {}: run `scripts/staticlib yelomawin`, or set YELOMAWIN_LIB to the folder that has it", folder.display());
     }
     println!("cargo::rustc-link-search=native={}", folder.display());
     println!("cargo::rustc-link-lib=static=yelomawin");

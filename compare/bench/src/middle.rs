@@ -7,7 +7,7 @@ use crate::table::{Row, counted};
 use cases::{Csr, answers};
 use hybit_precond::{BlockJacobiPreconditioner, probe};
 
-// Links libsetup_stages.a, which `rt staticlib setup_stages` writes: each answers 0 or the number of its cause.
+// Links libsetup_stages.a, which `scripts/staticlib setup_stages` writes: each answers 0 or the number of its cause.
 #[link(name = "setup_stages", kind = "static")]
 unsafe extern "C" {
     fn yelomawin_bench_neighbours(

@@ -1,4 +1,6 @@
 // The stages of setup that have no entry point of their own, exported for the benchmarks. Each answers 0, or the number of the cause that refuses it.
+#![tactic(auto)]
+
 ghost use Rattle.std.specs.Prelude.{◌≡◌, length, take, ◌*◌};
 ghost use Rattle.definitions.specs.Numbers.{zeroᶠ, largest};
 ghost use Rattle.definitions.specs.Refusal.{result_left, work_left};

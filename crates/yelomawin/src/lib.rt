@@ -12,15 +12,13 @@ mod answers;
 mod record;
 mod told;
 
-#[unsafe(no_mangle)]
-pub extern "C" fn yelomawin_root(x: f64) -> f64
+pub fn yelomawin_root(x: f64) -> f64
     ensures { result ≡ rootᶠ x }
 {
     root::root(x)
 }
 
-#[unsafe(no_mangle)]
-pub extern "C" fn yelomawin_validate(
+pub fn yelomawin_validate(
     rows: u64,
     cols: u64,
     row_ptr: &[u32],
@@ -33,8 +31,7 @@ pub extern "C" fn yelomawin_validate(
     told::number(answer)
 }
 
-#[unsafe(no_mangle)]
-pub extern "C" fn yelomawin_diagonal(
+pub fn yelomawin_diagonal(
     rows: u64,
     cols: u64,
     row_ptr: &[u32],
@@ -57,8 +54,7 @@ pub extern "C" fn yelomawin_diagonal(
     told::plain(a, answer)
 }
 
-#[unsafe(no_mangle)]
-pub extern "C" fn yelomawin_blocks(
+pub fn yelomawin_blocks(
     rows: u64,
     cols: u64,
     row_ptr: &[u32],
@@ -83,8 +79,7 @@ pub extern "C" fn yelomawin_blocks(
     told::plain(a, answer)
 }
 
-#[unsafe(no_mangle)]
-pub extern "C" fn yelomawin_block_apply(
+pub fn yelomawin_block_apply(
     rows: u64,
     block_size: u64,
     factors: &[f64],
@@ -105,8 +100,7 @@ pub extern "C" fn yelomawin_block_apply(
     told::plain(a, answer)
 }
 
-#[unsafe(no_mangle)]
-pub extern "C" fn yelomawin_group(
+pub fn yelomawin_group(
     nodes: u64,
     group_size: u64,
     offsets: &[u32],
@@ -129,8 +123,7 @@ pub extern "C" fn yelomawin_group(
     told::grouping(a, answer)
 }
 
-#[unsafe(no_mangle)]
-pub extern "C" fn yelomawin_group_log(
+pub fn yelomawin_group_log(
     nodes: u64,
     group_size: u64,
     offsets: &[u32],
@@ -155,8 +148,7 @@ pub extern "C" fn yelomawin_group_log(
     told::grouping_log(a, answer)
 }
 
-#[unsafe(no_mangle)]
-pub extern "C" fn yelomawin_estimate(
+pub fn yelomawin_estimate(
     rows: u64,
     cols: u64,
     row_ptr: &[u32],
@@ -182,8 +174,7 @@ pub extern "C" fn yelomawin_estimate(
 }
 
 // A number that is no policy answers 255, with every other list kept; the record receives zeros.
-#[unsafe(no_mangle)]
-pub extern "C" fn yelomawin_setup(
+pub fn yelomawin_setup(
     rows: u64,
     cols: u64,
     row_ptr: &[u32],
@@ -235,8 +226,7 @@ pub extern "C" fn yelomawin_setup(
 }
 
 // A list that is no record answers 26, with the correction and the work list kept.
-#[unsafe(no_mangle)]
-pub extern "C" fn yelomawin_apply(
+pub fn yelomawin_apply(
     record: &[u64],
     setup_ints: &[u32],
     setup_floats: &[f64],

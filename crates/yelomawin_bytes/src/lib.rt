@@ -24,8 +24,7 @@ ghost use Rattle.yelomawin_bytes.specs.Calls.{misfit, reads, writes, matrix_of, 
 mod fits;
 mod rooms;
 
-#[unsafe(no_mangle)]
-pub extern "C" fn yelomawin_bytes_root(bits: u64) -> u64
+pub fn yelomawin_bytes_root(bits: u64) -> u64
     ensures { result ≡ to_bits binary64 (rootᶠ (of_bits binary64 bits)) }
 {
     let x = float_bits::of_bits(bits);
@@ -33,8 +32,7 @@ pub extern "C" fn yelomawin_bytes_root(bits: u64) -> u64
     float_bits::bits_of(y)
 }
 
-#[unsafe(no_mangle)]
-pub extern "C" fn yelomawin_bytes_validate(
+pub fn yelomawin_bytes_validate(
     rows: u64,
     cols: u64,
     row_ptr: &[u8],
@@ -73,8 +71,7 @@ pub extern "C" fn yelomawin_bytes_validate(
     254
 }
 
-#[unsafe(no_mangle)]
-pub extern "C" fn yelomawin_bytes_diagonal(
+pub fn yelomawin_bytes_diagonal(
     rows: u64,
     cols: u64,
     row_ptr: &[u8],
@@ -132,8 +129,7 @@ pub extern "C" fn yelomawin_bytes_diagonal(
     254
 }
 
-#[unsafe(no_mangle)]
-pub extern "C" fn yelomawin_bytes_blocks(
+pub fn yelomawin_bytes_blocks(
     rows: u64,
     cols: u64,
     row_ptr: &[u8],
@@ -193,8 +189,7 @@ pub extern "C" fn yelomawin_bytes_blocks(
     254
 }
 
-#[unsafe(no_mangle)]
-pub extern "C" fn yelomawin_bytes_block_apply(
+pub fn yelomawin_bytes_block_apply(
     rows: u64,
     block_size: u64,
     factors: &[u8],
@@ -247,8 +242,7 @@ pub extern "C" fn yelomawin_bytes_block_apply(
 }
 
 // Grouping alone leaves all after every refusal.
-#[unsafe(no_mangle)]
-pub extern "C" fn yelomawin_bytes_group(
+pub fn yelomawin_bytes_group(
     nodes: u64,
     group_size: u64,
     offsets: &[u8],
@@ -300,8 +294,7 @@ pub extern "C" fn yelomawin_bytes_group(
 }
 
 // So does grouping with a log.
-#[unsafe(no_mangle)]
-pub extern "C" fn yelomawin_bytes_group_log(
+pub fn yelomawin_bytes_group_log(
     nodes: u64,
     group_size: u64,
     offsets: &[u8],
@@ -366,8 +359,7 @@ pub extern "C" fn yelomawin_bytes_group_log(
     254
 }
 
-#[unsafe(no_mangle)]
-pub extern "C" fn yelomawin_bytes_estimate(
+pub fn yelomawin_bytes_estimate(
     rows: u64,
     cols: u64,
     row_ptr: &[u8],
@@ -431,8 +423,7 @@ pub extern "C" fn yelomawin_bytes_estimate(
     254
 }
 
-#[unsafe(no_mangle)]
-pub extern "C" fn yelomawin_bytes_setup(
+pub fn yelomawin_bytes_setup(
     rows: u64,
     cols: u64,
     row_ptr: &[u8],
@@ -519,8 +510,7 @@ pub extern "C" fn yelomawin_bytes_setup(
     254
 }
 
-#[unsafe(no_mangle)]
-pub extern "C" fn yelomawin_bytes_apply(
+pub fn yelomawin_bytes_apply(
     record: &[u8],
     setup_ints: &[u8],
     setup_floats: &[u8],

@@ -1,0 +1,199 @@
+// What C and Rust link: the functions of `yelomawin` under their own names, each of which calls the library's and states its clauses again.
+#![tactic(auto)]
+
+ghost use Rattle.std.specs.Prelude.{◌≡◌};
+ghost use Rattle.definitions.specs.Numbers.{rootᶠ};
+ghost use Rattle.definitions.specs.Matrix.{csr, valid_of};
+ghost use Rattle.two_level_setup.specs.Promises.{lent_of};
+ghost use Rattle.definitions.specs.Answers.{answer_of, answer_number};
+ghost use Rattle.yelomawin.specs.Calls.{handed, result_work, log_lists, exported_diagonal, exported_blocks, exported_block_apply, exported_group, exported_group_log, exported_estimate, exported_setup, exported_apply};
+
+#[unsafe(no_mangle)]
+pub extern "C" fn yelomawin_root(x: f64) -> f64
+    ensures { result ≡ rootᶠ x }
+{
+    yelomawin::yelomawin_root(x)
+}
+
+#[unsafe(no_mangle)]
+pub extern "C" fn yelomawin_validate(
+    rows: u64,
+    cols: u64,
+    row_ptr: &[u32],
+    col_idx: &[u32],
+    values: &[f64],
+) -> u64
+    ensures { result ≡ answer_number (answer_of (valid_of (csr rows cols row_ptr.now col_idx.now values.now))) }
+{
+    yelomawin::yelomawin_validate(rows, cols, row_ptr, col_idx, values)
+}
+
+#[unsafe(no_mangle)]
+pub extern "C" fn yelomawin_diagonal(
+    rows: u64,
+    cols: u64,
+    row_ptr: &[u32],
+    col_idx: &[u32],
+    values: &[f64],
+    diagonal: &mut [f64],
+    answer: &mut [u64],
+) -> u64
+    ensures { handed result diagonal.new answer.new
+        ≡ exported_diagonal (csr rows cols row_ptr.now col_idx.now values.now) diagonal.old answer.old }
+{
+    yelomawin::yelomawin_diagonal(rows, cols, row_ptr, col_idx, values, diagonal, answer)
+}
+
+#[unsafe(no_mangle)]
+pub extern "C" fn yelomawin_blocks(
+    rows: u64,
+    cols: u64,
+    row_ptr: &[u32],
+    col_idx: &[u32],
+    values: &[f64],
+    block_size: u64,
+    factors: &mut [f64],
+    answer: &mut [u64],
+) -> u64
+    ensures { handed result factors.new answer.new
+        ≡ exported_blocks (csr rows cols row_ptr.now col_idx.now values.now) block_size factors.old answer.old }
+{
+    yelomawin::yelomawin_blocks(
+        rows, cols, row_ptr, col_idx, values, block_size, factors, answer,
+    )
+}
+
+#[unsafe(no_mangle)]
+pub extern "C" fn yelomawin_block_apply(
+    rows: u64,
+    block_size: u64,
+    factors: &[f64],
+    residual: &[f64],
+    correction: &mut [f64],
+    answer: &mut [u64],
+) -> u64
+    ensures { handed result correction.new answer.new
+        ≡ exported_block_apply rows block_size factors.now residual.now correction.old answer.old }
+{
+    yelomawin::yelomawin_block_apply(rows, block_size, factors, residual, correction, answer)
+}
+
+#[unsafe(no_mangle)]
+pub extern "C" fn yelomawin_group(
+    nodes: u64,
+    group_size: u64,
+    offsets: &[u32],
+    neighbours: &[u32],
+    ids: &mut [u32],
+    work: &mut [u32],
+    answer: &mut [u64],
+) -> u64
+    ensures { handed result (result_work ids.new work.new) answer.new
+        ≡ exported_group nodes group_size offsets.now neighbours.now ids.old work.old answer.old }
+{
+    yelomawin::yelomawin_group(nodes, group_size, offsets, neighbours, ids, work, answer)
+}
+
+#[unsafe(no_mangle)]
+pub extern "C" fn yelomawin_group_log(
+    nodes: u64,
+    group_size: u64,
+    offsets: &[u32],
+    neighbours: &[u32],
+    ids: &mut [u32],
+    log: &mut [u32],
+    work: &mut [u32],
+    answer: &mut [u64],
+) -> u64
+    ensures { handed result (log_lists ids.new log.new work.new) answer.new
+        ≡ exported_group_log nodes group_size offsets.now neighbours.now (log_lists ids.old log.old work.old) answer.old }
+{
+    yelomawin::yelomawin_group_log(
+        nodes, group_size, offsets, neighbours, ids, log, work, answer,
+    )
+}
+
+#[unsafe(no_mangle)]
+pub extern "C" fn yelomawin_estimate(
+    rows: u64,
+    cols: u64,
+    row_ptr: &[u32],
+    col_idx: &[u32],
+    values: &[f64],
+    diagonal: &[f64],
+    work: &mut [f64],
+    answer: &mut [u64],
+) -> u64
+    ensures { handed result work.new answer.new
+        ≡ exported_estimate (csr rows cols row_ptr.now col_idx.now values.now) diagonal.now work.old answer.old }
+{
+    yelomawin::yelomawin_estimate(rows, cols, row_ptr, col_idx, values, diagonal, work, answer)
+}
+
+// A number that is no policy answers 255, with every other list kept; the record receives zeros.
+#[unsafe(no_mangle)]
+pub extern "C" fn yelomawin_setup(
+    rows: u64,
+    cols: u64,
+    row_ptr: &[u32],
+    col_idx: &[u32],
+    values: &[f64],
+    block_size: u64,
+    group_size: u64,
+    aggregation: u64,
+    basis: u64,
+    coarse_policy: u64,
+    setup_ints: &mut [u32],
+    setup_floats: &mut [f64],
+    work_ints: &mut [u32],
+    work_floats: &mut [f64],
+    record: &mut [u64],
+) -> u64
+    ensures { handed result (lent_of setup_ints.new setup_floats.new work_ints.new work_floats.new) «record».new
+        ≡ exported_setup (csr rows cols row_ptr.now col_idx.now values.now) block_size group_size aggregation basis coarse_policy
+        (lent_of setup_ints.old setup_floats.old work_ints.old work_floats.old) «record».old }
+{
+    yelomawin::yelomawin_setup(
+        rows,
+        cols,
+        row_ptr,
+        col_idx,
+        values,
+        block_size,
+        group_size,
+        aggregation,
+        basis,
+        coarse_policy,
+        setup_ints,
+        setup_floats,
+        work_ints,
+        work_floats,
+        record,
+    )
+}
+
+// A list that is no record answers 26, with the correction and the work list kept.
+#[unsafe(no_mangle)]
+pub extern "C" fn yelomawin_apply(
+    record: &[u64],
+    setup_ints: &[u32],
+    setup_floats: &[f64],
+    residual: &[f64],
+    correction: &mut [f64],
+    work: &mut [f64],
+    answer: &mut [u64],
+) -> u64
+    ensures { handed result (result_work correction.new work.new) answer.new
+        ≡ exported_apply «record».now setup_ints.now setup_floats.now residual.now
+        correction.old work.old answer.old }
+{
+    yelomawin::yelomawin_apply(
+        record,
+        setup_ints,
+        setup_floats,
+        residual,
+        correction,
+        work,
+        answer,
+    )
+}
