@@ -1,6 +1,6 @@
 -- What a call hands out, from its parts and back.
 use Prim.Native.Nat.{ℕ}
-use mathlib.Core.Path.{◌≡◌, refl, ap}
+use mathlib.Core.Path.{◌≡◌, ap}
 use mathlib.Core.List.{List}
 use Rattle.yelomawin.specs.Calls.{Handed, handed, ResultWork, result_work, LogLists, log_lists}
 

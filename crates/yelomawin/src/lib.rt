@@ -1,4 +1,6 @@
 // The library's boundary: functions for C and Rust on the caller's own lists. Each answers 0 or the number of its refusal.
+#![tactic(auto)]
+
 ghost use Rattle.std.specs.Prelude.{◌≡◌};
 ghost use Rattle.definitions.specs.Numbers.{rootᶠ};
 ghost use Rattle.definitions.specs.Matrix.{csr, valid_of};

@@ -1,5 +1,7 @@
 // The library called with numbers and byte lists, as the differential runs call it. Typed lists are lent as room only.
 // Where a byte list is not of whole numbers, or lacks room, a call answers 254 and leaves every list as it was.
+#![tactic(auto)]
+
 ghost use Rattle.std.specs.Prelude.{◌≡◌, cond, ◌&&◌, [], length};
 ghost use Rattle.std.specs.Float.{binary64};
 ghost use Rattle.std.specs.Float.Ieee.{of_bits, to_bits};
