@@ -62,7 +62,8 @@ fn machine() -> String {
     let cpu = std::fs::read_to_string("/proc/cpuinfo").unwrap_or_default();
     let model = cpu.lines().find_map(|l| l.strip_prefix("model name")).map_or("an unknown processor", |l| l.trim_start_matches([' ', '\t', ':']));
     let cores = std::thread::available_parallelism().map_or(1, |n| n.get());
-    format!("{model}, {cores} cores, {}", std::env::var("RUSTC_VERSION").unwrap_or_else(|_| "an unknown rustc".into()))
+    let told = |name: &str, what: &str| std::env::var(name).unwrap_or_else(|_| what.into());
+    format!("{model}, {cores} cores, {}, {}", told("RUSTC_VERSION", "an unknown rustc"), told("RATTLE_VERSION", "an unknown Rattle"))
 }
 
 fn main() {
