@@ -1,4 +1,4 @@
-/* A two-level preconditioner for matrices of free-standing parts. Link with libyelomawin.a (`rt staticlib yelomawin`).
+/* A two-level preconditioner for matrices of free-standing parts. Link with libyelomawin.a (`scripts/staticlib yelomawin`).
  * compare/c/example.c is a whole program.
  *
  * Every function is total: it checks whatever it is given and answers 0, or the number of the first cause of refusal that it meets:

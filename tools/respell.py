@@ -107,6 +107,15 @@ def taken(t):
     return names
 
 
+def aliases(t):
+    """The names that a file gives by `as` to what it takes from this repository."""
+    names = set()
+    for m in re.finditer(r"^(?:pub |ghost )?use ([^\s{;]+?)\.\{([^}]*)\}", t, re.M):
+        if re.match(r"Rattle\.(%s)\." % "|".join(OURS), m[1]):
+            names |= set(re.findall(r" as ([^\s,}]+)", m[2]))
+    return names
+
+
 OURS = crates()
 
 
@@ -162,6 +171,9 @@ def main():
             for n in d:
                 if snake(n) != n:
                     ours.setdefault(n, set()).add(p)
+    # names that a file gives to what it takes from this repository
+    for p in texts((".antt", ".rt")):
+        local.setdefault(p, {}).update({n: snake(n) for n in aliases(read(p)) if snake(n) != n})
     names = {n: snake(n) for n in ours}
     whole = set()
     for p in texts((".antt",)):

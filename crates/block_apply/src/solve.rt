@@ -3,7 +3,7 @@ ghost use Rattle.std.specs.Prelude.{◌≡◌, suc, ◌+◌, ◌-◌, ◌*◌, �
 ghost use Rattle.std.specs.Float.{nan};
 ghost use Rattle.definitions.specs.Lists.{tab};
 ghost use Rattle.definitions.specs.Numbers.{reduced, ◌*ᶠ◌};
-ghost use Rattle.definitions.specs.Block.{lower, forward as forwardOf, backward as backwardOf, block_solve, max_block};
+ghost use Rattle.definitions.specs.Block.{lower, forward as forward_of, backward as backward_of, block_solve, max_block};
 
 // x less the first n products of z by the row of l that begins at start.
 fn row_rest(l: &[f64], z: &[f64], x: f64, start: usize, n: usize) -> f64
@@ -20,7 +20,7 @@ fn row_rest(l: &[f64], z: &[f64], x: f64, start: usize, n: usize) -> f64
 // L y = r: y into z.
 fn forward(l: &[f64], w: usize, r: &[f64], z: &mut [f64])
     requires { (length l.now ≡ w * w) × (length r.now ≡ w) × (length z.old ≡ w) × (w ≤ max_block) }
-    ensures { z.new ≡ forwardOf l.now w r.now w }
+    ensures { z.new ≡ forward_of l.now w r.now w }
 {
     for i in 0..w {
         let start = i * w;
@@ -44,7 +44,7 @@ fn column_rest(l: &[f64], w: usize, z: &[f64], x: f64, i: usize) -> f64
 // Lᵀ z = y, in place.
 fn backward(l: &[f64], w: usize, z: &mut [f64])
     requires { (length l.now ≡ w * w) × (length z.old ≡ w) × (w ≤ max_block) }
-    ensures { z.new ≡ backwardOf l.now w z.old w }
+    ensures { z.new ≡ backward_of l.now w z.old w }
 {
     for k in 0..w {
         let i = w - 1 - k;

@@ -1,6 +1,6 @@
 // A block's scale, and whether it is symmetric within a tolerance.
 ghost use Rattle.std.specs.Prelude.{◌≡◌, ◌<◌, ◌≤◌, length};
-ghost use Rattle.definitions.specs.Block.{top_of, skewed as skewedOf, max_block};
+ghost use Rattle.definitions.specs.Block.{top_of, skewed as skewed_of, max_block};
 ghost use Rattle.block_factor.specs.Dense.{dense, apart_at, row_apart};
 
 use super::dense::given;
@@ -39,7 +39,7 @@ fn row_skewed(a: &[f64; 64], w: usize, i: usize, tol: f64) -> bool
 
 pub(crate) fn skewed(a: &[f64; 64], w: usize, tol: f64) -> bool
     requires { w ≤ max_block }
-    ensures { result ≡ skewedOf (dense w a.now) w tol }
+    ensures { result ≡ skewed_of (dense w a.now) w tol }
 {
     let mut i: usize = 0;
     while i < w {

@@ -2,7 +2,7 @@
 #![tactic(auto)]
 
 ghost use Rattle.std.specs.Prelude.{◌≡◌, true, ◌≤◌, length};
-ghost use Rattle.definitions.specs.Numbers.{zeroᶠ, nonzeros as nonzerosOf};
+ghost use Rattle.definitions.specs.Numbers.{zeroᶠ, nonzeros as nonzeros_of};
 ghost use Rattle.definitions.specs.Matrix.{csr, max_rows};
 ghost use Rattle.definitions.specs.Refusal.{result_left, work_left};
 ghost use Rattle.definitions.specs.Answers.{answer_of};
@@ -275,7 +275,7 @@ pub fn galerkin_coarse(
 
 // How many numbers of a list are not zero; -0 is zero.
 pub fn nonzeros(m: &[f64]) -> u64
-    ensures { result ≡ nonzerosOf m.now }
+    ensures { result ≡ nonzeros_of m.now }
 {
     let mut count = 0;
     for k in 0..m.len() {

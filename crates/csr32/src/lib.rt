@@ -4,7 +4,7 @@
 ghost use Rattle.std.specs.Prelude.{◌≡◌, ◌≤◌, ◌<◌, eqb, length};
 ghost use Rattle.definitions.specs.Numbers.{zeroᶠ, total};
 ghost use Rattle.definitions.specs.Refusal.{result_left};
-ghost use Rattle.definitions.specs.Matrix.{csr, max_rows, max_entries, structure_of, valid_of, stored as storedFrom, values_where};
+ghost use Rattle.definitions.specs.Matrix.{csr, max_rows, max_entries, structure_of, valid_of, stored as stored_from, values_where};
 ghost use Rattle.definitions.specs.Diagonal.{diagonal_of, diagonal_call, diagonal_left};
 ghost use Rattle.definitions.specs.Answers.{answer_of};
 ghost use Rattle.csr32.specs.Rows.{Rows, unreal};
@@ -101,8 +101,8 @@ struct Found {
 
 fn sum_each(col_idx: &[u32], values: &[f64], from: usize, to: usize, column: usize) -> Found
     requires { (from ≤ to) × (to ≤ length values.now) × (length col_idx.now ≡ length values.now) }
-    ensures stored_value { result.stored ≡ some (values_where (λ c. eqb c column) (storedFrom col_idx.now values.now from to)) }
-    ensures sum_value { result.sum ≡ total (values_where (λ c. eqb c column) (storedFrom col_idx.now values.now from to)) }
+    ensures stored_value { result.stored ≡ some (values_where (λ c. eqb c column) (stored_from col_idx.now values.now from to)) }
+    ensures sum_value { result.sum ≡ total (values_where (λ c. eqb c column) (stored_from col_idx.now values.now from to)) }
 {
     let mut stored = false;
     let mut sum = 0.0;
@@ -125,8 +125,8 @@ fn sum_each(col_idx: &[u32], values: &[f64], from: usize, to: usize, column: usi
 fn sum_at(col_idx: &[u32], values: &[f64], from: usize, to: usize, column: usize) -> Found
     requires from_le_to { (from ≤ to) × (to ≤ length values.now) × (length col_idx.now ≡ length values.now) }
     requires to_le_max_entries { (to ≤ max_entries) × (column < max_rows) }
-    ensures stored_value { result.stored ≡ some (values_where (λ c. eqb c column) (storedFrom col_idx.now values.now from to)) }
-    ensures sum_value { result.sum ≡ total (values_where (λ c. eqb c column) (storedFrom col_idx.now values.now from to)) }
+    ensures stored_value { result.stored ≡ some (values_where (λ c. eqb c column) (stored_from col_idx.now values.now from to)) }
+    ensures sum_value { result.sum ≡ total (values_where (λ c. eqb c column) (stored_from col_idx.now values.now from to)) }
 {
     let wanted = column as u32;
     let mut count: u32 = 0;

@@ -3,7 +3,7 @@
 
 ghost use Rattle.std.specs.Prelude.{◌≡◌, ◌&&◌, ◌/◌, leb, length, replicate};
 ghost use Rattle.std.specs.Float.Ieee.Scale.{finite as is_finite};
-ghost use Rattle.definitions.specs.Numbers.{zeroᶠ, magnitude as magnitudeOf, larger as largerOf, usable as usableOf, above as above_of};
+ghost use Rattle.definitions.specs.Numbers.{zeroᶠ, magnitude as magnitude_of, larger as larger_of, usable as usable_of, above as above_of};
 ghost use Rattle.numbers.specs.Copied.{copied};
 
 mod scan;
@@ -20,21 +20,21 @@ pub fn finite(x: f64) -> bool
 
 // The magnitude. A -0 may stay: no comparison tells it from +0.
 pub fn magnitude(x: f64) -> f64
-    ensures { result ≡ magnitudeOf x }
+    ensures { result ≡ magnitude_of x }
 {
     if x < 0.0 { -x } else { x }
 }
 
 // The larger of two numbers; a NaN in the second place is passed over.
 pub fn larger(x: f64, y: f64) -> f64
-    ensures { result ≡ largerOf x y }
+    ensures { result ≡ larger_of x y }
 {
     if x < y { y } else { x }
 }
 
 // Finite and not zero.
 pub fn usable(x: f64) -> bool
-    ensures { result ≡ usableOf x }
+    ensures { result ≡ usable_of x }
 {
     if finite(x) { !(x == 0.0) } else { false }
 }

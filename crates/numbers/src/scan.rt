@@ -1,13 +1,13 @@
 // Passes over a whole list. No loop leaves early: so the compiler takes several numbers at once.
 ghost use Rattle.std.specs.Prelude.{◌≡◌, leb};
-ghost use Rattle.definitions.specs.Lists.{any, falls as fallsOf};
-ghost use Rattle.definitions.specs.Numbers.{largest as largestOf};
+ghost use Rattle.definitions.specs.Lists.{any, falls as falls_of};
+ghost use Rattle.definitions.specs.Numbers.{largest as largest_of};
 
 use super::{larger, magnitude};
 
 // Whether some number is above the one after it.
 pub fn falls(list: &[u32]) -> bool
-    ensures { result ≡ fallsOf list.now }
+    ensures { result ≡ falls_of list.now }
 {
     let mut found = false;
     let mut i: usize = 1;
@@ -48,7 +48,7 @@ pub fn reaches(list: &[u32], top: usize) -> bool
 
 // The largest magnitude, at least +0. A NaN is passed over.
 pub fn largest(list: &[f64]) -> f64
-    ensures { result ≡ largestOf list.now }
+    ensures { result ≡ largest_of list.now }
 {
     let mut top = 0.0;
     let mut i: usize = 0;

@@ -3,7 +3,7 @@ ghost use Rattle.std.specs.Prelude.{◌≡◌, ◌+◌, ◌<◌, ◌≤◌, leng
 ghost use mathlib.Core.List.{◌++◌, map, zip_with};
 ghost use Rattle.definitions.specs.Numbers.{total, summed, ◌*ᶠ◌, ◌/ᶠ◌};
 ghost use Rattle.definitions.specs.Matrix.{csr, stored};
-ghost use Rattle.definitions.specs.Estimate.{image, normalised, rounds as roundsOf};
+ghost use Rattle.definitions.specs.Estimate.{image, normalised, rounds as rounds_of};
 ghost use Rattle.definitions.specs.Answers.{estimate_answer};
 ghost use Rattle.csr32.specs.Rows.{Rows};
 ghost use Rattle.laws.specs.Bounds.{Below};
@@ -93,7 +93,7 @@ pub(crate) fn rounds(rows: usize, ptr: &[u32], idx: &[u32], vals: &[f64], w: &mu
     requires rows_in_bounds { rows + rows + rows ≤ length w.old }
     ensures { let a = csr rows rows ptr.now idx.now vals.now in
         (take rows w.new ≡ take rows w.old)
-        × (outcome_of 2 result (vector_in rows w.new) ≡ roundsOf a (take rows w.old) 10 (vector_in rows w.old)) }
+        × (outcome_of 2 result (vector_in rows w.new) ≡ rounds_of a (take rows w.old) 10 (vector_in rows w.old)) }
 {
     let mut k: usize = 0;
     while k < 10 {

@@ -4,7 +4,7 @@ ghost use Rattle.std.specs.Float.{nan};
 ghost use Rattle.definitions.specs.Lists.{tab};
 ghost use Rattle.definitions.specs.Numbers.{summed, oneᶠ, ofℕ, ◌+ᶠ◌, ◌*ᶠ◌, ◌/ᶠ◌};
 ghost use Rattle.definitions.specs.Matrix.{max_rows};
-ghost use Rattle.definitions.specs.Estimate.{start_of, norm as normOf, normalised};
+ghost use Rattle.definitions.specs.Estimate.{start_of, norm as norm_of, normalised};
 ghost use Rattle.spectral_radius.specs.Power.{outcome_of};
 
 // The products of x and y, summed from -0 as the source's `sum` does.
@@ -46,7 +46,7 @@ pub(crate) fn start(x: &mut [f64])
 }
 
 pub(crate) fn norm(x: &[f64]) -> f64
-    ensures { result ≡ normOf x.now }
+    ensures { result ≡ norm_of x.now }
 {
     root::root(dot(x, x))
 }

@@ -34,7 +34,7 @@ use Rattle.csr32.specs.Rows.{valid_structure}
 use Rattle.numbers.specs.Copied.{copied}
 use Rattle.two_level_grouping.proofs.Kept.{drop_replicate, put_tail, front_cleared}
 use Rattle.two_level_grouping.specs.Front.{front_rows}
-use Rattle.transfer.specs.Call.{shape_checked, groups_checked, transfer_checked, smoothed_transfer_call, transfer_ints as intsLeft, transfer_floats as floatsLeft}
+use Rattle.transfer.specs.Call.{shape_checked, groups_checked, transfer_checked, smoothed_transfer_call, transfer_ints as ints_left, transfer_floats as floats_left}
 use Rattle.two_level_setup.specs.Stages.{Parts, options_of, filled, transferred}
 use Rattle.two_level_setup.specs.Fit.{Ample}
 use Rattle.two_level_setup.specs.Promises.{room_in, Holds, Begun, Weighted, Listed, ColumnsPlaced, MovedInts, MovedFloats, beside, WeightsStage}
@@ -194,7 +194,7 @@ module _ (a : Matrix) (s : Setup) (damping : Float) (ints : List ℕ) (floats : 
     counted n ws e k = let q : Count n ≡ Count (length (joined_lists ws)) = sym e ∙ ex ∙ ap transfer_answer k in cc
 
     module _ (basis : s.basis ≡ JacobiSmoothed) (n transfers : ℕ) (e : x ≡ Count n) (most : transfers ≤ a.rows + length a.values) (same : n ≤ a.rows + length a.values → transfers ≡ n)
-        (backInts : List ℕ) (backFloats : List Float) (ei : backInts ≡ intsLeft call lent_ints) (ef : backFloats ≡ floatsLeft call lent_floats)
+        (backInts : List ℕ) (backFloats : List Float) (ei : backInts ≡ ints_left call lent_ints) (ef : backFloats ≡ floats_left call lent_floats)
         (ints1 workInts1 : List ℕ) (floats1 workFloats1 : List Float) where
       abbrev mid_ints : List ℕ
       mid_ints = backInts ++ drop few_ints cleared
@@ -205,7 +205,7 @@ module _ (a : Matrix) (s : Setup) (damping : Float) (ints : List ℕ) (floats : 
       pub weights_kept : length mid_ints ≡ length work_ints → length mid_floats ≡ length work_floats → MovedInts s.nodes (a.rows + 1 + transfers) placed mid_ints ints1 workInts1 → MovedFloats used (used + a.rows) transfers floats mid_floats floats1 workFloats1
           → length ints1 ≡ length ints → length floats1 ≡ length floats → length workInts1 ≡ length work_ints → length workFloats1 ≡ length work_floats
           → WeightsStage a s damping (lent_of ints floats work_ints work_floats) transfers (lent_of ints1 floats1 workInts1 workFloats1)
-      unfolding intsLeft floatsLeft result_left ◌>>=◌ transfer_ints transfer_floats transferred filled
+      unfolding ints_left floats_left result_left ◌>>=◌ transfer_ints transfer_floats transferred filled
       weights_kept lmi lmf mi mf li lf lwi lwf = record {
         few = most;
         rows = λ p d es bg ld h.
@@ -219,10 +219,10 @@ module _ (a : Matrix) (s : Setup) (damping : Float) (ints : List ℕ) (floats : 
             let pl : length all ≡ a.rows + 1 + transfers
             = length-append (pointers_from 0 ws) (columns_of ws) ∙ rw (pointers_length 0 ws, v.many, columns_length ws) (ap (λ m. suc a.rows + m) (sym (values_length ws) ∙ t) ∙ one a.rows transfers) in
             let i1 : mid_ints ≡ padded 0 (length mid_ints) all
-            = put_padded 0 few_ints cleared backInts all (cleared_is p d es bg ld h) (omega (arith, lc, w.work_ints)) (rw pl (omega arith)) (ei ∙ ap (λ q. intsLeft q lent_ints) is ∙ ap (λ q. padded 0 (length lent_ints) (pointers_from 0 ws ++ q)) (map_joined (λ (q : Entry). q.col) ws))
+            = put_padded 0 few_ints cleared backInts all (cleared_is p d es bg ld h) (omega (arith, lc, w.work_ints)) (rw pl (omega arith)) (ei ∙ ap (λ q. ints_left q lent_ints) is ∙ ap (λ q. padded 0 (length lent_ints) (pointers_from 0 ws ++ q)) (map_joined (λ (q : Entry). q.col) ws))
             ∙ ap (λ m. padded 0 m all) (lc ∙ sym lmi) in
             let f1 : mid_floats ≡ padded zeroᶠ (length mid_floats) (numbers_of ws)
-            = put_padded zeroᶠ few_floats work_floats backFloats (numbers_of ws) h.work_floats (omega (arith, w.work_floats)) (rw t (omega arith)) (ef ∙ ap (λ q. floatsLeft q lent_floats) is ∙ ap (λ q. padded zeroᶠ (length lent_floats) q) (map_joined (λ (q : Entry). q.value) ws))
+            = put_padded zeroᶠ few_floats work_floats backFloats (numbers_of ws) h.work_floats (omega (arith, w.work_floats)) (rw t (omega arith)) (ef ∙ ap (λ q. floats_left q lent_floats) is ∙ ap (λ q. padded zeroᶠ (length lent_floats) q) (map_joined (λ (q : Entry). q.value) ws))
             ∙ ap (λ m. padded zeroᶠ m (numbers_of ws)) (sym lmf) in
             let ni = nodes_are p d es bg ld h in
             let nf = factors_are p d es bg ld h in
