@@ -23,6 +23,7 @@ use checks::fits;
 use definitions::{Answer, TwoLevelAggregation};
 
 // The causes 1 to 7, and 8 where strengths are compared: the other policies look at no value.
+#[tactic(auto, unfolding(crate::specs::Within::read_of))]
 pub fn readable(
     aggregation: TwoLevelAggregation,
     rows: usize,

@@ -9,7 +9,7 @@ returns : tie.Need-returns-then-residual-rows
 returns c = let a = c.args in wrong_residual a.rows a.block_size a.factors.now a.residual.now a.correction.now c.if-residual-rows.true
 
 returns-2 : tie.Need-returns-then-correction-rows
-returns-2 c = let a = c.args in wrong_correction a.rows a.block_size a.factors.now a.residual.now a.correction.now c.if-residual-rows.false c.if-correction-rows.true
+returns-2 c = let a = c.args in wrong_correction a.rows a.block_size a.factors.now a.residual.now a.correction.now (search rules) c.if-correction-rows.true
 
 solve-blocks-requires : tie.Need-solve_blocks-requires
 solve-blocks-requires c κs =
