@@ -1,7 +1,7 @@
 #!/usr/bin/env python3
 """Brings this repository's own definitions and lemmas to today's spelling: words in snake case, types and modules in camel case.
 
-usage: python3 tools/respell.py     at the top of the repository, once, after /opt/rattle/port/port.py
+usage: python3 tools/respell.py     at the top of the repository, once, after the kit's port.py
 
 A name is this repository's own where a file of specs/ or proofs/ defines it. In a file that takes a name from a library the library's spelling stays.
 Rust code, exported names and strings keep theirs: a name with a dash or a capital inside stands in no Rust code.
