@@ -67,6 +67,21 @@ def term(text, i):
     return j
 
 
+def answers(text):
+    """Where the answers of `tie.spec` stand, in its order."""
+    i = text.find("(tie.spec")
+    if i < 0:
+        return []
+    end, j, spans = term(text, i), i + len("(tie.spec"), []
+    while True:
+        while j < end and text[j].isspace():
+            j += 1
+        if j >= end - 1:
+            return spans
+        spans.append((j, term(text, j)))
+        j = spans[-1][1]
+
+
 class Walk:
     def __init__(self, text, of, name, lts, words, path):
         self.text, self.of, self.name, self.lts, self.words, self.path = text, of, name, lts, words, path
@@ -159,27 +174,15 @@ class Walk:
             params = re.findall(r"\((\S+) : ((?:tie|lts)\.[^\s)]+)", sig)
             lhs = re.search(r"(?m)^%s ((?:\S+ )*)=" % re.escape(clause[1]), b)
             if lhs and params:
-                names = lhs[1].split()
-                order = re.findall(r"\(([^():]+) : ", sig.split("→")[0] if len(params) == 1 else sig)
-                if len(params) == 1 and names:
-                    places[names[0]] = params[0][1].split(".", 1)[1] if params[0][1].split(".", 1)[1] in self.parent else places.get(names[0])
+                names, place = lhs[1].split(), params[0][1].split(".", 1)[1]
+                if len(params) == 1 and names and place in self.parent:
+                    places[names[0]] = place
         if "(tie.spec" in b:
             return note + self.spec(b)
         return note + self.fields(b, places)
 
     def spec(self, b):
-        i = b.find("(tie.spec")
-        end = term(b, i)
-        j = i + len("(tie.spec")
-        spans = []
-        while True:
-            while j < end and b[j].isspace():
-                j += 1
-            if j >= end - 1:
-                break
-            k = term(b, j)
-            spans.append((j, k))
-            j = k
+        spans = answers(b)
         skip = len(spans) - len(self.of["needs"])
         if skip < 0:
             self.say("fewer answers than goals: %d, %d: %s" % (len(spans), len(self.of["needs"]), [n for _, n in self.of["needs"]]))
@@ -190,13 +193,6 @@ class Walk:
             if v:
                 b = b[:j] + self.fields(b[j:k], {v[1]: self.of["asked_at"][n - skip][1]}) + b[k:]
         return b
-
-    def depth(self, place):
-        n = 0
-        while self.parent.get(place):
-            place = self.parent[place]
-            n += 1
-        return n
 
     def above(self, place, wanted):
         n, p = 0, place
@@ -294,20 +290,7 @@ class Walk:
 
     def by_place(self, text):
         """The goals by their place: the answers that stand in `tie.spec`, in its order."""
-        i = text.find("(tie.spec")
-        if i < 0:
-            return text
-        end = term(text, i)
-        j = i + len("(tie.spec")
-        terms = []
-        while True:
-            while j < end and text[j].isspace():
-                j += 1
-            if j >= end - 1:
-                break
-            k = term(text, j)
-            terms.append(text[j:k])
-            j = k
+        terms = [text[j:k] for j, k in answers(text)]
         needs = self.of["needs"]
         if len(terms) < len(needs):
             return text
