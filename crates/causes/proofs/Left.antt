@@ -1,4 +1,5 @@
 -- What a call leaves in a list lent for its result: by its number a cause keeps all, or leaves zeros.
+use Rattle.std.specs.Prelude.{Err, Ok, Result}
 use Prim.Native.Nat.{ℕ, ◌<◌, ◌≤◌}
 use mathlib.Core.Path.{◌≡◌, refl, sym, ◌∙◌}
 use mathlib.Core.Bool.{true, false, not, ◌&&◌}
@@ -13,8 +14,6 @@ use Rattle.definitions.specs.Refusal.{Outcome, refused, done, Checked, ◌>>=◌
 use Rattle.definitions.specs.Answers.{answer_of}
 use Rattle.definitions.specs.declared.Refusal.{Refusal}
 use Rattle.definitions.specs.declared.Refusal.TheVariants.{TooLarge, RowListLength, ColumnListLength, FirstPointer, LastPointer, PointerFalls, ColumnOutside, ValueNotFinite, NotSquare, BlockSize, GroupSize, NotMultiple, ListTooShort, BlockNotSymmetric, BlockPivot, NoNode, CoarseTooLarge, CoarseListTooShort, MissingDiagonal, ZeroDiagonal, NegativeDiagonal, EstimateFailed, CoarseScale, CoarsePivot, WrongLength, SetupMisfit, NeighbourOffsets, NeighbourOutside, LogTooShort}
-use Rattle.definitions.specs.declared.Answer.{Answer}
-use Rattle.definitions.specs.declared.Answer.TheVariants.{Accepted, Refused}
 
 pub keeps_by_number : (r : Refusal) → keeps_all r ≡ not (leb 14 (number_of r) && leb (number_of r) 24)
 unfolding keeps_all number_of cause_of
@@ -84,35 +83,35 @@ work_refused z o w r e = rw e
 
 -- ---- a call that is its checks, and then a result: by the answer to the checks
 
-module _ {B : Type 0} (k : Checked) (next : Outcome B) (v : Answer) (e : v ≡ answer_of k) where
-  pub checks_stop : (r : Refusal) → v ≡ Refused r → (k >>= (λ _. next)) ≡ refused r
+module _ {B : Type 0} (k : Checked) (next : Outcome B) (v : (Result (Unit {0}) Refusal)) (e : v ≡ answer_of k) where
+  pub checks_stop : (r : Refusal) → v ≡ Err r → (k >>= (λ _. next)) ≡ refused r
   unfolding answer_of ◌>>=◌
   checks_stop r h = stop k (sym e ∙ h)
     where
-      stop : (o : Checked) → answer_of o ≡ Refused r → (o >>= (λ _. next)) ≡ refused r
+      stop : (o : Checked) → answer_of o ≡ Err r → (o >>= (λ _. next)) ≡ refused r
       stop (done tt) q = cc
       stop (refused s) q = cc
 
-  pub checks_pass : v ≡ Accepted → (k >>= (λ _. next)) ≡ next
+  pub checks_pass : v ≡ (Ok tt) → (k >>= (λ _. next)) ≡ next
   unfolding answer_of ◌>>=◌
   checks_pass h = pass k (sym e ∙ h)
     where
-      pass : (o : Checked) → answer_of o ≡ Accepted → (o >>= (λ _. next)) ≡ next
+      pass : (o : Checked) → answer_of o ≡ (Ok tt) → (o >>= (λ _. next)) ≡ next
       pass (done tt) q = refl
       pass (refused s) q = cc
 
 -- ---- with the answer: one whose list the call filled or cleared
 
 module _ {A : Type 0} (z : A) (o : Outcome (List A)) (w v : List A) where
-  pub accept_left : (x : List A) → o ≡ done x → v ≡ padded z (length w) x → (Accepted ≡ answer_of o) × (v ≡ result_left z o w)
+  pub accept_left : (x : List A) → o ≡ done x → v ≡ padded z (length w) x → ((Ok tt) ≡ answer_of o) × (v ≡ result_left z o w)
   unfolding answer_of
   accept_left x e ev = (rw e, ev ∙ sym (left_done z o w x e))
 
-  pub refuse_cleared : (r : Refusal) → o ≡ refused r → keeps_all r ≡ false → v ≡ replicate (length w) z → (Refused r ≡ answer_of o) × (v ≡ result_left z o w)
+  pub refuse_cleared : (r : Refusal) → o ≡ refused r → keeps_all r ≡ false → v ≡ replicate (length w) z → (Err r ≡ answer_of o) × (v ≡ result_left z o w)
   unfolding answer_of
   refuse_cleared r e k ev = (rw e, ev ∙ sym (left_cleared z o w r e k))
 
-  pub refuse_left : (r : Refusal) → o ≡ refused r → v ≡ result_left z (refused r) w → (Refused r ≡ answer_of o) × (v ≡ result_left z o w)
+  pub refuse_left : (r : Refusal) → o ≡ refused r → v ≡ result_left z (refused r) w → (Err r ≡ answer_of o) × (v ≡ result_left z o w)
   unfolding answer_of
   refuse_left r e ev = (rw e, ev ∙ sym (left_refused z o w r e))
 

@@ -2,6 +2,7 @@
 use Prim.Native.Nat.{ℕ, ◌<◌, ◌≤◌}
 use mathlib.Core.Path.{◌≡◌}
 use mathlib.Core.Bool.{Bool, true, false, ◌&&◌}
+use mathlib.Core.Logic.{◌⊎◌, ⊎_elim}
 use lib.Dec.{leb}
 use borrow.Author.Tests.{le-leb, lt-leb, leb-true}
 use Rattle.definitions.specs.Refusal.{Outcome, refused, require, ◌>>=◌}
@@ -11,6 +12,13 @@ use Rattle.laws.proofs.Tests.{both_true}
 
 pub covered : (a n b m : ℕ) → (leb a n && leb b m) ≡ true → (a ≤ n) × (b ≤ m)
 covered a n b m e = let h = both_true (leb a n) (leb b m) e in (leb-true a n h.0, leb-true b m h.1)
+
+pub both_fit : (a n b m : ℕ) → a ≤ n → b ≤ m → (leb a n && leb b m) ≡ true
+both_fit a n b m h k = rw (le-leb a n h, le-leb b m k)
+
+-- the first list is too short, or it is not and the second is
+pub one_short : (a n b m : ℕ) → (n < a) ⊎ ((a ≤ n) × (m < b)) → (leb a n && leb b m) ≡ false
+one_short a n b m = ⊎_elim (λ h. rw (lt-leb a n h)) (λ h. rw (le-leb a n h.0, lt-leb b m h.1))
 
 module _ {A : Type 0} (c : ℕ) (fits : Bool) (next : Outcome A) where
   -- both checks, and then what is made

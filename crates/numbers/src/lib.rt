@@ -1,9 +1,9 @@
-// Small tests on floats and on lengths, a quotient, and lists cleared, copied and scanned: what every stage uses.
+// Small tests on floats, a quotient, and lists filled, copied and scanned: what every stage uses.
 #![tactic(auto)]
 
-ghost use Rattle.std.specs.Prelude.{◌≡◌, ◌&&◌, ◌/◌, leb, length, replicate};
+ghost use Rattle.std.specs.Prelude.{◌≡◌, ◌/◌, length, replicate};
 ghost use Rattle.std.specs.Float.Ieee.Scale.{finite as is_finite};
-ghost use Rattle.definitions.specs.Numbers.{zeroᶠ, magnitude as magnitude_of, larger as larger_of, usable as usable_of, above as above_of};
+ghost use Rattle.definitions.specs.Numbers.{magnitude as magnitude_of, larger as larger_of, usable as usable_of, above as above_of};
 ghost use Rattle.numbers.specs.Copied.{copied};
 
 mod scan;
@@ -14,8 +14,7 @@ pub use scan::{falls, largest, reaches};
 pub fn finite(x: f64) -> bool
     ensures { result ≡ is_finite x }
 {
-    let top = 1.0 / 0.0;
-    if x < top { -x < top } else { false }
+    x.is_finite()
 }
 
 // The magnitude. A -0 may stay: no comparison tells it from +0.
@@ -33,115 +32,52 @@ pub fn larger(x: f64, y: f64) -> f64
 }
 
 // Finite and not zero.
+#[tactic(auto, unfolding(definitions::specs::Numbers::usable))]
 pub fn usable(x: f64) -> bool
     ensures { result ≡ usable_of x }
 {
-    if finite(x) { !(x == 0.0) } else { false }
+    finite(x) && !(x == 0.0)
 }
 
 // Finite and above a bound.
+#[tactic(auto, unfolding(definitions::specs::Numbers::above))]
 pub fn above(bound: f64, x: f64) -> bool
     ensures { result ≡ above_of bound x }
 {
-    if finite(x) { !(x <= bound) } else { false }
+    finite(x) && !(x <= bound)
 }
 
 // x / d; a small divisor is a constant here, by which the compiler multiplies instead. 0 where d is 0.
 pub fn quotient(x: usize, d: usize) -> usize
     ensures { result ≡ x / d }
 {
-    if d == 0 {
-        return 0;
-    }
-    if d == 1 {
-        return x;
-    }
-    if d == 2 {
-        return x / 2;
-    }
-    if d == 3 {
-        return x / 3;
-    }
-    if d == 4 {
-        return x / 4;
-    }
-    if d == 5 {
-        return x / 5;
-    }
-    if d == 6 {
-        return x / 6;
-    }
-    if d == 7 {
-        return x / 7;
-    }
-    if d == 8 {
-        return x / 8;
-    }
-    x / d
-}
-
-// The same number, as a length or an index.
-pub fn wide(x: u32) -> usize
-    ensures { result ≡ x }
-{
-    x as usize
-}
-
-// Whether two lists are as long as they must be.
-pub fn long_enough(need: usize, len: usize, other_need: usize, other_len: usize) -> bool
-    ensures { result ≡ (leb need len && leb other_need other_len) }
-{
-    if need <= len {
-        return other_need <= other_len;
-    }
-    false
-}
-
-pub fn zero_ints(s: &mut [u32])
-    ensures { s.new ≡ replicate (length s.old) 0 }
-{
-    let mut i: usize = 0;
-    while i < s.len() {
-        s[i] = 0;
-        i += 1;
+    match d {
+        0 => 0,
+        1 => x,
+        2 => x / 2,
+        3 => x / 3,
+        4 => x / 4,
+        5 => x / 5,
+        6 => x / 6,
+        7 => x / 7,
+        8 => x / 8,
+        _ => x / d,
     }
 }
 
-pub fn zero_floats(s: &mut [f64])
-    ensures { s.new ≡ replicate (length s.old) zeroᶠ }
+// One number in every place; the library's `fill` asks of a type parameter that it can be cloned without failing.
+pub fn fill<T: Copy>(list: &mut [T], x: T)
+    ensures { list.new ≡ replicate (length list.old) x }
 {
-    let mut i: usize = 0;
-    while i < s.len() {
-        s[i] = 0.0;
-        i += 1;
+    for place in list.iter_mut() {
+        *place = x;
     }
 }
 
 // Copies one list over the front of another, as far as both go.
-pub fn copy_ints(from: &[u32], to: &mut [u32])
+pub fn copy_front<T: Copy>(from: &[T], to: &mut [T])
     ensures { to.new ≡ copied from.now to.old }
 {
-    let mut i: usize = 0;
-    while i < to.len() {
-        if i < from.len() {
-            to[i] = from[i];
-            i += 1;
-        } else {
-            return;
-        }
-    }
-}
-
-pub fn copy_floats(from: &[f64], to: &mut [f64])
-    ensures { to.new ≡ copied from.now to.old }
-{
-    let mut i: usize = 0;
-    while i < to.len() {
-        if i < from.len() {
-            to[i] = from[i];
-            i += 1;
-        } else {
-            return;
-        }
-    }
+    let n = from.len().min(to.len());
+    to[..n].copy_from_slice(&from[..n]);
 }

@@ -10,12 +10,10 @@ pub fn falls(list: &[u32]) -> bool
     ensures { result ≡ falls_of list.now }
 {
     let mut found = false;
-    let mut i: usize = 1;
-    while i < list.len() {
+    for i in 1..list.len() {
         if list[i] < list[i - 1] {
             found = true;
         }
-        i += 1;
     }
     found
 }
@@ -25,12 +23,10 @@ fn reaches_narrow(list: &[u32], top: u32) -> bool
     ensures { result ≡ any (λ x. leb top x) list.now }
 {
     let mut found = false;
-    let mut i: usize = 0;
-    while i < list.len() {
-        if top <= list[i] {
+    for x in list {
+        if top <= *x {
             found = true;
         }
-        i += 1;
     }
     found
 }
@@ -39,10 +35,9 @@ fn reaches_narrow(list: &[u32], top: u32) -> bool
 pub fn reaches(list: &[u32], top: usize) -> bool
     ensures { result ≡ any (λ x. leb top x) list.now }
 {
-    if top <= 0xffff_ffff {
-        reaches_narrow(list, top as u32)
-    } else {
-        false
+    match u32::try_from(top) {
+        Ok(top) => reaches_narrow(list, top),
+        Err(_) => false,
     }
 }
 
@@ -51,10 +46,8 @@ pub fn largest(list: &[f64]) -> f64
     ensures { result ≡ largest_of list.now }
 {
     let mut top = 0.0;
-    let mut i: usize = 0;
-    while i < list.len() {
-        top = larger(top, magnitude(list[i]));
-        i += 1;
+    for x in list {
+        top = larger(top, magnitude(*x));
     }
     top
 }
