@@ -1,4 +1,5 @@
 -- The checks of a matrix, one law for a check that passes and one for a check that fails: `search causes` goes through them in their order.
+use Rattle.std.specs.Prelude.{Err, Ok, Result}
 use mathlib.Core.Path.{◌≡◌, refl, ap, sym, ◌∙◌}
 use mathlib.Core.Bool.{Bool, true, false, not, ◌&&◌}
 use mathlib.Core.List.{List, [], ◌∷◌}
@@ -13,12 +14,10 @@ use Rattle.definitions.specs.Matrix.{Matrix, structure_of, valid_of, max_rows, m
 use Rattle.definitions.specs.Answers.{answer_of}
 use Rattle.definitions.specs.declared.Refusal.{Refusal}
 use Rattle.definitions.specs.declared.Refusal.TheVariants.{PointerFalls, ColumnOutside, ValueNotFinite}
-use Rattle.definitions.specs.declared.Answer.{Answer}
-use Rattle.definitions.specs.declared.Answer.TheVariants.{Accepted, Refused}
 use Rattle.csr32.specs.Calls.{accepted_done, refused_is, goes_on, stops}
 use Rattle.csr32.specs.Rows.{unreal}
 
-module _ (r : Refusal) (next : Unit {0} → Checked) (x : Answer) where
+module _ (r : Refusal) (next : Unit {0} → Checked) (x : (Result (Unit {0}) Refusal)) where
   passes : (b : Bool) → b ≡ true → x ≡ answer_of (next tt) → x ≡ answer_of (require b r >>= next)
   unfolding require ◌>>=◌
   passes b e k = rw e k
@@ -36,34 +35,34 @@ module _ (r : Refusal) (next : Unit {0} → Checked) (x : Answer) where
   passes_not b t e f k = passes (not b) (ap not (sym e ∙ f)) k
 
 module _ (r : Refusal) (next : Unit {0} → Checked) where
-  fails : (b : Bool) → b ≡ false → Refused r ≡ answer_of (require b r >>= next)
+  fails : (b : Bool) → b ≡ false → Err r ≡ answer_of (require b r >>= next)
   unfolding require ◌>>=◌ answer_of
   fails b e = rw e
 
-  pub fails_rows : (rows m : ℕ) (b d : Bool) → m < rows → Refused r ≡ answer_of (require (leb rows m && b && d) r >>= next)
+  pub fails_rows : (rows m : ℕ) (b d : Bool) → m < rows → Err r ≡ answer_of (require (leb rows m && b && d) r >>= next)
   fails_rows rows m b d h = fails (leb rows m && b && d) (rw (lt-leb rows m h))
 
-  pub fails_cols : (rows cols m : ℕ) (d : Bool) → rows ≤ m → m < cols → Refused r ≡ answer_of (require (leb rows m && leb cols m && d) r >>= next)
+  pub fails_cols : (rows cols m : ℕ) (d : Bool) → rows ≤ m → m < cols → Err r ≡ answer_of (require (leb rows m && leb cols m && d) r >>= next)
   fails_cols rows cols m d p h = fails (leb rows m && leb cols m && d) (rw (le-leb rows m p, lt-leb cols m h))
 
-  pub fails_entries : (rows cols n m e : ℕ) → rows ≤ m → cols ≤ m → e < n → Refused r ≡ answer_of (require (leb rows m && leb cols m && leb n e) r >>= next)
+  pub fails_entries : (rows cols n m e : ℕ) → rows ≤ m → cols ≤ m → e < n → Err r ≡ answer_of (require (leb rows m && leb cols m && leb n e) r >>= next)
   fails_entries rows cols n m e p q h = fails (leb rows m && leb cols m && leb n e) (rw (le-leb rows m p, le-leb cols m q, lt-leb n e h))
 
-  pub fails_ne : (m n : ℕ) → (m ≡ n → ⊥) → Refused r ≡ answer_of (require (eqb m n) r >>= next)
+  pub fails_ne : (m n : ℕ) → (m ≡ n → ⊥) → Err r ≡ answer_of (require (eqb m n) r >>= next)
   fails_ne m n h = fails (eqb m n) (ne_eqb m n h)
 
-  pub fails_same : (t m n : ℕ) → t ≡ m → (t ≡ n → ⊥) → Refused r ≡ answer_of (require (eqb m n) r >>= next)
+  pub fails_same : (t m n : ℕ) → t ≡ m → (t ≡ n → ⊥) → Err r ≡ answer_of (require (eqb m n) r >>= next)
   fails_same t m n e h = fails_ne m n (λ q. h (e ∙ q))
 
-  pub fails_not : (b t : Bool) → t ≡ b → t ≡ true → Refused r ≡ answer_of (require (not b) r >>= next)
+  pub fails_not : (b t : Bool) → t ≡ b → t ≡ true → Err r ≡ answer_of (require (not b) r >>= next)
   fails_not b t e f = fails (not b) (ap not (sym e ∙ f))
 
 -- the last check
-pub ends_not : (r : Refusal) (b t : Bool) → t ≡ b → t ≡ false → Accepted ≡ answer_of (require (not b) r)
+pub ends_not : (r : Refusal) (b t : Bool) → t ≡ b → t ≡ false → (Ok tt) ≡ answer_of (require (not b) r)
 unfolding require answer_of
 ends_not r b t e f = rw (← e, f)
 
-pub ends_fails : (r : Refusal) (b t : Bool) → t ≡ b → t ≡ true → Refused r ≡ answer_of (require (not b) r)
+pub ends_fails : (r : Refusal) (b t : Bool) → t ≡ b → t ≡ true → Err r ≡ answer_of (require (not b) r)
 unfolding require answer_of
 ends_fails r b t e f = rw (← e, f)
 
@@ -72,11 +71,11 @@ pub first_same : (p : List ℕ) (n : ℕ) → length p ≡ n + 1 → get_or p 0 
 first_same [] n e = absurd (omega arith)
 first_same (x ∷ p) n e = refl
 
-pub passes_first : (r : Refusal) (next : Unit {0} → Checked) (x : Answer) (p : List ℕ) (n : ℕ) → length p ≡ n + 1 → get_or p 0 0 ≡ 0 → x ≡ answer_of (next tt)
+pub passes_first : (r : Refusal) (next : Unit {0} → Checked) (x : (Result (Unit {0}) Refusal)) (p : List ℕ) (n : ℕ) → length p ≡ n + 1 → get_or p 0 0 ≡ 0 → x ≡ answer_of (next tt)
     → x ≡ answer_of (require (eqb (get_or p 0 1) 0) r >>= next)
 passes_first r next x p n l e k = passes_same r next x (get_or p 0 0) (get_or p 0 1) 0 (first_same p n l) e k
 
-pub fails_first : (r : Refusal) (next : Unit {0} → Checked) (p : List ℕ) (n : ℕ) → length p ≡ n + 1 → (get_or p 0 0 ≡ 0 → ⊥) → Refused r ≡ answer_of (require (eqb (get_or p 0 1) 0) r >>= next)
+pub fails_first : (r : Refusal) (next : Unit {0} → Checked) (p : List ℕ) (n : ℕ) → length p ≡ n + 1 → (get_or p 0 0 ≡ 0 → ⊥) → Err r ≡ answer_of (require (eqb (get_or p 0 1) 0) r >>= next)
 fails_first r next p n l e = fails_same r next (get_or p 0 0) (get_or p 0 1) 0 (first_same p n l) e
 
 pub ruleset causes = (
@@ -100,25 +99,25 @@ pub ruleset causes = (
 abbrev pub scans_of : Matrix → Checked
 scans_of a = require (not (falls a.row_ptr)) PointerFalls >>= (λ _. require (not (any (λ c. leb a.cols c) a.col_idx)) ColumnOutside)
 
-pub shape_passed : (a : Matrix) (x : Answer) (last : ℕ) → a.rows ≤ max_rows → a.cols ≤ max_rows → length a.values ≤ max_entries
+pub shape_passed : (a : Matrix) (x : (Result (Unit {0}) Refusal)) (last : ℕ) → a.rows ≤ max_rows → a.cols ≤ max_rows → length a.values ≤ max_entries
     → length a.row_ptr ≡ a.rows + 1 → length a.col_idx ≡ length a.values → get_or a.row_ptr 0 0 ≡ 0 → last ≡ get_or a.row_ptr a.rows 0 → last ≡ length a.values
     → x ≡ answer_of (scans_of a) → x ≡ answer_of (structure_of a)
 unfolding structure_of
 shape_passed a x last l1 l2 l3 h2 h3 h4 e5 h5 k = search causes depth 14
 
 -- 8, behind those
-module _ (a : Matrix) (x : Answer) (e : x ≡ answer_of (structure_of a)) where
-  pub structure_fails : (r : Refusal) → x ≡ Refused r → Refused r ≡ answer_of (valid_of a)
+module _ (a : Matrix) (x : (Result (Unit {0}) Refusal)) (e : x ≡ answer_of (structure_of a)) where
+  pub structure_fails : (r : Refusal) → x ≡ Err r → Err r ≡ answer_of (valid_of a)
   unfolding valid_of answer_of
   structure_fails r h = rw (stops (structure_of a) r _ (refused_is (structure_of a) r (sym e ∙ h)))
 
-  module _ (h : x ≡ Accepted) (t : Bool) (f : t ≡ unreal a.values) where
+  module _ (h : x ≡ (Ok tt)) (t : Bool) (f : t ≡ unreal a.values) where
     passes_structure : answer_of (valid_of a) ≡ answer_of (require (not (unreal a.values)) ValueNotFinite)
     unfolding valid_of
     passes_structure = ap answer_of (goes_on (structure_of a) tt _ (accepted_done (structure_of a) (sym e ∙ h)))
 
-    pub values_fail : t ≡ true → Refused ValueNotFinite ≡ answer_of (valid_of a)
+    pub values_fail : t ≡ true → Err ValueNotFinite ≡ answer_of (valid_of a)
     values_fail g = ends_fails ValueNotFinite (unreal a.values) t f g ∙ sym passes_structure
 
-    pub values_pass : t ≡ false → Accepted ≡ answer_of (valid_of a)
+    pub values_pass : t ≡ false → (Ok tt) ≡ answer_of (valid_of a)
     values_pass g = ends_not ValueNotFinite (unreal a.values) t f g ∙ sym passes_structure

@@ -7,7 +7,8 @@ use lib.ListN.{length, get_or}
 use lib.Ieee.{Float, nan}
 use Rattle.definitions.specs.Numbers.{◌+ᶠ◌, zeroᶠ, total}
 use Rattle.csr32.proofs.Stored.{numbers_at, numbers_none, numbers_hit, numbers_miss}
-use Rattle.csr32.specs.Found.{some}
+use Rattle.std.specs.Prelude.{Some, None}
+use Rattle.csr32.specs.Found.{some, sum_found}
 
 module _ (p : ℕ → Bool) (idx : List ℕ) (vals : List Float) (a : ℕ) where
   pub sum_none : (false ≡ some (numbers_at p idx vals a a)) × (zeroᶠ ≡ total (numbers_at p idx vals a a))
@@ -34,3 +35,24 @@ module _ (p : ℕ → Bool) (idx : List ℕ) (vals : List Float) (a k : ℕ) (h 
 
   pub sum_miss : p (get_or idx k 0) ≡ false → st' ≡ st → s' ≡ s → (st' ≡ some (numbers_at p idx vals a (k + 1))) × (s' ≡ total (numbers_at p idx vals a (k + 1)))
   sum_miss e f g = (f ∙ est ∙ ap some (sym (numbers_miss p idx vals a k h l same e)), g ∙ es ∙ ap total (sym (numbers_miss p idx vals a k h l same e)))
+
+-- the sum, if there are any numbers
+pub found_is : (xs : List Float) (st : Bool) (s : Float) → st ≡ some xs → s ≡ total xs → st ≡ true → Some s ≡ sum_found xs
+unfolding some sum_found
+found_is [] st s e f g = cc
+found_is (x ∷ xs) st s e f g = ap Some f
+
+pub missing_is : (xs : List Float) (st : Bool) → st ≡ some xs → st ≡ false → None ≡ sum_found xs
+unfolding some sum_found
+missing_is [] st e g = refl
+missing_is (x ∷ xs) st e g = cc
+
+pub found_some : (xs : List Float) (s : Float) → Some s ≡ sum_found xs → (true ≡ some xs) × (s ≡ total xs)
+unfolding some sum_found
+found_some [] s e = cc
+found_some (x ∷ xs) s e = (refl, cc)
+
+pub found_none : (xs : List Float) → None ≡ sum_found xs → false ≡ some xs
+unfolding some sum_found
+found_none [] e = refl
+found_none (x ∷ xs) e = cc

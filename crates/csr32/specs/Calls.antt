@@ -1,17 +1,16 @@
 -- A call's checks, one after the other: what a check that passes and one that fails make of the answer, and of the list lent for the result.
-use Rattle.std.specs.Prelude.{◌≡◌, refl, Bool, true, false, List}
+use Rattle.std.specs.Prelude.{◌≡◌, refl, Bool, true, false, List, Err, Ok}
 use Rattle.definitions.specs.Refusal.{Outcome, refused, done, Checked, require, ◌>>=◌, keeps_all, result_left, work_left}
 use Rattle.definitions.specs.Answers.{answer_of}
 use Rattle.definitions.specs.declared.Refusal.{Refusal}
-use Rattle.definitions.specs.declared.Answer.TheVariants.{Accepted, Refused}
 
 -- an answer tells the outcome
-pub accepted_done : (o : Checked) → answer_of o ≡ Accepted → o ≡ done tt
+pub accepted_done : (o : Checked) → answer_of o ≡ (Ok tt) → o ≡ done tt
 unfolding answer_of
 accepted_done (done tt) e = refl
 accepted_done (refused r) e = cc
 
-pub refused_is : {A : Type 0} (o : Outcome A) (r : Refusal) → answer_of o ≡ Refused r → o ≡ refused r
+pub refused_is : {A : Type 0} (o : Outcome A) (r : Refusal) → answer_of o ≡ Err r → o ≡ refused r
 unfolding answer_of
 refused_is (done x) r e = cc
 refused_is (refused q) r e = cc

@@ -3,3 +3,4 @@ pub mod Calls
 pub mod Rows
 pub mod Valid
 pub mod Found
+pub mod Seen
