@@ -4,12 +4,11 @@ use Prim.Native.Nat.{ℕ, zero, suc, ◌+◌, ◌-◌, ◌*◌, ◌/◌, ◌%◌
 use native.Mathlib.Nat.{le_trans, le_of_eq, lt_of_lt_of_le, lt_of_le_of_lt, lt_of_not-le, mul-one, mul-pos, mul_assoc, mul_right_comm, mul-le-mul, mul-le-mul_right, mul-lt-mul_of_pos_right}
 use native.Mathlib.Omega.{arith}
 use lib.IntN.{ℤ}
-use lib.Dec.{lit≤}
 use lib.Pow.{pow-add, pow_pos, pow_mono}
 use lib.Ieee.{binary64, of_bits}
 use Rattle.definitions.specs.Numbers.{rootᶠ}
 use Rattle.laws.specs.WholeRoot.{Rest, closer}
-use Rattle.laws.proofs.RootSquares.{Near, rest_near, rest_root, sq_lt}
+use Rattle.laws.proofs.RootSquares.{Near, rest_near}
 use Rattle.laws.proofs.RootLaws.{near_least, some_digits}
 use Rattle.laws.specs.WholeRoot.{size_of}
 use Rattle.laws.proofs.RootBits.{bits_value, Found, root_of_value}
@@ -36,9 +35,6 @@ module _ (a c r : ℕ) (E : Evened a) (R : Rest (a * 2 ^ 52) c r) where
 
   near : Near (a * 2 ^ 52) (closer c r)
   near = rest_near (a * 2 ^ 52) c r (some_digits 53 (a * 2 ^ 52) n_least) R
-
-  pub root_small : c < 2 ^ 63
-  root_small = sq_lt c (2 ^ 63) (lt_of_le_of_lt (rest_root (a * 2 ^ 52) c r R).0 (lt_of_lt_of_le n_most (lit≤ {m = 2 ^ 53 * 2 ^ 53} {n = 2 ^ 63 * 2 ^ 63} tt)))
 
   pub closer_least : 2 ^ 52 ≤ closer c r
   closer_least = near_least 53 (a * 2 ^ 52) (closer c r) n_least near

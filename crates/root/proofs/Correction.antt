@@ -9,7 +9,8 @@ use lib.Dec.{T, leb, leb→le, nleb→lt, lit<}
 use lib.ListN.{get_or}
 use Rattle.laws.specs.WholeRoot.{IsRoot}
 use Rattle.laws.proofs.RootSquares.{sq_lt, next}
-use Rattle.root.specs.Starts.{whole_roots, start_of, table_rule}
+use Rattle.root.specs.Starts.{whole_roots, start_of}
+use Rattle.root.proofs.StartRule.{table_rule}
 use Rattle.root.proofs.Bounds.{placed, near, quotient_lt}
 
 -- ---- two numbers and their mean

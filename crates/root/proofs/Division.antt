@@ -1,9 +1,8 @@
 -- From the whole root s of a to that of a * 2 ^ 52: 26 more digits by one division of what is left over (a step of Zimmermann's), and what is then left over.
 use mathlib.Core.Path.{◌≡◌, sym, ap, ◌∙◌, subst}
 use Prim.Native.Nat.{ℕ, suc, ◌+◌, ◌-◌, ◌*◌, ◌/◌, ◌%◌, ◌^◌, ◌≤◌, ◌<◌}
-use native.Mathlib.Nat.{le_of_lt, lt_of_le_of_lt, mul-le-mul, div-lt_iff_lt-mul, div-add-mod', mod-lt, mul-mul-mul_comm, mul_right_comm, mul_comm, add-mul, mul-add, le_of_suc-le-suc}
+use native.Mathlib.Nat.{lt_of_le_of_lt, mul-le-mul, div-lt_iff_lt-mul, div-add-mod', mod-lt, mul-mul-mul_comm, mul_right_comm, mul_comm, add-mul, mul-add, le_of_suc-le-suc}
 use native.Mathlib.Omega.{arith}
-use lib.Dec.{lit<}
 use Rattle.laws.specs.WholeRoot.{IsRoot, Rest}
 use Rattle.laws.proofs.RootSquares.{sq_lt, next}
 
@@ -30,24 +29,9 @@ pub record Parts (N s q u c : ℕ) : Type 0 where
   pub left_lt : u < s * 134217728
   pub whole : N + q * q ≡ c * c + u
 
-module _ (N s q u c : ℕ) (P : Parts N s q u c) where
-  pub root_fits : s * s < 2 ^ 64
-  root_fits = lt_of_le_of_lt (mul-le-mul (le_of_lt P.high) (le_of_lt P.high)) (lit< {m = 2 ^ 27 * 2 ^ 27} {n = 2 ^ 64} tt)
-
-  pub root_pos : 0 < s
-  root_pos = omega arith
-
-  pub square_fits : q * q < 2 ^ 64
-  square_fits = omega arith
-
-  pub cand_fits : c < 2 ^ 63
-  cand_fits = omega arith
-
+module _ {N s q u c : ℕ} (P : Parts N s q u c) where
   pub cand_pos : 2 ≤ c
   cand_pos = omega arith
-
-  pub sum_fits : u + (2 * c - 1) < 2 ^ 64
-  sum_fits = omega arith
 
   pub rest_pos : q * q ≤ u + (2 * c - 1)
   rest_pos = omega arith

@@ -3,27 +3,23 @@ use mathlib.Core.Path.{◌≡◌, refl, sym, ap, ◌∙◌, subst}
 use mathlib.Core.Bool.{Bool, true, false, not, true≢false}
 use Prim.Native.Nat.{ℕ, ◌%◌, ◌≤◌, ◌<◌}
 use native.Mathlib.Omega.{arith}
-use lib.Dec.{T, T_not, ltb, leb, leb→le, nleb→lt, ltb→lt, lt→ltb, not_T}
+use lib.Dec.{T, T_not, ltb, leb, leb→le, nleb→lt, lt→ltb}
 use lib.Arith.{lt_of_le-ne}
-use lib.Ieee.{Float, nan, inf, fin, binary64, fits, ne, is_nan, nan_bits, of_bits, to_bits, div}
+use lib.Ieee.{Float, nan, inf, fin, binary64, fits, is_nan, of_bits, to_bits}
 use lib.Ieee.Bits.{of_bits-to_bits, to_bits-lt, nan_bits_is, nan_bits_above}
 use Rattle.definitions.specs.Root.{root}
 use Rattle.definitions.specs.Numbers.{rootᶠ}
 use Rattle.laws.proofs.RootBits.{negative_bits}
 
-pub root_nan : (x : Float) → x ≡ nan → x ≡ rootᶠ x
-unfolding root
-root_nan x e = e ∙ sym (ap rootᶠ e)
-
-pub no_nan : (x : Float) → ne x x ≡ false → T (not (is_nan x))
-unfolding ne is_nan
-no_nan nan e = absurd (true≢false e)
-no_nan (inf s) e = tt
-no_nan (fin s m d) e = tt
+pub root_nan : (x : Float) → is_nan x ≡ true → x ≡ rootᶠ x
+unfolding root is_nan
+root_nan nan e = refl
+root_nan (inf s) e = absurd (true≢false (sym e))
+root_nan (fin s m d) e = absurd (true≢false (sym e))
 
 -- ---- x by its pattern
 
-pub by_bits : (x : Float) (b : ℕ) → T (fits binary64 x) → to_bits binary64 x ≡ b → x ≡ of_bits binary64 b
+by_bits : (x : Float) (b : ℕ) → T (fits binary64 x) → to_bits binary64 x ≡ b → x ≡ of_bits binary64 b
 by_bits x b h e = sym (of_bits-to_bits binary64 x h) ∙ ap (of_bits binary64) e
 
 pub root_kept : (x : Float) (b : ℕ) → T (fits binary64 x) → to_bits binary64 x ≡ b → of_bits binary64 b ≡ rootᶠ (of_bits binary64 b) → x ≡ rootᶠ x
@@ -41,9 +37,9 @@ pub at_infinity : of_bits binary64 9218868437227405312 ≡ rootᶠ (of_bits bina
 unfolding of_bits root
 at_infinity = refl
 
-pub zero_by_zero : div binary64 (of_bits binary64 0) (of_bits binary64 0) ≡ nan
-unfolding div of_bits
-zero_by_zero = refl
+pub nan_literal : of_bits binary64 9221120237041090560 ≡ nan
+unfolding of_bits
+nan_literal = refl
 
 -- a pattern above infinity's, of no NaN, and not that of -0
 pub below_zero : (x : Float) → T (fits binary64 x) → T (not (is_nan x)) → 9218868437227405312 < to_bits binary64 x → (to_bits binary64 x ≡ 9223372036854775808 → ⊥) → rootᶠ x ≡ nan
@@ -62,9 +58,3 @@ below_zero x h n l z =
     go : (d : Bool) → (T d → to_bits binary64 x ≤ 9223372036854775807) → (T (not d) → 9223372036854775807 < to_bits binary64 x) → 9223372036854775808 < to_bits binary64 x
     go true p q = absurd (clash (p tt))
     go false p q = lt_of_le-ne (q tt) (λ (e : 9223372036854775808 ≡ to_bits binary64 x). z (sym e))
-
-pub not_nan_bits : (b : ℕ) → b < 9218868437227405312 → T (not (nan_bits binary64 b))
-not_nan_bits b h = subst (λ (t : Bool). T (not t)) (sym (nan_bits_above binary64 b)) (not_T (ltb 9218868437227405312 (b % 9223372036854775808)) (λ t. no (ltb→lt 9218868437227405312 (b % 9223372036854775808) t)))
-  where
-    no : 9218868437227405312 < b % 9223372036854775808 → ⊥
-    no g = omega arith

@@ -13,6 +13,20 @@ pub struct Rooted {
     pub rest: u64,
 }
 
+impl Rooted {
+    // The nearest whole number: one more where more than half is left over.
+    pub(crate) fn nearest(self) -> u64
+        requires { self.root < 2 ^ 63 }
+        ensures { result ≡ closer self.root self.rest }
+    {
+        if self.rest > self.root {
+            self.root + 1
+        } else {
+            self.root
+        }
+    }
+}
+
 // Near the root of a: two of Newton's steps from t * 2^15, the first in 32 bits. How near t is makes no difference but to the time.
 fn newton(a: u64, t: u32) -> u64
     requires { (a < 2 ^ 54) × (2 ^ 11 ≤ t) × (t < 2 ^ 14) }
@@ -25,7 +39,7 @@ fn newton(a: u64, t: u32) -> u64
 
 // The whole root of a, from any start. By the right table one correction is enough, one step down: `newton` comes to the root or to one more. That is the
 // law `one_correction` (proofs/Correction.antt): the table starts less than 2^20 below the root, so the first of the two steps ends at most 2^13 + 1 from
-// it, and a step from there ends at the root or one above.
+// it, and a step from there ends at the root or one above. A search has no list to walk, so it is a `while`.
 fn whole_root(a: u64, near: u64) -> u64
     requires { (2 ^ 52 ≤ a) × (a < 2 ^ 54) × (near < 2 ^ 30) }
     ensures { IsRoot a result }
@@ -51,23 +65,15 @@ pub(crate) fn with_rest(table: &StartTable, a: u64) -> Rooted
     let q = n / s;
     let left = (n % s) << 27;
     let c = (s << 26) + q;
-    if left >= q * q {
-        Rooted {
-            root: c,
-            rest: left - q * q,
-        }
-    } else {
-        Rooted {
+    let square = q * q;
+    if left < square {
+        return Rooted {
             root: c - 1,
-            rest: left + (2 * c - 1) - q * q,
-        }
+            rest: left + (2 * c - 1) - square,
+        };
     }
-}
-
-// The nearest whole number: one more where more than half is left over.
-pub(crate) fn nearest(root: u64, rest: u64) -> u64
-    requires { root < 2 ^ 63 }
-    ensures { result ≡ closer root rest }
-{
-    if rest > root { root + 1 } else { root }
+    Rooted {
+        root: c,
+        rest: left - square,
+    }
 }

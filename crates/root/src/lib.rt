@@ -11,49 +11,49 @@ mod digits;
 mod fields;
 mod starts;
 
-use digits::{nearest, with_rest};
-use fields::{evened, halved, rebuilt, split};
-use starts::starts;
+use digits::with_rest;
+use fields::{Scaled, rebuilt};
+use starts::STARTS;
 
 // Its type has a name, so that callers do not say how long it is.
 pub type StartTable = [u16; 192];
 
+const INFINITY: u64 = 0x7ff0_0000_0000_0000;
+
+const MINUS_ZERO: u64 = 0x8000_0000_0000_0000;
+
 // The root's pattern, for a positive finite value's.
 fn root_bits(table: &StartTable, b: u64) -> u64
-    requires { (0 < b) × (b < 0x7ff0_0000_0000_0000) }
-    ensures { (result < 0x7ff0_0000_0000_0000) × (of_bits binary64 result ≡ rootᶠ (of_bits binary64 b)) }
+    requires { (0 < b) × (b < INFINITY) }
+    ensures { (result < INFINITY) × (of_bits binary64 result ≡ rootᶠ (of_bits binary64 b)) }
 {
-    let s = split(b);
-    let r = with_rest(table, evened(s.m, s.e));
-    rebuilt(halved(s.e), nearest(r.root, r.rest))
+    let s = Scaled::of(b);
+    let r = with_rest(table, s.evened());
+    rebuilt(s.e >> 1, r.nearest())
 }
 
-// The table that the search starts from: for k from 64 to 255 the largest t with t * t <= 65,536 k.
+// The table that the search starts from: for k from 64 to 255 the largest t with t * t <= 65,536 k. The toolchain builds a constant array anew wherever it
+// is named, so a caller of many roots builds it once.
 pub fn table() -> StartTable
     ensures { result ≡ whole_roots 192 64 }
 {
-    starts()
+    STARTS
 }
 
 // The root, by a table that the caller has; the root is the same whatever it holds.
 pub fn root_by(table: &StartTable, x: f64) -> f64
     ensures { result ≡ rootᶠ x }
 {
-    if x != x {
+    if x.is_nan() {
         return x;
     }
-    let b = f64::to_bits(x);
-    if b == 0 {
+    let b = x.to_bits();
+    if b == 0 || b == MINUS_ZERO || b == INFINITY {
         return x;
     }
-    if b == 0x8000_0000_0000_0000 {
-        return x;
-    }
-    if b == 0x7ff0_0000_0000_0000 {
-        return x;
-    }
-    if b > 0x7ff0_0000_0000_0000 {
-        return 0.0 / 0.0;
+    // any other above infinity's is the pattern of a negative number
+    if b > INFINITY {
+        return f64::NAN;
     }
     f64::from_bits(root_bits(table, b))
 }
@@ -61,6 +61,5 @@ pub fn root_by(table: &StartTable, x: f64) -> f64
 pub fn root(x: f64) -> f64
     ensures { result ≡ rootᶠ x }
 {
-    let table = starts();
-    root_by(&table, x)
+    root_by(&table(), x)
 }

@@ -1,12 +1,12 @@
 // Where the search for a root starts: a constant table of 192 whole numbers.
 
 ghost use Rattle.std.specs.Prelude.{◌≡◌, ◌≤◌, ◌<◌};
-ghost use Rattle.root.specs.Starts.{whole_roots, start_of};
+ghost use Rattle.root.specs.Starts.{start_of};
 
 use crate::StartTable;
 
 // for k from 64 to 255 the largest t with t * t <= 65,536 k
-const STARTS: [u16; 192] = [
+pub(crate) const STARTS: StartTable = [
     2048, 2063, 2079, 2095, 2111, 2126, 2141, 2157, 2172, 2187, 2202, 2217, 2231, 2246, 2260, 2275,
     2289, 2304, 2318, 2332, 2346, 2360, 2374, 2387, 2401, 2415, 2428, 2442, 2455, 2468, 2482, 2495,
     2508, 2521, 2534, 2547, 2560, 2572, 2585, 2598, 2610, 2623, 2635, 2648, 2660, 2672, 2684, 2697,
@@ -20,13 +20,6 @@ const STARTS: [u16; 192] = [
     3831, 3840, 3848, 3857, 3865, 3873, 3882, 3890, 3899, 3907, 3916, 3924, 3932, 3941, 3949, 3957,
     3965, 3974, 3982, 3990, 3998, 4007, 4015, 4023, 4031, 4039, 4047, 4055, 4063, 4071, 4079, 4087,
 ];
-
-// The table as a value: the toolchain builds a constant array anew wherever it is named, so that a caller of many roots builds it once.
-pub(crate) fn starts() -> StartTable
-    ensures { result ≡ whole_roots 192 64 }
-{
-    STARTS
-}
 
 // Where the search starts, by any table: an entry of the right one as it stands, and what any other holds makes no difference but to the time.
 pub(crate) fn start(table: &StartTable, k: usize) -> u16
