@@ -1,73 +1,137 @@
--- A list that a loop fills from the front by index, and the bytes of one number in a list.
-use Prim.Native.Nat.{ℕ, zero, suc, ◌+◌, ◌-◌, ◌*◌, ◌<◌, ◌≤◌}
-use mathlib.Core.Path.{◌≡◌, refl, ap}
-use mathlib.Core.List.{List, [], ◌∷◌, ◌++◌, append_assoc, append-nil}
-use native.Mathlib.Nat.{add-zero}
+-- A list whose front a loop writes over, element by element or part by part, and the bytes of one number.
+use Prim.Native.Nat.{ℕ, zero, suc, ◌+◌, ◌-◌, ◌*◌, ◌/◌, ◌%◌, ◌^◌, ◌<◌, ◌≤◌}
+use mathlib.Core.Path.{◌≡◌, refl, sym, ap, ◌∙◌}
+use mathlib.Core.List.{List, [], ◌∷◌, ◌++◌, append_assoc}
+use native.Mathlib.Nat.{mul-zero, add-zero, mul-add-div, div-eq_of_lt, div-one, suc-mul, zero-mul, mul-le-mul_right, le-div_iff_mul-le}
 use native.Mathlib.Numerals.{add-one}
 use native.Mathlib.Omega.{arith}
-use lib.ListN.{length, get_or, set, drop, replicate, length-set}
-use lib.Seq.{drop-cons, drop-length, set_at}
+use borrow.Rule.Slice.PartMut.{put_mid}
+use mathlib.Core.Bool.{Bool, true}
+use Rattle.std.proofs.Common.{Fits, w8}
+use Rattle.std.specs.Int.{w64, to_le_bytes, from_le_bytes}
+use Rattle.std.proofs.lemmas.Nat.{div-mul-add, mod-mul-add}
+use lib.ListN.{length, get_or, set, take, drop, replicate, length-append, length-replicate, length-drop}
+use Rattle.std.proofs.lemmas.List.{drop-replicate, get_or_read}
+use lib.Seq.{drop-cons, drop-drop, set_at, take_at, drop_at}
 use Rattle.definitions.specs.Lists.{tab, padded}
-use Rattle.laws.proofs.Lists.{length_tab}
-use Rattle.byte_lists.specs.Bytes.{spelled, word_at, over}
-use Rattle.byte_lists.proofs.Laws.{piece}
+use Rattle.laws.proofs.Lists.{length_tab, tab_append, tab_cong, tab_is}
+use Rattle.byte_lists.specs.Bytes.{spelled, word_at, byte_of, readable, writable, over}
+use Rattle.byte_lists.proofs.Laws.{piece, readable_room, writable_room}
+use Rattle.byte_lists.proofs.RoundTrip.{power}
 
 tab_snoc : {A : Type 0} (f : ℕ → A) (n : ℕ) → tab f (suc n) ≡ tab f n ++ (f n ∷ [])
 unfolding tab
 tab_snoc f zero = refl
 tab_snoc f (suc n) = ap (λ l. f zero ∷ l) (tab_snoc (λ i. f (suc i)) n)
 
-tab_more : {A : Type 0} (f : ℕ → A) (i : ℕ) (s d : List A) (v : A) → i < length d → s ≡ tab f i ++ drop i d → v ≡ f i → set s i v ≡ tab f (i + 1) ++ drop (i + 1) d
-tab_more f i s d v l e g =
-    rw (e, g, add-one, drop-cons d i v l, set_at (tab f i) (get_or d i v) (drop (suc i) d) (f i) i (length_tab f i), tab_snoc f i, append_assoc (tab f i) (f i ∷ []) (drop (suc i) d))
+module _ {A : Type 0} (f : ℕ → A) (lent : List A) where
+  pub over_none_yet : lent ≡ over (tab f 0) lent
+  unfolding over tab
+  over_none_yet = refl
 
--- the first k of n elements stand in the front of a list that has place for them
-pub record Filled {A : Type 0} (f : ℕ → A) (n : ℕ) (lent room : List A) (k : ℕ) : Type 0 where
-  pub within : k ≤ n
-  pub place : n ≤ length lent
-  pub long : length room ≡ length lent
-  pub front : room ≡ tab f k ++ drop k lent
-
-module _ {A : Type 0} {f : ℕ → A} {n : ℕ} {lent : List A} where
-  pub filled_none : n ≤ length lent → Filled f n lent lent 0
-  unfolding tab
-  filled_none h = record { within = omega arith; place = h; long = refl; front = refl }
-
-  pub filled_more : {room : List A} {k : ℕ} {v : A} → Filled f n lent room k → k < n → v ≡ f k → Filled f n lent (set room k v) (k + 1)
-  filled_more {room} {k} {v} t h e = record { within = omega arith; place = t.place; long = simp length-set t.long; front = tab_more f k room lent v (omega arith) t.front e }
-
-  -- the loop's end: over what stood there
-  pub filled_over : {room : List A} {k : ℕ} → Filled f n lent room k → n ≤ k → room ≡ over (tab f n) lent
+  pub over_more : (k : ℕ) (room : List A) (v : A) → room ≡ over (tab f k) lent → k < length lent → v ≡ f k → set room k v ≡ over (tab f (k + 1)) lent
   unfolding over
-  filled_over {room} {k} t h = let e : k ≡ n = omega arith in rw (length_tab f n, ← e) t.front
+  over_more k room v e l g =
+      rw (e, g, length_tab f k, length_tab f (k + 1), add-one, drop-cons lent k (f k) l, set_at (tab f k) (get_or lent k (f k)) (drop (suc k) lent) (f k) k (length_tab f k), tab_snoc f k, append_assoc (tab f k) (f k ∷ []) (drop (suc k) lent))
 
-module _ {A : Type 0} (z : A) where
-  tab_same : (n : ℕ) → tab (λ _. z) n ≡ replicate n z
-  unfolding tab
-  tab_same zero = refl
-  tab_same (suc n) = ap (λ (l : List A). z ∷ l) (tab_same n)
+  -- w elements at once
+  over_part : (k w : ℕ) (room part : List A) → room ≡ over (tab f k) lent → part ≡ tab (λ j. f (k + j)) w → put_mid k w room part ≡ over (tab f (k + w)) lent
+  unfolding over
+  over_part k w room part e g =
+      rw (e, g, length_tab f k, length_tab f (k + w), take_at (tab f k) (drop k lent) k (length_tab f k), drop_at (tab f k) (drop k lent) k (length_tab f k), drop-drop w k lent, tab_append f k w, append_assoc (tab f k) (tab (λ j. f (k + j)) w) (drop (k + w) lent))
 
-  drop_same : (n m : ℕ) → drop n (replicate m z) ≡ replicate (m - n) z
-  drop_same zero m = let e : m - 0 ≡ m = omega arith in rw (e)
-  drop_same (suc n) zero = let e : 0 - suc n ≡ 0 = omega arith in rw (e)
-  drop_same (suc n) (suc m) = let e : suc m - suc n ≡ m - n = omega arith in rw (e) (drop_same n m)
+-- over zeros
+pub over_zeros : {A : Type 0} (z : A) (f : ℕ → A) (n m : ℕ) → over (tab f n) (replicate m z) ≡ padded z m (tab f n)
+unfolding over padded
+over_zeros z f n m = rw (drop-replicate (length (tab f n)) m z)
 
-  -- zeros all along
-  pub filled_cleared : {lent room : List A} {k : ℕ} → Filled (λ _. z) (length lent) lent room k → length lent ≤ k → room ≡ replicate (length lent) z
-  filled_cleared {lent} {room} {k} t h = let e : k ≡ length lent = omega arith in rw (t.front, e, drop-length lent, tab_same (length lent), append-nil)
+-- ---- element k, of w bytes, by the test that the code makes
 
-  -- over zeros
-  pub filled_padded : (m : ℕ) {f : ℕ → A} {n : ℕ} {lent room : List A} {k : ℕ} → Filled f n lent room k → n ≤ k → lent ≡ replicate m z → room ≡ padded z m (tab f n)
-  unfolding padded
-  filled_padded m {f} {n} {lent} {room} {k} t h g = let e : k ≡ n = omega arith in rw (t.front, e, g, length_tab f n, drop_same n m)
+whole : (w n m k : ℕ) → 0 < w → n ≤ m / w → k < n → k * w + w ≤ m
+whole w n m k some h l = let t : suc k ≤ n = omega arith in omega (arith, suc-mul k w, mul-le-mul_right w t, (le-div_iff_mul-le {x = n} some).0 h)
+
+pub place_in_room : (w m n k : ℕ) {r : Bool} → 0 < w → r ≡ readable w m n → r ≡ true → w * k + w ≤ m → k < n
+place_in_room w m n k some e t l = let h : suc k ≤ m / w = (le-div_iff_mul-le {x = suc k} some).1 (omega (arith, suc-mul k w)) in omega (arith, readable_room w m n (sym e ∙ t))
+
+pub end_in_bytes : {w v m n k : ℕ} {r : Bool} → 0 < w → v ≡ w → r ≡ writable w n m → r ≡ true → k < n → (k + 1) * v ≤ m
+end_in_bytes {w} {v} {m} {n} {k} some s e t l = let h = whole w n m k some (writable_room w n m (sym e ∙ t)) l in rw (s) (omega arith)
 
 -- ---- bytes of one number
 
-pub word4 : (b : List ℕ) (k : ℕ) → 4 * k + 4 ≤ length b → get_or b (4 * k) 0 + get_or b (4 * k + 1) 0 * 0x100 + get_or b (4 * k + 2) 0 * 0x1_0000 + get_or b (4 * k + 3) 0 * 0x100_0000 ≡ word_at 4 b k
-unfolding word_at spelled tab
-word4 b k h = rw (piece 4 (4 * k) b h) (omega (arith, ap (λ t. get_or b t 0) (add-zero (4 * k))))
+eight : (b : List ℕ) → length b ≡ 8 → from_le_bytes w64 b ≡ spelled b
+unfolding spelled tab
+eight b h = omega (arith, ap spelled (tab_is 0 b (λ j. get_or b j 0) 8 h (λ j _. refl)))
 
-pub word8 : (b : List ℕ) (k : ℕ) → 8 * k + 8 ≤ length b
-    → get_or b (8 * k) 0 + get_or b (8 * k + 1) 0 * 0x100 + get_or b (8 * k + 2) 0 * 0x1_0000 + get_or b (8 * k + 3) 0 * 0x100_0000 + get_or b (8 * k + 4) 0 * 0x1_0000_0000 + get_or b (8 * k + 5) 0 * 0x100_0000_0000 + get_or b (8 * k + 6) 0 * 0x1_0000_0000_0000 + get_or b (8 * k + 7) 0 * 0x100_0000_0000_0000 ≡ word_at 8 b k
-unfolding word_at spelled tab
-word8 b k h = rw (piece 8 (8 * k) b h) (omega (arith, ap (λ t. get_or b t 0) (add-zero (8 * k))))
+with_zeros : (b : List ℕ) (n : ℕ) → spelled (b ++ replicate n 0) ≡ spelled b
+unfolding spelled
+with_zeros [] zero = refl
+with_zeros [] (suc n) = rw (with_zeros [] n)
+with_zeros (x ∷ b) n = rw (with_zeros b n)
+
+pub spelled_of : (b : List ℕ) (n : ℕ) → length b ≤ 8 → n ≡ from_le_bytes w64 (put_mid 0 (length b) (replicate 8 0) b) → n ≡ spelled b
+spelled_of b n h e =
+    let zeros = drop (length b) (replicate 8 0) in
+    let long : length (b ++ zeros) ≡ 8 = rw (length-append b zeros, drop-replicate {X = ℕ} (length b) 8 0, length-replicate {A = ℕ} (8 - length b) 0) (omega arith) in
+    e ∙ eight (b ++ zeros) long ∙ rw (drop-replicate {X = ℕ} (length b) 8 0) (with_zeros b (8 - length b))
+
+below : (f : ℕ → ℕ) (w : ℕ) → ((j : ℕ) → f j < 256) → spelled (tab f w) < 2 ^ (8 * w)
+unfolding spelled tab
+below f zero h = omega arith
+below f (suc w) h = let r = below (λ j. f (suc j)) w (λ j. h (suc j)) in rw (power w) (omega (arith, h 0))
+
+-- what is left of bytes after k chunks of w
+pub record Left (w : ℕ) (bytes rest : List ℕ) (k : ℕ) : Type 0 where
+  pub within : w * k ≤ length bytes
+  pub same : rest ≡ drop (w * k) bytes
+
+pub left_all : (w : ℕ) (bytes : List ℕ) → Left w bytes bytes 0
+left_all w bytes = record { within = omega arith; same = rw (mul-zero w) }
+
+module _ {w k : ℕ} {bytes rest : List ℕ} (some : 0 < w) (h : Left w bytes rest k) where
+  pub chunk_more : (chunk next : List ℕ) → rest ≡ chunk ++ next → length chunk ≡ w → Left w bytes next (k + 1) × ((w * k + w ≤ length bytes) × (spelled chunk ≡ word_at w bytes k))
+  unfolding word_at
+  chunk_more chunk next e l =
+      let t = sym h.same ∙ e in
+      let inside : w * k + w ≤ length bytes = omega (arith, h.within, length-drop (w * k) bytes, ap length t, length-append chunk next) in
+      let n : w * (k + 1) ≡ w * k + w = omega arith in
+      (record { within = rw (n) inside; same = rw (n, ← drop-drop w (w * k) bytes, t) (sym (drop_at chunk next w l)) }, (inside, ap spelled (sym (rw (t) (take_at chunk next w l)))))
+
+  pub chunk_last : length rest < w → k ≡ length bytes / w
+  chunk_last l =
+      let r = length bytes - w * k in
+      let e : length bytes ≡ w * k + r = omega (arith, h.within) in
+      let b : r < w = omega (arith, ap length h.same, length-drop (w * k) bytes) in
+      sym (ap (λ t. t / w) e ∙ mul-add-div some k r ∙ ap (λ t. k + t) (div-eq_of_lt b) ∙ add-zero k)
+
+pub word_below : (w k : ℕ) (b : List ℕ) → ((i : ℕ) → Fits w8 (get_or b i 0)) → w * k + w ≤ length b → word_at w b k < 2 ^ (8 * w)
+unfolding word_at
+word_below w k b h l = rw (piece w (w * k) b l) (below (λ j. get_or b (w * k + j) 0) w (λ j. let f = h (w * k + j) in omega arith))
+
+all_bytes : (n : ℕ) → to_le_bytes w64 n ≡ tab (byte_of n) 8
+unfolding tab byte_of
+all_bytes n = rw (div-one n)
+
+pub low_bytes : (n w : ℕ) → w ≤ 8 → take w (to_le_bytes w64 n) ≡ tab (byte_of n) w
+low_bytes n w h =
+    let e : w + (8 - w) ≡ 8 = omega arith in
+    ap (take w) (all_bytes n ∙ ap (tab (byte_of n)) (sym e) ∙ tab_append (byte_of n) w (8 - w)) ∙ take_at (tab (byte_of n) w) (tab (λ i. byte_of n (w + i)) (8 - w)) w (length_tab (byte_of n) w)
+
+-- ---- a list's bytes, element by element
+
+module _ {A : Type 0} (code : A → ℕ) (d : A) (xs : List A) (w : ℕ) where
+  abbrev pub laid : ℕ → ℕ
+  laid i = byte_of (code (get_or xs (i / w) d)) (i % w)
+
+  here : (x : A) (k : ℕ) → x ≡ get_or xs k d → tab (byte_of (code x)) w ≡ tab (λ j. laid (k * w + j)) w
+  here x k e = tab_cong _ _ w (λ j h. rw (div-mul-add k w j h, mod-mul-add k w j h, ← e))
+
+  pub over_none : (lent : List ℕ) → lent ≡ over (tab laid (0 * w)) lent
+  unfolding over tab
+  over_none lent = rw (zero-mul w)
+
+  pub over_next : (v k : ℕ) (x : A) (lent bytes part : List ℕ) → v ≡ w → bytes ≡ over (tab laid (k * w)) lent → x ≡ get_or xs k x → k < length xs → part ≡ tab (byte_of (code x)) w
+      → put_mid (k * v) ((k + 1) * v - k * v) bytes part ≡ over (tab laid ((k + 1) * w)) lent
+  over_next v k x lent bytes part s e f l g =
+      let t : (k + 1) * w - k * w ≡ w = omega arith in
+      let n : (k + 1) * w ≡ k * w + w = omega arith in
+      rw (s, t, n) (over_part laid lent (k * w) w bytes part e (g ∙ here x k (get_or_read xs k x l f d)))

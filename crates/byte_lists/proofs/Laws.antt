@@ -3,12 +3,13 @@ use Prim.Native.Nat.{ℕ, zero, suc, ◌/◌, ◌%◌, ◌*◌, ◌^◌, ◌+◌
 use mathlib.Core.Path.{◌≡◌, refl, sym, ap, ◌∙◌}
 use mathlib.Core.Bool.{Bool, true, false, ◌&&◌}
 use mathlib.Core.List.{List, [], ◌∷◌, ◌++◌}
-use native.Mathlib.Nat.{add-zero, add-suc, suc-add, zero-div, not-suc-le-zero, le_of_suc-le-suc, le_trans, mul-le-mul_right, div-lt_iff_lt-mul, le-div_iff_mul-le}
+use native.Mathlib.Nat.{add-zero, add-suc, suc-add, zero-div, le_trans, mul-le-mul_right, div-lt_iff_lt-mul, le-div_iff_mul-le}
 use native.Mathlib.Omega.{arith}
 use borrow.Author.Tests.{ltb-true, ltb-false, leb-true}
 use lib.Dec.{ltb, leb, eqb}
 use lib.Ieee.{Float, nan, binary64, of_bits, to_bits}
 use lib.ListN.{length, get_or, take, drop, replicate, length-append, length-replicate, get_or-eq_default}
+use Rattle.std.proofs.lemmas.List.{get_or_default}
 use lib.Seq.{take_at, drop-cons}
 use Rattle.definitions.specs.Lists.{tab, padded}
 use Rattle.definitions.specs.Numbers.{zeroᶠ}
@@ -52,11 +53,6 @@ module _ {A : Type 0} (z : A) where
   get_d_zeros (x ∷ xs) n zero = refl
   get_d_zeros (x ∷ xs) n (suc i) = get_d_zeros xs n i
 
-  get_d_within : (d : A) (xs : List A) (i : ℕ) → i < length xs → get_or xs i d ≡ get_or xs i z
-  get_d_within d [] i h = absurd (not-suc-le-zero h)
-  get_d_within d (x ∷ xs) zero h = refl
-  get_d_within d (x ∷ xs) (suc i) h = get_d_within d xs i (le_of_suc-le-suc h)
-
 back_to : (a m : ℕ) → a ≤ m → a + (m - a) ≡ m
 back_to a m h = omega arith
 
@@ -69,7 +65,7 @@ module _ {A : Type 0} (pattern : A → ℕ) (z d : A) (none : pattern z ≡ 0) (
   unfolding padded
   at xs m i true e =
       let h : i < length xs * w = ltb-true i (length xs * w) e in
-      rw (get_d_zeros 0 (tab (laid d xs) (length xs * w)) (m - length (tab (laid d xs) (length xs * w))) i, get_d_tab (laid d xs) (length xs * w) i 0 h, get_d_within z d xs (i / w) ((div-lt_iff_lt-mul some).1 h))
+      rw (get_d_zeros 0 (tab (laid d xs) (length xs * w)) (m - length (tab (laid d xs) (length xs * w))) i, get_d_tab (laid d xs) (length xs * w) i 0 h, get_or_default xs (i / w) d z ((div-lt_iff_lt-mul some).1 h))
   at xs m i false e =
       let h : length xs * w ≤ i = ltb-false i (length xs * w) e in
       let l : length (tab (laid d xs) (length xs * w)) ≤ i = rw (length_tab (laid d xs) (length xs * w)) h in

@@ -2,20 +2,21 @@
 use Prim.Native.Nat.{ℕ, zero, suc, ◌/◌, ◌%◌, ◌*◌, ◌^◌, ◌+◌, ◌<◌, ◌≤◌}
 use mathlib.Core.Path.{◌≡◌, refl, sym, ap, ◌∙◌}
 use mathlib.Core.List.{List, [], ◌∷◌, ◌++◌, append-nil}
-use native.Mathlib.Nat.{mul-suc, mul_comm, zero-lt-suc, mod-add-div, div-one, div-lt_iff_lt-mul, div-div-eq-div-mul, mul-add-div, mul-add-mod_self_left, div-eq_of_lt, mod-eq_of_lt, add-zero, zero-add, suc-add, suc-mul, zero-div, le-div_iff_mul-le, not-suc-le-zero, le_of_suc-le-suc}
+use native.Mathlib.Nat.{mul-suc, mul_comm, zero-lt-suc, mod-add-div, div-one, div-lt_iff_lt-mul, div-div-eq-div-mul, mul-add-div, mul-add-mod_self_left, div-eq_of_lt, mod-eq_of_lt, add-zero, zero-add, suc-add, suc-mul, zero-div, le-div_iff_mul-le}
 use native.Mathlib.Omega.{arith}
 use lib.Dec.{T}
 use lib.Ieee.{Float, nan, binary64, fits, to_bits, of_bits}
 use lib.Ieee.Bits.{of_bits-to_bits, to_bits-lt}
 use lib.ListN.{length, get_or, replicate, get_or-eq_default}
 use lib.Pow.{pow-add, pow_pos}
+use Rattle.std.proofs.lemmas.List.{get_or_default}
 use Rattle.definitions.specs.Lists.{tab}
 use Rattle.definitions.specs.Numbers.{zeroᶠ}
 use Rattle.laws.proofs.Lists.{Each, each_imp, each_read, length_tab, get_d_tab, tab_cong, tab_append, tab_same}
 use Rattle.byte_lists.specs.Bytes.{spelled, word_at, words_of, ints_of, numbers_of, floats_of, byte_of, bytes_of, bytes_of_ints, bytes_of_numbers, bytes_of_floats}
 use Rattle.byte_lists.proofs.Laws.{piece}
 
-power : (j : ℕ) → 2 ^ (8 * suc j) ≡ 256 * 2 ^ (8 * j)
+pub power : (j : ℕ) → 2 ^ (8 * suc j) ≡ 256 * 2 ^ (8 * j)
 power j = rw (mul-suc 8 j, pow-add 2 (8 * j) 8) (mul_comm (2 ^ (8 * j)) 256)
 
 lowest : (x : ℕ) → byte_of x 0 ≡ x % 256
@@ -78,18 +79,13 @@ module _ {A : Type 0} (pattern : A → ℕ) (of : ℕ → A) (z d : A) (none : p
   zero_held : Held z
   zero_held = (rw none (pow_pos (8 * w)), rw none back)
 
-  within : (xs : List A) (k : ℕ) → k < length xs → get_or xs k d ≡ get_or xs k z
-  within [] k h = absurd (not-suc-le-zero h)
-  within (x ∷ xs) zero h = refl
-  within (x ∷ xs) (suc k) h = within xs k (le_of_suc-le-suc h)
-
   spelled_out : (xs : List A) (t : ℕ) → bytes xs ++ replicate t 0 ≡ tab (laid (number xs) w) (length xs * w + t)
   unfolding laid number byte_of
   spelled_out xs t =
       let n = length xs * w in
       sym (tab_append (laid (number xs) w) n t
       ∙ rw (
-        tab_cong (laid (number xs) w) (λ i. byte_of (pattern (get_or xs (i / w) d)) (i % w)) n (λ i h. rw (within xs (i / w) ((div-lt_iff_lt-mul some).1 h))),
+        tab_cong (laid (number xs) w) (λ i. byte_of (pattern (get_or xs (i / w) d)) (i % w)) n (λ i h. rw (get_or_default xs (i / w) d z ((div-lt_iff_lt-mul some).1 h))),
         tab_same (λ i. laid (number xs) w (n + i)) 0 t (λ i. beyond (n + i) ((le-div_iff_mul-le some).1 (at_most n i))),
       ))
     where

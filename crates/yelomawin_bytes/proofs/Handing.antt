@@ -15,7 +15,7 @@ use Rattle.definitions.specs.Refusal.{Outcome, refused, done, ◌>>=◌, number_
 use Rattle.definitions.specs.Groups.{Grouping, grouping_left, grouping_work_left}
 use Rattle.definitions.specs.JoiningLog.{Logged, grouping_in, log_left}
 use Rattle.definitions.specs.Setup.{Built, Lent, lent_of, setup_left}
-use Rattle.definitions.specs.Answers.{answer_of, answer_number, grouping_answer, grouping_number, grouping_log_answer, grouping_log_number, setup_answer, setup_number}
+use Rattle.definitions.specs.Answers.{answer_of, answer_number, grouping_answer, grouping_log_answer, setup_answer}
 use Rattle.definitions.specs.declared.Refusal.{Refusal}
 use Rattle.definitions.specs.declared.Refusal.TheVariants.{TooLarge, RowListLength, ColumnListLength, FirstPointer, LastPointer, PointerFalls, ColumnOutside, ValueNotFinite, NotSquare, BlockSize, GroupSize, NotMultiple, ListTooShort, BlockNotSymmetric, BlockPivot, NoNode, CoarseTooLarge, CoarseListTooShort, MissingDiagonal, ZeroDiagonal, NegativeDiagonal, EstimateFailed, CoarseScale, CoarsePivot, WrongLength, SetupMisfit, NeighbourOffsets, NeighbourOutside, LogTooShort}
 use Rattle.yelomawin.specs.Boundary.{received, whether}
@@ -70,14 +70,14 @@ unfolding answer_number answer_of number_in
 answer_number_lem (done x) = refl
 answer_number_lem (refused r) = refl
 
-setup_number_lem : (s : Outcome Built) → setup_number (setup_answer s) ≡ number_in s
-unfolding setup_number setup_answer number_in
+setup_number_lem : (s : Outcome Built) → answer_number (setup_answer s) ≡ number_in s
+unfolding answer_number setup_answer number_in
 setup_number_lem (done x) = refl
 setup_number_lem (refused r) = refl
 
 -- a log changes no number
-log_number : (g : Outcome Logged) → grouping_log_number (grouping_log_answer g) ≡ grouping_number (grouping_answer (grouping_in g))
-unfolding grouping_log_number grouping_log_answer grouping_number grouping_answer grouping_in ◌>>=◌
+log_number : (g : Outcome Logged) → answer_number (grouping_log_answer g) ≡ answer_number (grouping_answer (grouping_in g))
+unfolding answer_number grouping_log_answer grouping_answer grouping_in ◌>>=◌
 log_number (done x) = refl
 log_number (refused r) = refl
 
@@ -158,9 +158,9 @@ module _ {fits : Bool} (e : fits ≡ true) where
   pub both_emptied : {A : Type 0} (z : A) {w u : ℕ} {numbers numbers' : List ℕ → List A} {b c : List ℕ} {xs ys xs₁ ys₁ xs₂ ys₂ : List A} → Read w numbers b xs xs₁ → Read u numbers' c ys ys₁ → xs₂ ≡ emptied z xs₁ → ys₂ ≡ emptied z ys₁ → BothEmptied fits z xs ys xs₂ ys₂
   both_emptied z r s h k = record { first = emptied_out z r h; second = emptied_out z s k }
 
-  pub matrix_emptied : {p i v row col row₁ col₁ row₂ col₂ : List ℕ} {value value₁ value₂ : List Float} → Read 4 ints_of p row row₁ × (Read 4 ints_of i col col₁ × Read 8 floats_of v value value₁)
-      → (row₂ ≡ emptied 0 row₁) × ((col₂ ≡ emptied 0 col₁) × (value₂ ≡ emptied zeroᶠ value₁)) → MatrixEmptied fits row col value row₂ col₂ value₂
-  matrix_emptied r h = record { row_room = emptied_out 0 r.0 h.0; col_room = emptied_out 0 r.1.0 h.1.0; value_room = emptied_out zeroᶠ r.1.1 h.1.1 }
+  pub matrix_emptied : {p i v row col row₁ col₁ row₂ col₂ : List ℕ} {value value₁ value₂ : List Float} → Read 4 ints_of p row row₁ → Read 4 ints_of i col col₁ → Read 8 floats_of v value value₁
+      → row₂ ≡ emptied 0 row₁ → col₂ ≡ emptied 0 col₁ → value₂ ≡ emptied zeroᶠ value₁ → MatrixEmptied fits row col value row₂ col₂ value₂
+  matrix_emptied r s t h k l = record { row_room = emptied_out 0 r h; col_room = emptied_out 0 s k; value_room = emptied_out zeroᶠ t l }
 
 -- what is not called leaves all
 pub matrix_kept : {row col : List ℕ} {value : List Float} → MatrixEmptied false row col value row col value
@@ -202,8 +202,8 @@ module _ {fits : Bool} (e : fits ≡ true) where
 
   -- grouping alone leaves all after every refusal
   pub ids_told : (g : Outcome Grouping) {number : ℕ} {lent room room' bytes bytes' : List ℕ} → writes 4 lent bytes ≡ true → length room ≡ length lent → Handed 4 0 bytes_of_ints (not (eqb number 0)) room bytes room' bytes'
-      → number ≡ grouping_number (grouping_answer g) → room ≡ grouping_left g lent → ResultLeft fits (grouping_work_left g) (ids_left g) lent bytes room' bytes'
-  unfolding grouping_number grouping_answer grouping_left grouping_work_left ids_left ◌>>=◌ number_in leaves_all result_left work_left bytes_left
+      → number ≡ answer_number (grouping_answer g) → room ≡ grouping_left g lent → ResultLeft fits (grouping_work_left g) (ids_left g) lent bytes room' bytes'
+  unfolding answer_number grouping_answer grouping_left grouping_work_left ids_left ◌>>=◌ number_in leaves_all result_left work_left bytes_left
   ids_told (done x) {lent = lent} fit same h n t = rw (e) (handed 0 4 (omega arith) bytes_of_ints (λ (y : Grouping). y.ids) no_ints ints_padded lent same fit h (done x) (rw (n)) t)
   ids_told (refused r) {lent = lent} fit same h n t =
       let u = by_cause 0 4 (omega arith) bytes_of_ints (λ (y : Grouping). y.ids) no_ints ints_padded lent same fit h true (rw (n, (left ℕ 0 lent r).2)) t in
@@ -211,12 +211,12 @@ module _ {fits : Bool} (e : fits ≡ true) where
 
   -- and so does grouping with a log
   pub logged_ids_told : (g : Outcome Logged) {number : ℕ} {lent room room' bytes bytes' : List ℕ} → writes 4 lent bytes ≡ true → length room ≡ length lent → Handed 4 0 bytes_of_ints (not (eqb number 0)) room bytes room' bytes'
-      → number ≡ grouping_log_number (grouping_log_answer g) → room ≡ grouping_left (grouping_in g) lent → ResultLeft fits (grouping_work_left (grouping_in g)) (ids_left (grouping_in g)) lent bytes room' bytes'
+      → number ≡ answer_number (grouping_log_answer g) → room ≡ grouping_left (grouping_in g) lent → ResultLeft fits (grouping_work_left (grouping_in g)) (ids_left (grouping_in g)) lent bytes room' bytes'
   logged_ids_told g fit same h n t = ids_told (grouping_in g) fit same h (n ∙ log_number g) t
 
   pub log_told : (g : Outcome Logged) {number : ℕ} {lent room room' bytes bytes' : List ℕ} → writes 4 lent bytes ≡ true → length room ≡ length lent → Handed 4 0 bytes_of_ints (not (eqb number 0)) room bytes room' bytes'
-      → number ≡ grouping_log_number (grouping_log_answer g) → room ≡ log_left g lent → ResultLeft fits (grouping_work_left (grouping_in g)) (log_bytes_left g) lent bytes room' bytes'
-  unfolding grouping_log_number grouping_log_answer grouping_in grouping_work_left log_left log_bytes_left ◌>>=◌ number_in leaves_all result_left work_left bytes_left
+      → number ≡ answer_number (grouping_log_answer g) → room ≡ log_left g lent → ResultLeft fits (grouping_work_left (grouping_in g)) (log_bytes_left g) lent bytes room' bytes'
+  unfolding answer_number grouping_log_answer grouping_in grouping_work_left log_left log_bytes_left ◌>>=◌ number_in leaves_all result_left work_left bytes_left
   log_told (done x) {lent = lent} fit same h n t = rw (e) (handed 0 4 (omega arith) bytes_of_ints (λ (y : Logged). y.log) no_ints ints_padded lent same fit h (done x) (rw (n)) t)
   log_told (refused r) {lent = lent} fit same h n t =
       let u = by_cause 0 4 (omega arith) bytes_of_ints (λ (y : Logged). y.log) no_ints ints_padded lent same fit h true (rw (n, (left ℕ 0 lent r).2)) t in
@@ -225,7 +225,7 @@ module _ {fits : Bool} (e : fits ≡ true) where
   pub setup_told : (known : Bool) (s : Outcome Built) (lent : Lent) {number : ℕ} {ints work_ints ints' bytes bytes' : List ℕ} {floats work_floats floats' : List Float} {float_bytes floatBytes' : List ℕ}
       → writes 4 lent.ints bytes ≡ true → writes 8 lent.floats float_bytes ≡ true → length ints ≡ length lent.ints → length floats ≡ length lent.floats
       → Handed 4 0 bytes_of_ints (leaves_all number) ints bytes ints' bytes' → Handed 8 zeroᶠ bytes_of_floats (leaves_all number) floats float_bytes floats' floatBytes'
-      → number ≡ whether known (setup_number (setup_answer s)) 255 → lent_of ints floats work_ints work_floats ≡ whether known (setup_left s lent) lent
+      → number ≡ whether known (answer_number (setup_answer s)) 255 → lent_of ints floats work_ints work_floats ≡ whether known (setup_left s lent) lent
       → LentLeft (fits && known) s lent (lent_of ints' floats' work_ints work_floats)
       × ((bytes' ≡ after (fits && known) (bytes_left (λ (b : Built). bytes_of_ints b.ints) s) bytes) × (floatBytes' ≡ after (fits && known) (bytes_left (λ (b : Built). bytes_of_floats b.floats) s) float_bytes))
   setup_told known s lent fit fit' same same' h h' n t =

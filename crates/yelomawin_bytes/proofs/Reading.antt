@@ -1,6 +1,6 @@
 -- What is read stands in the front of its room.
 use Prim.Native.Nat.{ℕ, ◌/◌}
-use mathlib.Core.Path.{◌≡◌}
+use mathlib.Core.Path.{◌≡◌, sym, ◌∙◌}
 use mathlib.Core.Bool.{Bool, true, cond}
 use mathlib.Core.List.{List}
 use lib.ListN.{length}
@@ -9,7 +9,8 @@ use Rattle.byte_lists.proofs.Laws.{front, room_for_lem, count}
 use Rattle.definitions.specs.Lists.{tab}
 use Rattle.yelomawin_bytes.specs.Handed.{Read}
 
-pub read_in : {A : Type 0} (w : ℕ) (f : List ℕ → ℕ → A) {b : List ℕ} {lent room : List A} {fits : Bool} → fits ≡ true → length room ≡ length lent → room ≡ cond fits (over (tab (f b) (length b / w)) lent) lent → Read w (λ c. tab (f c) (length c / w)) b lent room
-read_in w f {b} {lent} {room} e same h =
-    let t = rw (e) at h in
-    record { long = same; fit = room_for_lem (f b) (length b / w) lent room t; count = count (f b) (length b / w) lent room t; front = front (f b) (length b / w) lent room t }
+pub read_in : {A : Type 0} (w : ℕ) (numbers : List ℕ → List A) (f : ℕ → A) {b : List ℕ} {lent room : List A} {fits : Bool} → numbers b ≡ tab f (length b / w) → fits ≡ true → length room ≡ length lent → room ≡ cond fits (over (numbers b) lent) lent → Read w numbers b lent room
+read_in w numbers f {b} {lent} {room} q e same h =
+    let n = length b / w in
+    let t : room ≡ over (tab f n) lent = rw (e, q) at h in
+    record { long = same; fit = room_for_lem f n lent room t; count = count f n lent room t; front = front f n lent room t ∙ sym q }

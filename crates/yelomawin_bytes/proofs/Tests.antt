@@ -10,12 +10,14 @@ two false false e = (e, e)
 pub three : (a b c : Bool) → (a && (b && c)) ≡ true → (a ≡ true) × ((b ≡ true) × (c ≡ true))
 three a b c e = let t = two a (b && c) e in (t.0, two b c t.1)
 
-pub four : (a b c d : Bool) → (a && (b && (c && d))) ≡ true → (a ≡ true) × ((b ≡ true) × ((c ≡ true) × (d ≡ true)))
-four a b c d e = let t = two a (b && (c && d)) e in (t.0, three b c d t.1)
+-- two tests, asked one after the other
+pub passed : {p q a b : Bool} → p ≡ a → p ≡ true → q ≡ b → q ≡ true → ((a && b) ≡ true) × ((a ≡ true) × (b ≡ true))
+passed e f g h = (rw (← e, f, ← g) h, (sym e ∙ f, sym g ∙ h))
 
--- two tests, asked together
-pub tested : {r p q a b : Bool} (t : Bool) → p ≡ a → q ≡ b → r ≡ (p && q) → r ≡ t → (a && b) ≡ t
-tested t e f g h = rw (← e, ← f) (sym g ∙ h)
+-- one of two that did not hold
+pub first_failed : (b : Bool) {p a : Bool} → p ≡ a → p ≡ false → (a && b) ≡ false
+first_failed b e f = rw (← e, f)
 
-pub passed : {r p q a b : Bool} → p ≡ a → q ≡ b → r ≡ (p && q) → r ≡ true → ((a && b) ≡ true) × ((a ≡ true) × (b ≡ true))
-passed {a = a} {b} e f g h = let t = tested true e f g h in (t, two a b t)
+pub second_failed : (a : Bool) {q b : Bool} → q ≡ b → q ≡ false → (a && b) ≡ false
+second_failed true e f = sym e ∙ f
+second_failed false e f = refl

@@ -6,7 +6,7 @@ use Rattle.definitions.specs.Refusal.{Outcome, work_left}
 use Rattle.definitions.specs.Matrix.{Matrix}
 use Rattle.definitions.specs.Setup.{Lent, Built, setup_of, lengths_of}
 use Rattle.definitions.specs.Apply.{apply_call}
-use Rattle.definitions.specs.Answers.{answer_of, answer_number, setup_answer, setup_number, setup_values}
+use Rattle.definitions.specs.Answers.{answer_of, answer_number, setup_answer, setup_values}
 use Rattle.definitions.specs.Record.{are_policies, record_of, is_record}
 use Rattle.yelomawin.specs.Boundary.{options_of, whether, no_policy}
 use Rattle.yelomawin_bytes.specs.Calls.{misfit, after, bytes_left, answer_left}
@@ -23,7 +23,7 @@ bytes_setup fits a size groupSize aggregation basis policy lent room ints floats
     let known = are_policies aggregation basis policy in
     let s = setup_of a (options_of size groupSize aggregation basis policy) (lengths_of lent) in
     record {
-      number = cond fits (whether known (setup_number (setup_answer s)) no_policy) misfit;
+      number = cond fits (whether known (answer_number (setup_answer s)) no_policy) misfit;
       ints = after (fits && known) (bytes_left (λ (b : Built). bytes_of_ints b.ints) s) ints;
       floats = after (fits && known) (bytes_left (λ (b : Built). bytes_of_floats b.floats) s) floats;
       numbers = after fits (answer_left (whether known (setup_values (setup_answer s)) []) room) numbers;

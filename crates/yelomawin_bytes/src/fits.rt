@@ -2,13 +2,7 @@
 ghost use Rattle.std.specs.Prelude.{◌≡◌, ◌&&◌};
 ghost use Rattle.byte_lists.specs.Bytes.{readable, writable};
 
-use byte_lists::{holds_ints, holds_words, ints_fit, words_fit};
-
-pub(crate) fn both(a: bool, b: bool) -> bool
-    ensures { result ≡ (a && b) }
-{
-    if a { b } else { false }
-}
+use byte_lists::{readable, writable};
 
 pub(crate) fn matrix(
     row_ptr: usize,
@@ -20,10 +14,9 @@ pub(crate) fn matrix(
 ) -> bool
     ensures { result ≡ (readable 4 row_ptr row_room && (readable 4 col_idx col_room && readable 8 values value_room)) }
 {
-    both(
-        ints_fit(row_ptr, row_room),
-        both(ints_fit(col_idx, col_room), words_fit(values, value_room)),
-    )
+    readable::<u32>(row_ptr, row_room)
+        && readable::<u32>(col_idx, col_room)
+        && readable::<f64>(values, value_room)
 }
 
 pub(crate) fn graph(
@@ -34,10 +27,7 @@ pub(crate) fn graph(
 ) -> bool
     ensures { result ≡ (readable 4 offsets offset_room && readable 4 neighbours neighbour_room) }
 {
-    both(
-        ints_fit(offsets, offset_room),
-        ints_fit(neighbours, neighbour_room),
-    )
+    readable::<u32>(offsets, offset_room) && readable::<u32>(neighbours, neighbour_room)
 }
 
 // Two lists of floats, as block factors and a residual.
@@ -49,10 +39,7 @@ pub(crate) fn solve(
 ) -> bool
     ensures { result ≡ (readable 8 factors factor_room && readable 8 residual residual_room) }
 {
-    both(
-        words_fit(factors, factor_room),
-        words_fit(residual, residual_room),
-    )
+    readable::<f64>(factors, factor_room) && readable::<f64>(residual, residual_room)
 }
 
 // A setup's record and lists, and a residual.
@@ -68,27 +55,23 @@ pub(crate) fn kept(
 ) -> bool
     ensures { result ≡ (readable 8 «record» record_room && (readable 4 setup_ints ints_room && (readable 8 setup_floats floats_room && readable 8 residual residual_room))) }
 {
-    both(
-        words_fit(record, record_room),
-        both(
-            ints_fit(setup_ints, ints_room),
-            solve(setup_floats, residual, floats_room, residual_room),
-        ),
-    )
+    readable::<u64>(record, record_room)
+        && readable::<u32>(setup_ints, ints_room)
+        && solve(setup_floats, residual, floats_room, residual_room)
 }
 
 // A result of floats, and an answer.
 pub(crate) fn floats(room: usize, answer_room: usize, bytes: usize, answer: usize) -> bool
     ensures { result ≡ (writable 8 room bytes && writable 8 answer_room answer) }
 {
-    both(holds_words(room, bytes), holds_words(answer_room, answer))
+    writable::<f64>(room, bytes) && writable::<u64>(answer_room, answer)
 }
 
 // A result of integers, and an answer.
 pub(crate) fn ints(room: usize, answer_room: usize, bytes: usize, answer: usize) -> bool
     ensures { result ≡ (writable 4 room bytes && writable 8 answer_room answer) }
 {
-    both(holds_ints(room, bytes), holds_words(answer_room, answer))
+    writable::<u32>(room, bytes) && writable::<u64>(answer_room, answer)
 }
 
 // Group ids, a log, and an answer.
@@ -102,10 +85,7 @@ pub(crate) fn logged(
 ) -> bool
     ensures { result ≡ (writable 4 ids_room ids && (writable 4 log_room log && writable 8 answer_room answer)) }
 {
-    both(
-        holds_ints(ids_room, ids),
-        ints(log_room, answer_room, log, answer),
-    )
+    writable::<u32>(ids_room, ids) && ints(log_room, answer_room, log, answer)
 }
 
 // An estimate's diagonal, and its answer.
@@ -117,10 +97,7 @@ pub(crate) fn diagonal(
 ) -> bool
     ensures { result ≡ (readable 8 diagonal diagonal_room && writable 8 answer_room answer) }
 {
-    both(
-        words_fit(diagonal, diagonal_room),
-        holds_words(answer_room, answer),
-    )
+    readable::<f64>(diagonal, diagonal_room) && writable::<u64>(answer_room, answer)
 }
 
 // A setup's lists and its record.
@@ -134,8 +111,5 @@ pub(crate) fn setup(
 ) -> bool
     ensures { result ≡ (writable 4 ints_room setup_ints && (writable 8 floats_room setup_floats && writable 8 record_room «record»)) }
 {
-    both(
-        holds_ints(ints_room, setup_ints),
-        floats(floats_room, record_room, setup_floats, record),
-    )
+    writable::<u32>(ints_room, setup_ints) && floats(floats_room, record_room, setup_floats, record)
 }

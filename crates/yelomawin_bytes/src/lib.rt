@@ -17,7 +17,7 @@ ghost use Rattle.definitions.specs.Estimate.{estimate_call};
 ghost use Rattle.definitions.specs.Setup.{setup_of, lengths_of};
 ghost use Rattle.two_level_setup.specs.Promises.{lent_of};
 ghost use Rattle.definitions.specs.Apply.{apply_call};
-ghost use Rattle.definitions.specs.Answers.{answer_of, answer_number, grouping_answer, grouping_log_answer, estimate_answer, answer_values, grouping_number, grouping_values, grouping_log_number, grouping_log_values, estimate_number, estimate_values};
+ghost use Rattle.definitions.specs.Answers.{answer_of, answer_number, grouping_answer, grouping_log_answer, estimate_answer, answer_values, grouping_values, grouping_log_values, estimate_values};
 ghost use Rattle.definitions.specs.Record.{are_policies, record_of, is_record};
 ghost use Rattle.yelomawin.specs.Boundary.{options_of, whether};
 ghost use Rattle.yelomawin_bytes.specs.Results.{bytes_setup, bytes_apply, LentLeft};
@@ -95,21 +95,18 @@ pub fn yelomawin_bytes_diagonal(
         × ResultLeft fits (work_left zeroᶠ o) (bytes_left bytes_of_floats o) diagonal_room.old diagonal.old diagonal_room.new diagonal.new
         × AnswerLeft fits (answer_values (answer_of o)) answer_room.old answer.old answer_room.new answer.new }
 {
-    if fits::both(
-        fits::matrix(
-            row_ptr.len(),
-            col_idx.len(),
-            values.len(),
-            row_room.len(),
-            col_room.len(),
-            value_room.len(),
-        ),
-        fits::floats(
-            diagonal_room.len(),
-            answer_room.len(),
-            diagonal.len(),
-            answer.len(),
-        ),
+    if fits::matrix(
+        row_ptr.len(),
+        col_idx.len(),
+        values.len(),
+        row_room.len(),
+        col_room.len(),
+        value_room.len(),
+    ) && fits::floats(
+        diagonal_room.len(),
+        answer_room.len(),
+        diagonal.len(),
+        answer.len(),
     ) {
         rooms::read_matrix(row_ptr, col_idx, values, row_room, col_room, value_room);
         let row_ptr_count = row_ptr.len() / 4;
@@ -154,21 +151,18 @@ pub fn yelomawin_bytes_blocks(
         × ResultLeft fits (work_left zeroᶠ o) (bytes_left bytes_of_floats o) factor_room.old factors.old factor_room.new factors.new
         × AnswerLeft fits (answer_values (answer_of o)) answer_room.old answer.old answer_room.new answer.new }
 {
-    if fits::both(
-        fits::matrix(
-            row_ptr.len(),
-            col_idx.len(),
-            values.len(),
-            row_room.len(),
-            col_room.len(),
-            value_room.len(),
-        ),
-        fits::floats(
-            factor_room.len(),
-            answer_room.len(),
-            factors.len(),
-            answer.len(),
-        ),
+    if fits::matrix(
+        row_ptr.len(),
+        col_idx.len(),
+        values.len(),
+        row_room.len(),
+        col_room.len(),
+        value_room.len(),
+    ) && fits::floats(
+        factor_room.len(),
+        answer_room.len(),
+        factors.len(),
+        answer.len(),
     ) {
         rooms::read_matrix(row_ptr, col_idx, values, row_room, col_room, value_room);
         let row_ptr_count = row_ptr.len() / 4;
@@ -211,19 +205,16 @@ pub fn yelomawin_bytes_block_apply(
         × ResultLeft fits (work_left zeroᶠ o) (bytes_left bytes_of_floats o) correction_room.old correction.old correction_room.new correction.new
         × AnswerLeft fits (answer_values (answer_of o)) answer_room.old answer.old answer_room.new answer.new }
 {
-    if fits::both(
-        fits::solve(
-            factors.len(),
-            residual.len(),
-            factor_room.len(),
-            residual_room.len(),
-        ),
-        fits::floats(
-            correction_room.len(),
-            answer_room.len(),
-            correction.len(),
-            answer.len(),
-        ),
+    if fits::solve(
+        factors.len(),
+        residual.len(),
+        factor_room.len(),
+        residual_room.len(),
+    ) && fits::floats(
+        correction_room.len(),
+        answer_room.len(),
+        correction.len(),
+        answer.len(),
     ) {
         rooms::read_solve(factors, residual, factor_room, residual_room);
         let factors_count = factors.len() / 8;
@@ -260,21 +251,19 @@ pub fn yelomawin_bytes_group(
     ensures { let fits = (reads 4 offsets.now offset_room.old && reads 4 neighbours.now neighbour_room.old)
         && (writes 4 ids_room.old ids.old && writes 8 answer_room.old answer.old) in
         let g = grouping_call nodes group_size (ints_of offsets.now) (ints_of neighbours.now) (length ids_room.old) (length work.old) in
-        (result ≡ cond fits (grouping_number (grouping_answer g)) misfit)
+        (result ≡ cond fits (answer_number (grouping_answer g)) misfit)
         × BothEmptied fits 0 offset_room.old neighbour_room.old offset_room.new neighbour_room.new
         × ResultLeft fits (grouping_work_left g) (ids_left g) ids_room.old ids.old ids_room.new ids.new
         × (work.new ≡ after fits (grouping_work_left g) work.old)
         × AnswerLeft fits (grouping_values (grouping_answer g)) answer_room.old answer.old answer_room.new answer.new }
 {
-    if fits::both(
-        fits::graph(
-            offsets.len(),
-            neighbours.len(),
-            offset_room.len(),
-            neighbour_room.len(),
-        ),
-        fits::ints(ids_room.len(), answer_room.len(), ids.len(), answer.len()),
-    ) {
+    if fits::graph(
+        offsets.len(),
+        neighbours.len(),
+        offset_room.len(),
+        neighbour_room.len(),
+    ) && fits::ints(ids_room.len(), answer_room.len(), ids.len(), answer.len())
+    {
         rooms::read_graph(offsets, neighbours, offset_room, neighbour_room);
         let offsets_count = offsets.len() / 4;
         let neighbours_count = neighbours.len() / 4;
@@ -288,8 +277,8 @@ pub fn yelomawin_bytes_group(
             answer_room,
         );
         rooms::clear_graph(offset_room, neighbour_room);
-        rooms::hand_ints(number != 0, ids_room, ids);
-        rooms::hand_answer(answer_room, answer);
+        rooms::hand(number != 0, ids_room, ids);
+        rooms::hand(false, answer_room, answer);
         return number;
     }
     254
@@ -315,28 +304,25 @@ pub fn yelomawin_bytes_group_log(
         && (writes 4 ids_room.old ids.old && (writes 4 log_room.old log.old && writes 8 answer_room.old answer.old)) in
         let g = grouping_log_call nodes group_size (ints_of offsets.now) (ints_of neighbours.now)
         (length ids_room.old) (length log_room.old) (length work.old) in
-        (result ≡ cond fits (grouping_log_number (grouping_log_answer g)) misfit)
+        (result ≡ cond fits (answer_number (grouping_log_answer g)) misfit)
         × BothEmptied fits 0 offset_room.old neighbour_room.old offset_room.new neighbour_room.new
         × ResultLeft fits (grouping_work_left (grouping_in g)) (ids_left (grouping_in g)) ids_room.old ids.old ids_room.new ids.new
         × ResultLeft fits (grouping_work_left (grouping_in g)) (log_bytes_left g) log_room.old log.old log_room.new log.new
         × (work.new ≡ after fits (grouping_work_left (grouping_in g)) work.old)
         × AnswerLeft fits (grouping_log_values (grouping_log_answer g)) answer_room.old answer.old answer_room.new answer.new }
 {
-    if fits::both(
-        fits::graph(
-            offsets.len(),
-            neighbours.len(),
-            offset_room.len(),
-            neighbour_room.len(),
-        ),
-        fits::logged(
-            ids_room.len(),
-            log_room.len(),
-            answer_room.len(),
-            ids.len(),
-            log.len(),
-            answer.len(),
-        ),
+    if fits::graph(
+        offsets.len(),
+        neighbours.len(),
+        offset_room.len(),
+        neighbour_room.len(),
+    ) && fits::logged(
+        ids_room.len(),
+        log_room.len(),
+        answer_room.len(),
+        ids.len(),
+        log.len(),
+        answer.len(),
     ) {
         rooms::read_graph(offsets, neighbours, offset_room, neighbour_room);
         let offsets_count = offsets.len() / 4;
@@ -353,9 +339,9 @@ pub fn yelomawin_bytes_group_log(
         );
         let kept = number != 0;
         rooms::clear_graph(offset_room, neighbour_room);
-        rooms::hand_ints(kept, ids_room, ids);
-        rooms::hand_ints(kept, log_room, log);
-        rooms::hand_answer(answer_room, answer);
+        rooms::hand(kept, ids_room, ids);
+        rooms::hand(kept, log_room, log);
+        rooms::hand(false, answer_room, answer);
         return number;
     }
     254
@@ -379,29 +365,26 @@ pub fn yelomawin_bytes_estimate(
     ensures { let fits = matrix_fits row_ptr.now col_idx.now values.now row_room.old col_room.old value_room.old
         && (reads 8 diagonal.now diagonal_room.old && writes 8 answer_room.old answer.old) in
         let o = estimate_call (matrix_of rows cols row_ptr.now col_idx.now values.now) (floats_of diagonal.now) (length work.old) in
-        (result ≡ cond fits (estimate_number (estimate_answer o)) misfit)
+        (result ≡ cond fits (answer_number (estimate_answer o)) misfit)
         × MatrixEmptied fits row_room.old col_room.old value_room.old row_room.new col_room.new value_room.new
         × (diagonal_room.new ≡ after fits (emptied zeroᶠ) diagonal_room.old)
         × (work.new ≡ after fits (work_left zeroᶠ o) work.old)
         × AnswerLeft fits (estimate_values (estimate_answer o)) answer_room.old answer.old answer_room.new answer.new }
 {
-    if fits::both(
-        fits::matrix(
-            row_ptr.len(),
-            col_idx.len(),
-            values.len(),
-            row_room.len(),
-            col_room.len(),
-            value_room.len(),
-        ),
-        fits::diagonal(
-            diagonal.len(),
-            diagonal_room.len(),
-            answer_room.len(),
-            answer.len(),
-        ),
+    if fits::matrix(
+        row_ptr.len(),
+        col_idx.len(),
+        values.len(),
+        row_room.len(),
+        col_room.len(),
+        value_room.len(),
+    ) && fits::diagonal(
+        diagonal.len(),
+        diagonal_room.len(),
+        answer_room.len(),
+        answer.len(),
     ) {
-        rooms::read_floats(diagonal, diagonal_room);
+        rooms::read(diagonal, diagonal_room);
         rooms::read_matrix(row_ptr, col_idx, values, row_room, col_room, value_room);
         let row_ptr_count = row_ptr.len() / 4;
         let col_idx_count = col_idx.len() / 4;
@@ -418,8 +401,8 @@ pub fn yelomawin_bytes_estimate(
             answer_room,
         );
         rooms::clear_matrix(row_room, col_room, value_room);
-        numbers::zero_floats(diagonal_room);
-        rooms::hand_answer(answer_room, answer);
+        byte_lists::zero(diagonal_room);
+        rooms::hand(false, answer_room, answer);
         return number;
     }
     254
@@ -465,23 +448,20 @@ pub fn yelomawin_bytes_setup(
         × (setup_floats.new ≡ h.floats)
         × («record».new ≡ h.numbers) }
 {
-    if fits::both(
-        fits::matrix(
-            row_ptr.len(),
-            col_idx.len(),
-            values.len(),
-            row_room.len(),
-            col_room.len(),
-            value_room.len(),
-        ),
-        fits::setup(
-            ints_room.len(),
-            floats_room.len(),
-            record_room.len(),
-            setup_ints.len(),
-            setup_floats.len(),
-            record.len(),
-        ),
+    if fits::matrix(
+        row_ptr.len(),
+        col_idx.len(),
+        values.len(),
+        row_room.len(),
+        col_room.len(),
+        value_room.len(),
+    ) && fits::setup(
+        ints_room.len(),
+        floats_room.len(),
+        record_room.len(),
+        setup_ints.len(),
+        setup_floats.len(),
+        record.len(),
     ) {
         rooms::read_matrix(row_ptr, col_idx, values, row_room, col_room, value_room);
         let row_ptr_count = row_ptr.len() / 4;
@@ -505,7 +485,7 @@ pub fn yelomawin_bytes_setup(
             record_room,
         );
         rooms::clear_matrix(row_room, col_room, value_room);
-        rooms::hand_ints(rooms::leaves_all(number), ints_room, setup_ints);
+        rooms::hand(rooms::leaves_all(number), ints_room, setup_ints);
         rooms::hand_result(number, floats_room, setup_floats, record_room, record);
         return number;
     }
@@ -545,23 +525,20 @@ pub fn yelomawin_bytes_apply(
         × (correction.new ≡ h.correction)
         × AnswerLeft fits (whether known (answer_values (answer_of o)) []) answer_room.old answer.old answer_room.new answer.new }
 {
-    if fits::both(
-        fits::kept(
-            record.len(),
-            setup_ints.len(),
-            setup_floats.len(),
-            residual.len(),
-            record_room.len(),
-            ints_room.len(),
-            floats_room.len(),
-            residual_room.len(),
-        ),
-        fits::floats(
-            correction_room.len(),
-            answer_room.len(),
-            correction.len(),
-            answer.len(),
-        ),
+    if fits::kept(
+        record.len(),
+        setup_ints.len(),
+        setup_floats.len(),
+        residual.len(),
+        record_room.len(),
+        ints_room.len(),
+        floats_room.len(),
+        residual_room.len(),
+    ) && fits::floats(
+        correction_room.len(),
+        answer_room.len(),
+        correction.len(),
+        answer.len(),
     ) {
         rooms::read_kept(
             record,

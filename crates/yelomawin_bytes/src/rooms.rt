@@ -5,25 +5,13 @@ ghost use Rattle.definitions.specs.Numbers.{zeroᶠ};
 ghost use Rattle.yelomawin_bytes.specs.Calls.{reads, emptied};
 ghost use Rattle.yelomawin_bytes.specs.Handed.{Read, leaves_all, Handed};
 
-fn read_ints(bytes: &[u8], room: &mut [u32])
-    requires { reads 4 bytes.now room.old ≡ true }
-    ensures { Read 4 ints_of bytes.now room.old room.new }
-{
-    byte_lists::read_ints(bytes, room);
-}
+use byte_lists::{Element, zero};
 
-fn read_numbers(bytes: &[u8], room: &mut [u64])
-    requires { reads 8 bytes.now room.old ≡ true }
-    ensures { Read 8 numbers_of bytes.now room.old room.new }
+pub(crate) fn read<T: Element>(bytes: &[u8], room: &mut [T])
+    requires { reads T.BYTES bytes.now room.old ≡ true }
+    ensures { Read T.BYTES T.list_of bytes.now room.old room.new }
 {
-    byte_lists::read_numbers(bytes, room);
-}
-
-pub(crate) fn read_floats(bytes: &[u8], room: &mut [f64])
-    requires { reads 8 bytes.now room.old ≡ true }
-    ensures { Read 8 floats_of bytes.now room.old room.new }
-{
-    byte_lists::read_floats(bytes, room);
+    byte_lists::read(bytes, room);
 }
 
 pub(crate) fn read_matrix(
@@ -34,16 +22,16 @@ pub(crate) fn read_matrix(
     col_room: &mut [u32],
     value_room: &mut [f64],
 )
-    requires row_room_value { reads 4 row_ptr.now row_room.old ≡ true }
-    requires col_room_value { reads 4 col_idx.now col_room.old ≡ true }
-    requires value_room_value { reads 8 values.now value_room.old ≡ true }
-    ensures read { Read 4 ints_of row_ptr.now row_room.old row_room.new }
-    ensures read_2 { Read 4 ints_of col_idx.now col_room.old col_room.new }
-    ensures read_3 { Read 8 floats_of values.now value_room.old value_room.new }
+    requires row_room_fits { reads 4 row_ptr.now row_room.old ≡ true }
+    requires col_room_fits { reads 4 col_idx.now col_room.old ≡ true }
+    requires value_room_fits { reads 8 values.now value_room.old ≡ true }
+    ensures row_room_read { Read 4 ints_of row_ptr.now row_room.old row_room.new }
+    ensures col_room_read { Read 4 ints_of col_idx.now col_room.old col_room.new }
+    ensures value_room_read { Read 8 floats_of values.now value_room.old value_room.new }
 {
-    read_ints(row_ptr, row_room);
-    read_ints(col_idx, col_room);
-    read_floats(values, value_room);
+    read(row_ptr, row_room);
+    read(col_idx, col_room);
+    read(values, value_room);
 }
 
 pub(crate) fn read_graph(
@@ -52,13 +40,13 @@ pub(crate) fn read_graph(
     offset_room: &mut [u32],
     neighbour_room: &mut [u32],
 )
-    requires offset_room_value { reads 4 offsets.now offset_room.old ≡ true }
-    requires neighbour_room_value { reads 4 neighbours.now neighbour_room.old ≡ true }
-    ensures read { Read 4 ints_of offsets.now offset_room.old offset_room.new }
-    ensures read_2 { Read 4 ints_of neighbours.now neighbour_room.old neighbour_room.new }
+    requires offset_room_fits { reads 4 offsets.now offset_room.old ≡ true }
+    requires neighbour_room_fits { reads 4 neighbours.now neighbour_room.old ≡ true }
+    ensures offset_room_read { Read 4 ints_of offsets.now offset_room.old offset_room.new }
+    ensures neighbour_room_read { Read 4 ints_of neighbours.now neighbour_room.old neighbour_room.new }
 {
-    read_ints(offsets, offset_room);
-    read_ints(neighbours, neighbour_room);
+    read(offsets, offset_room);
+    read(neighbours, neighbour_room);
 }
 
 pub(crate) fn read_solve(
@@ -67,13 +55,13 @@ pub(crate) fn read_solve(
     factor_room: &mut [f64],
     residual_room: &mut [f64],
 )
-    requires factor_room_value { reads 8 factors.now factor_room.old ≡ true }
-    requires residual_room_value { reads 8 residual.now residual_room.old ≡ true }
-    ensures read { Read 8 floats_of factors.now factor_room.old factor_room.new }
-    ensures read_2 { Read 8 floats_of residual.now residual_room.old residual_room.new }
+    requires factor_room_fits { reads 8 factors.now factor_room.old ≡ true }
+    requires residual_room_fits { reads 8 residual.now residual_room.old ≡ true }
+    ensures factor_room_read { Read 8 floats_of factors.now factor_room.old factor_room.new }
+    ensures residual_room_read { Read 8 floats_of residual.now residual_room.old residual_room.new }
 {
-    read_floats(factors, factor_room);
-    read_floats(residual, residual_room);
+    read(factors, factor_room);
+    read(residual, residual_room);
 }
 
 // A setup's record and lists, and a residual.
@@ -87,17 +75,17 @@ pub(crate) fn read_kept(
     floats_room: &mut [f64],
     residual_room: &mut [f64],
 )
-    requires record_room_value { reads 8 «record».now record_room.old ≡ true }
-    requires ints_room_value { reads 4 setup_ints.now ints_room.old ≡ true }
-    requires floats_room_value { reads 8 setup_floats.now floats_room.old ≡ true }
-    requires residual_room_value { reads 8 residual.now residual_room.old ≡ true }
-    ensures read { Read 8 numbers_of «record».now record_room.old record_room.new }
-    ensures read_2 { Read 4 ints_of setup_ints.now ints_room.old ints_room.new }
-    ensures read_3 { Read 8 floats_of setup_floats.now floats_room.old floats_room.new }
-    ensures read_4 { Read 8 floats_of residual.now residual_room.old residual_room.new }
+    requires record_room_fits { reads 8 «record».now record_room.old ≡ true }
+    requires ints_room_fits { reads 4 setup_ints.now ints_room.old ≡ true }
+    requires floats_room_fits { reads 8 setup_floats.now floats_room.old ≡ true }
+    requires residual_room_fits { reads 8 residual.now residual_room.old ≡ true }
+    ensures record_room_read { Read 8 numbers_of «record».now record_room.old record_room.new }
+    ensures ints_room_read { Read 4 ints_of setup_ints.now ints_room.old ints_room.new }
+    ensures floats_room_read { Read 8 floats_of setup_floats.now floats_room.old floats_room.new }
+    ensures residual_room_read { Read 8 floats_of residual.now residual_room.old residual_room.new }
 {
-    read_numbers(record, record_room);
-    read_ints(setup_ints, ints_room);
+    read(record, record_room);
+    read(setup_ints, ints_room);
     read_solve(setup_floats, residual, floats_room, residual_room);
 }
 
@@ -106,25 +94,25 @@ pub(crate) fn clear_matrix(row_room: &mut [u32], col_room: &mut [u32], value_roo
     ensures col_room_after { col_room.new ≡ emptied 0 col_room.old }
     ensures value_room_after { value_room.new ≡ emptied zeroᶠ value_room.old }
 {
-    numbers::zero_ints(row_room);
-    numbers::zero_ints(col_room);
-    numbers::zero_floats(value_room);
+    zero(row_room);
+    zero(col_room);
+    zero(value_room);
 }
 
 pub(crate) fn clear_graph(offset_room: &mut [u32], neighbour_room: &mut [u32])
     ensures offset_room_after { offset_room.new ≡ emptied 0 offset_room.old }
     ensures neighbour_room_after { neighbour_room.new ≡ emptied 0 neighbour_room.old }
 {
-    numbers::zero_ints(offset_room);
-    numbers::zero_ints(neighbour_room);
+    zero(offset_room);
+    zero(neighbour_room);
 }
 
 pub(crate) fn clear_solve(factor_room: &mut [f64], residual_room: &mut [f64])
     ensures factor_room_after { factor_room.new ≡ emptied zeroᶠ factor_room.old }
     ensures residual_room_after { residual_room.new ≡ emptied zeroᶠ residual_room.old }
 {
-    numbers::zero_floats(factor_room);
-    numbers::zero_floats(residual_room);
+    zero(factor_room);
+    zero(residual_room);
 }
 
 pub(crate) fn clear_kept(
@@ -138,50 +126,27 @@ pub(crate) fn clear_kept(
     ensures floats_room_after { floats_room.new ≡ emptied zeroᶠ floats_room.old }
     ensures residual_room_after { residual_room.new ≡ emptied zeroᶠ residual_room.old }
 {
-    byte_lists::zero_numbers(record_room);
-    numbers::zero_ints(ints_room);
+    zero(record_room);
+    zero(ints_room);
     clear_solve(floats_room, residual_room);
 }
 
 // Whether the call with this number leaves every list as it was.
+#[tactic(auto, unfolding(crate::specs::Handed::leaves_all))]
 pub(crate) fn leaves_all(number: u64) -> bool
     ensures { result ≡ leaves_all number }
 {
-    if number == 0 {
-        return false;
-    }
-    if number <= 13 {
-        return true;
-    }
-    25 <= number
+    1 <= number && (number <= 13 || 25 <= number)
 }
 
-pub(crate) fn hand_ints(kept: bool, room: &mut [u32], bytes: &mut [u8])
-    ensures { Handed 4 0 bytes_of_ints kept room.old bytes.old room.new bytes.new }
+pub(crate) fn hand<T: Element>(kept: bool, room: &mut [T], bytes: &mut [u8])
+    ensures { Handed T.BYTES T.ZERO T.bytes_of kept room.old bytes.old room.new bytes.new }
 {
     if kept {
         return;
     }
-    byte_lists::write_ints(room, bytes);
-    numbers::zero_ints(room);
-}
-
-fn hand_floats(kept: bool, room: &mut [f64], bytes: &mut [u8])
-    ensures { Handed 8 zeroᶠ bytes_of_floats kept room.old bytes.old room.new bytes.new }
-{
-    if kept {
-        return;
-    }
-    byte_lists::write_floats(room, bytes);
-    numbers::zero_floats(room);
-}
-
-// An answer is written whatever it is.
-pub(crate) fn hand_answer(room: &mut [u64], bytes: &mut [u8])
-    ensures { Handed 8 0 bytes_of_numbers false room.old bytes.old room.new bytes.new }
-{
-    byte_lists::write_numbers(room, bytes);
-    byte_lists::zero_numbers(room);
+    byte_lists::write(room, bytes);
+    zero(room);
 }
 
 // A result of floats, by the call's number, and its answer.
@@ -192,9 +157,10 @@ pub(crate) fn hand_result(
     answer_room: &mut [u64],
     answer: &mut [u8],
 )
-    ensures handed { Handed 8 zeroᶠ bytes_of_floats (leaves_all number) room.old bytes.old room.new bytes.new }
-    ensures handed_2 { Handed 8 0 bytes_of_numbers false answer_room.old answer.old answer_room.new answer.new }
+    ensures result_handed { Handed 8 zeroᶠ bytes_of_floats (leaves_all number) room.old bytes.old room.new bytes.new }
+    ensures answer_handed { Handed 8 0 bytes_of_numbers false answer_room.old answer.old answer_room.new answer.new }
 {
-    hand_floats(leaves_all(number), room, bytes);
-    hand_answer(answer_room, answer);
+    hand(leaves_all(number), room, bytes);
+    // An answer is written whatever it is.
+    hand(false, answer_room, answer);
 }

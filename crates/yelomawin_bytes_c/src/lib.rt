@@ -16,7 +16,7 @@ ghost use Rattle.definitions.specs.Estimate.{estimate_call};
 ghost use Rattle.definitions.specs.Setup.{setup_of, lengths_of};
 ghost use Rattle.two_level_setup.specs.Promises.{lent_of};
 ghost use Rattle.definitions.specs.Apply.{apply_call};
-ghost use Rattle.definitions.specs.Answers.{answer_of, answer_number, grouping_answer, grouping_log_answer, estimate_answer, answer_values, grouping_number, grouping_values, grouping_log_number, grouping_log_values, estimate_number, estimate_values};
+ghost use Rattle.definitions.specs.Answers.{answer_of, answer_number, grouping_answer, grouping_log_answer, estimate_answer, answer_values, grouping_values, grouping_log_values, estimate_values};
 ghost use Rattle.definitions.specs.Record.{are_policies, record_of, is_record};
 ghost use Rattle.yelomawin.specs.Boundary.{options_of, whether};
 ghost use Rattle.yelomawin_bytes.specs.Results.{bytes_setup, bytes_apply, LentLeft};
@@ -182,7 +182,7 @@ pub extern "C" fn yelomawin_bytes_group(
     ensures { let fits = (reads 4 offsets.now offset_room.old && reads 4 neighbours.now neighbour_room.old)
         && (writes 4 ids_room.old ids.old && writes 8 answer_room.old answer.old) in
         let g = grouping_call nodes group_size (ints_of offsets.now) (ints_of neighbours.now) (length ids_room.old) (length work.old) in
-        (result ≡ cond fits (grouping_number (grouping_answer g)) misfit)
+        (result ≡ cond fits (answer_number (grouping_answer g)) misfit)
         × BothEmptied fits 0 offset_room.old neighbour_room.old offset_room.new neighbour_room.new
         × ResultLeft fits (grouping_work_left g) (ids_left g) ids_room.old ids.old ids_room.new ids.new
         × (work.new ≡ after fits (grouping_work_left g) work.old)
@@ -224,7 +224,7 @@ pub extern "C" fn yelomawin_bytes_group_log(
         && (writes 4 ids_room.old ids.old && (writes 4 log_room.old log.old && writes 8 answer_room.old answer.old)) in
         let g = grouping_log_call nodes group_size (ints_of offsets.now) (ints_of neighbours.now)
         (length ids_room.old) (length log_room.old) (length work.old) in
-        (result ≡ cond fits (grouping_log_number (grouping_log_answer g)) misfit)
+        (result ≡ cond fits (answer_number (grouping_log_answer g)) misfit)
         × BothEmptied fits 0 offset_room.old neighbour_room.old offset_room.new neighbour_room.new
         × ResultLeft fits (grouping_work_left (grouping_in g)) (ids_left (grouping_in g)) ids_room.old ids.old ids_room.new ids.new
         × ResultLeft fits (grouping_work_left (grouping_in g)) (log_bytes_left g) log_room.old log.old log_room.new log.new
@@ -267,7 +267,7 @@ pub extern "C" fn yelomawin_bytes_estimate(
     ensures { let fits = matrix_fits row_ptr.now col_idx.now values.now row_room.old col_room.old value_room.old
         && (reads 8 diagonal.now diagonal_room.old && writes 8 answer_room.old answer.old) in
         let o = estimate_call (matrix_of rows cols row_ptr.now col_idx.now values.now) (floats_of diagonal.now) (length work.old) in
-        (result ≡ cond fits (estimate_number (estimate_answer o)) misfit)
+        (result ≡ cond fits (answer_number (estimate_answer o)) misfit)
         × MatrixEmptied fits row_room.old col_room.old value_room.old row_room.new col_room.new value_room.new
         × (diagonal_room.new ≡ after fits (emptied zeroᶠ) diagonal_room.old)
         × (work.new ≡ after fits (work_left zeroᶠ o) work.old)
