@@ -1,5 +1,6 @@
 -- The answer of a grouping call, and what it leaves, from the answer of its checks.
-use mathlib.Core.Path.{◌≡◌, sym, ◌∙◌}
+use Rattle.std.specs.Prelude.{Err, Ok}
+use mathlib.Core.Path.{◌≡◌}
 use mathlib.Core.List.{List}
 use Prim.Native.Nat.{ℕ}
 use lib.ListN.{length, replicate}
@@ -7,17 +8,14 @@ use Rattle.definitions.specs.Lists.{padded}
 use Rattle.definitions.specs.Refusal.{Outcome, refused, done, result_left, work_left}
 use Rattle.definitions.specs.Groups.{Grouping, grouping_left, grouping_work_left}
 use Rattle.definitions.specs.Answers.{answer_of, grouping_answer}
-use Rattle.definitions.specs.declared.Answer.{Answer}
-use Rattle.definitions.specs.declared.Answer.TheVariants.{Refused}
-use Rattle.definitions.specs.declared.GroupingAnswer.TheVariants.{Groups, Refused as NoGroups}
 use Rattle.definitions.specs.declared.Refusal.{Refusal}
 use Rattle.aggregates.proofs.checks.Order.{refused_is}
 
-module _ (call : Outcome Grouping) (a : Answer) (r : Refusal) (e : a ≡ answer_of call) (f : a ≡ Refused r) where
+module _ (call : Outcome Grouping) (r : Refusal) (e : Err r ≡ answer_of call) where
   is_refused : call ≡ refused r
-  is_refused = refused_is call r (sym f ∙ e)
+  is_refused = refused_is call r e
 
-  pub refused_answer : NoGroups r ≡ grouping_answer call
+  pub refused_answer : Err r ≡ grouping_answer call
   unfolding grouping_answer
   refused_answer = rw is_refused
 
@@ -30,7 +28,7 @@ module _ (call : Outcome Grouping) (a : Answer) (r : Refusal) (e : a ≡ answer_
   refused_work lent = rw is_refused
 
 module _ (call : Outcome Grouping) (g : Grouping) (e : call ≡ done g) where
-  pub accepted_answer : (n : ℕ) → n ≡ g.count → Groups n ≡ grouping_answer call
+  pub accepted_answer : (n : ℕ) → n ≡ g.count → Ok n ≡ grouping_answer call
   unfolding grouping_answer
   accepted_answer n c = rw (e, c)
 

@@ -2,7 +2,7 @@
 mod Upto
 mod NodeLists
 mod Stages
-mod Placed
+mod StoredLists
 mod Answered
 mod LogAnswered
 pub mod Appearance

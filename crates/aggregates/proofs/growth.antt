@@ -5,6 +5,5 @@ mod Enqueued
 mod Queued
 mod Pushing
 mod Queue
-mod Seeded
 mod Seeding
 pub mod Between

@@ -1,11 +1,9 @@
 -- The laws that several proofs of joining cite.
-mod Counting
+pub mod Counting
 pub mod Together
 mod Names
 mod Chains
 mod Moving
-mod Clearing
-mod View
 mod Linking
 mod Edges
 mod Moved

@@ -1,3 +1,2 @@
 -- The laws of renumbering that several proofs cite.
 mod Numbering
-mod Table

@@ -1,4 +1,4 @@
--- What an accepted grouping call has, with room below `base`.
+-- What an accepted grouping call has, with `base` numbers of room for it.
 use Rattle.std.specs.Prelude.{List, ℕ, ◌≤◌, ◌<◌, length}
 use Rattle.definitions.specs.Matrix.{max_rows, max_entries}
 use Rattle.definitions.specs.Groups.{max_group}

@@ -1,5 +1,5 @@
 -- The choice of a group to join, over plain lists and counts, as the loops make it: the definitions with the groups' ids and sizes taken apart.
-use Rattle.std.specs.Prelude.{◌≡◌, Bool, true, false, ◌&&◌, ◌||◌, ℕ, ◌+◌, ◌≤◌, ◌<◌, ltb, get_or, set}
+use Rattle.std.specs.Prelude.{◌≡◌, Bool, true, false, ◌&&◌, ◌||◌, ℕ, ◌+◌, ltb, get_or, set}
 use Rattle.std.proofs.Math.Path.{refl}
 use Rattle.std.proofs.Common.{ap}
 use mathlib.Core.List.{List, [], ◌∷◌, ◌++◌}
@@ -7,7 +7,7 @@ use Rattle.std.proofs.Math.Dec.{eqb}
 use Rattle.definitions.specs.Groups.{Groups, size_in, before, chosen, other_groups, named_groups, no_anchor}
 
 -- does the group a, to which va edges lead and which has ca members, come before the group b with vb and cb?
-unfoldable pub before_by : ℕ → ℕ → ℕ → ℕ → ℕ → ℕ → Bool
+abbrev pub before_by : ℕ → ℕ → ℕ → ℕ → ℕ → ℕ → Bool
 before_by va vb ca cb a b = ltb vb va || (eqb va vb && (ltb ca cb || (eqb ca cb && ltb a b)))
 
 -- the first of `best` (0: none yet) and the group a
@@ -15,7 +15,7 @@ unfoldable pub better : (ℕ → ℕ) → (ℕ → ℕ) → ℕ → ℕ → ℕ
 better edges sizes best a = elim (eqb best 0 || before_by (edges a) (edges best) (sizes a) (sizes best) a best) [ true ↦ a | false ↦ best ]
 
 pub chosen_goes : (edges sizes : ℕ → ℕ) (best a : ℕ) (rest : List ℕ) → chosen edges sizes best (a ∷ rest) ≡ chosen edges sizes (better edges sizes best a) rest
-unfolding chosen before better before_by
+unfolding chosen before better
 chosen_goes edges sizes best a rest = refl
 
 -- the groups of some nodes, one for each, but for g itself and for groups with no member
@@ -43,26 +43,22 @@ module _ (lists : ℕ → List ℕ) (g : ℕ) (s : Groups) where
   named_is [] = refl
   named_is (v ∷ vs) = rw (others_is (lists v), named_is vs) refl
 
--- ---- COUNTS of groups in a part of a list
+-- ---- COUNTS of groups
 
--- the numbers of a list from `base` on
-abbrev pub at : ℕ → List ℕ → ℕ → ℕ
-at base w g = get_or w (base + g) 0
+-- the number at a place of a list
+abbrev pub at : List ℕ → ℕ → ℕ
+at w g = get_or w g 0
 
--- one more at base + x for each x of a list
-unfoldable pub bump : ℕ → List ℕ → List ℕ → List ℕ
-bump base [] w = w
-bump base (x ∷ xs) w = bump base xs (set w (base + x) (get_or w (base + x) 0 + 1))
+-- one more at x for each x of a list
+unfoldable pub bump : List ℕ → List ℕ → List ℕ
+bump [] w = w
+bump (x ∷ xs) w = bump xs (set w x (get_or w x 0 + 1))
 
--- 0 at base + x for each x of a list
-unfoldable pub wipe : ℕ → List ℕ → List ℕ → List ℕ
-wipe base [] w = w
-wipe base (x ∷ xs) w = wipe base xs (set w (base + x) 0)
+-- 0 at x for each x of a list
+unfoldable pub wipe : List ℕ → List ℕ → List ℕ
+wipe [] w = w
+wipe (x ∷ xs) w = wipe xs (set w x 0)
 
--- each number of w[from..end], counted from `base`, lies below `from`
-abbrev pub Named : ℕ → ℕ → ℕ → List ℕ → Type 0
-Named base from end w = (k : ℕ) → from ≤ k → k < end → base + get_or w k 0 < from
-
--- w[lo..hi] is zero
-abbrev pub Zeros : ℕ → ℕ → List ℕ → Type 0
-Zeros lo hi w = (k : ℕ) → lo ≤ k → k < hi → get_or w k 0 ≡ 0
+-- a list of zeros
+abbrev pub Zeros : List ℕ → Type 0
+Zeros w = (k : ℕ) → get_or w k 0 ≡ 0

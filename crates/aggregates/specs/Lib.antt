@@ -1,8 +1,8 @@
 -- What the contracts of `aggregates` cite besides the definitions.
 pub mod Lists
 pub mod Stored
+pub mod Stated
 pub mod Growth
-pub mod Numbered
 pub mod JoinChoice
 pub mod JoinState
 pub mod Checked

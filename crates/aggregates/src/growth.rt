@@ -1,96 +1,84 @@
-// Growth: from each ungrouped node in turn, first in first out. The groups of the nodes are w[0..nodes], the queue lies behind them, and the neighbour lists from w[base] on.
-ghost use Rattle.std.specs.Prelude.{◌≡◌, [], ◌∷◌, ◌+◌, ◌^◌, ◌<◌, ◌≤◌, length, take, drop, replicate};
+// Growth: from each ungrouped node in turn, first in first out.
+ghost use Rattle.std.specs.Prelude.{◌≡◌, [], ◌∷◌, ◌+◌, ◌^◌, ◌<◌, ◌≤◌, length, replicate};
 ghost use Rattle.definitions.specs.Groups.{grow_group, grown, no_anchor};
-ghost use Rattle.aggregates.specs.Lists.{Lists};
-ghost use Rattle.aggregates.specs.Stored.{offsets_at, neighbours_at, lists_at};
-ghost use Rattle.aggregates.specs.Growth.{Pushes, Pushed, enqueued};
+ghost use Rattle.laws.specs.Every.{Each};
+ghost use Rattle.aggregates.specs.Growth.{Pushed, enqueued};
+ghost use Rattle.aggregates.specs.Stated.{lists_of};
 
-use super::stored::{neighbour, offset};
-use numbers::wide;
+use super::lists::Lists;
 
-// The group g takes in the nodes that v lists and that are in no group, while it has room, and puts them at the queue's end. Returns the new end.
+// The group g takes in the nodes of a list that are in no group, while it has room, and puts them at the queue's end. Returns the new end.
 fn push_free(
-    w: &mut [u32],
-    base: usize,
-    nodes: usize,
-    v: usize,
+    ids: &mut [u32],
+    queue: &mut [u32],
+    list: &[u32],
     g: u32,
     tail: usize,
     room: usize,
 ) -> usize
-    requires { Pushes (offsets_at base nodes w.old) (neighbours_at base nodes w.old) w.old base nodes v tail }
-    ensures pushed { Pushed (enqueued g room (take nodes w.old) (lists_at base nodes w.old v)) w.old nodes g tail w.new result }
-    ensures w_unchanged { drop base w.new ≡ drop base w.old }
+    requires nodes { Each (λ u. u < length ids.old) list.now }
+    requires space { tail + length list.now ≤ length queue.old }
+    ensures { Pushed (enqueued g room ids.old list.now) g tail ids.old ids.new queue.old queue.new result }
 {
     let mut end = tail;
     let mut left = room;
-    let mut i = offset(&w[..], base, nodes, v);
-    let to = offset(&w[..], base, nodes, v + 1);
-    while i < to {
-        let u = neighbour(&w[..], base, nodes, i);
-        let x = wide(u);
-        if w[x] == 0 {
+    for &u in list {
+        let x = u as usize;
+        if ids[x] == 0 {
             if left == 0 {
                 return end;
             }
-            w[x] = g;
-            w[end] = u;
+            ids[x] = g;
+            queue[end] = u;
             end += 1;
             left -= 1;
         }
-        i += 1;
     }
     end
 }
 
-// The group g takes in up to `size` nodes, from the seed on, each when it is queued, so that none waits twice. The queue is w[head..tail].
-fn grow_group(w: &mut [u32], base: usize, nodes: usize, seed: u32, g: u32, size: usize)
-    requires lists { Lists nodes (offsets_at base nodes w.old) (neighbours_at base nodes w.old) }
-    requires seed_lt_nodes { (seed < nodes) × ((0 < g) × (nodes + (length (neighbours_at base nodes w.old) + 1) ≤ base)) }
-    ensures w_after { take nodes w.new ≡ grow_group (lists_at base nodes w.old) no_anchor g size (take nodes w.old) (seed ∷ []) }
-    ensures w_unchanged { drop base w.new ≡ drop base w.old }
+// The group g takes in up to `size` nodes, from the seed on, each when it is queued, so that none waits twice.
+fn grow_group(lists: &Lists<'_>, ids: &mut [u32], queue: &mut [u32], seed: u32, g: u32, size: usize)
+    requires nodes { length ids.old ≡ lists.now.nodes }
+    requires seed_in { seed < lists.now.nodes }
+    requires some { 0 < g }
+    requires space { length lists.now.neighbours.now < length queue.old }
+    ensures { ids.new ≡ grow_group (lists_of lists.now) no_anchor g size ids.old (seed ∷ []) }
 {
-    if size == 0 {
+    let s = seed as usize;
+    if size == 0 || ids[s] != 0 {
         return;
     }
-    let s = wide(seed);
-    if w[s] != 0 {
-        return;
-    }
-    w[s] = g;
-    w[nodes] = seed;
-    let mut head = nodes;
-    let mut tail = nodes + 1;
+    ids[s] = g;
+    queue[0] = seed;
+    let mut head = 0;
+    let mut tail = 1;
     let mut room = size - 1;
-    while head < tail {
-        if room == 0 {
-            return;
-        }
-        let v = wide(w[head]);
+    // A `while`: the queue grows while it is read.
+    while head < tail && room > 0 {
+        let v = queue[head] as usize;
         head += 1;
-        let end = push_free(w, base, nodes, v, g, tail, room);
+        let end = push_free(ids, queue, lists.of(v), g, tail, room);
         room -= end - tail;
         tail = end;
     }
 }
 
 // Grows groups from each ungrouped node in turn. Returns how many there are.
-pub(crate) fn grow_all(w: &mut [u32], base: usize, nodes: usize, size: usize) -> u32
-    requires lists { Lists nodes (offsets_at base nodes w.old) (neighbours_at base nodes w.old) }
-    requires nodes_bound { (nodes < 2 ^ 31) × (nodes + (length (neighbours_at base nodes w.old) + 1) ≤ base) }
-    requires w_value { take nodes w.old ≡ replicate nodes 0 }
-    ensures result_after { (take nodes w.new, result) ≡ grown (lists_at base nodes w.old) no_anchor nodes size }
-    ensures upper_bound { result ≤ nodes }
-    ensures w_unchanged { drop base w.new ≡ drop base w.old }
+pub(crate) fn grow_all(lists: &Lists<'_>, ids: &mut [u32], queue: &mut [u32], size: usize) -> u32
+    requires nodes { length ids.old ≡ lists.now.nodes }
+    requires few { lists.now.nodes < 2 ^ 31 }
+    requires space { length lists.now.neighbours.now < length queue.old }
+    requires blank { ids.old ≡ replicate lists.now.nodes 0 }
+    ensures grown { (ids.new, result) ≡ grown (lists_of lists.now) no_anchor lists.now.nodes size }
+    ensures upper_bound { result ≤ lists.now.nodes }
 {
     let mut g: u32 = 0;
-    let mut v: usize = 0;
-    while v < nodes {
-        if w[v] == 0 {
+    for v in 0..lists.nodes {
+        if ids[v] == 0 {
             g += 1;
-            grow_group(w, base, nodes, v as u32, g, size);
+            grow_group(lists, ids, queue, v as u32, g, size);
         }
-        v += 1;
     }
     g
 }

@@ -1,39 +1,23 @@
-// Numbers by first appearance, from 0. The numbers are w[0..nodes], each at most `top`. A table behind them has, for each number, its new number plus one, and 0 while it has none.
-ghost use Rattle.std.specs.Prelude.{◌≡◌, take};
+// Numbers by first appearance, from 0. The table has, for each number, its new number plus one, and 0 while it has none.
+ghost use Rattle.std.specs.Prelude.{◌≡◌, ℕ, ◌^◌, ◌<◌, length, get_or};
 ghost use Rattle.definitions.specs.Groups.{renumbered};
-ghost use Rattle.aggregates.specs.Numbered.{Numbered, Blank};
 
-use numbers::wide;
-
-// With a cleared table. Returns how many numbers there are.
-fn number_all(w: &mut [u32], nodes: usize, top: u32) -> u32
-    requires numbered { Numbered nodes top w.old }
-    requires blank { Blank nodes top w.old }
-    ensures w_after { take nodes w.new ≡ (renumbered (take nodes w.old)).ids }
-    ensures value { result ≡ (renumbered (take nodes w.old)).count }
+// Returns how many numbers there are.
+pub(crate) fn renumber(ids: &mut [u32], table: &mut [u32]) -> u32
+    requires upto { (v : ℕ) → v < length ids.old → get_or ids.old v 0 < length table.old }
+    requires few { length ids.old < 2 ^ 31 }
+    ensures ids_after { ids.new ≡ (renumbered ids.old).ids }
+    ensures value { result ≡ (renumbered ids.old).count }
 {
+    table.fill(0);
     let mut count: u32 = 0;
-    let mut v: usize = 0;
-    while v < nodes {
-        let at = nodes + wide(w[v]);
-        let mut new = w[at];
-        if new == 0 {
+    for id in ids.iter_mut() {
+        let at = *id as usize;
+        if table[at] == 0 {
             count += 1;
-            new = count;
-            w[at] = count;
+            table[at] = count;
         }
-        w[v] = new - 1;
-        v += 1;
+        *id = table[at] - 1;
     }
     count
-}
-
-pub(crate) fn renumber(w: &mut [u32], nodes: usize, top: u32) -> u32
-    requires { Numbered nodes top w.old }
-    ensures w_after { take nodes w.new ≡ (renumbered (take nodes w.old)).ids }
-    ensures value { result ≡ (renumbered (take nodes w.old)).count }
-{
-    let end = nodes + wide(top) + 1;
-    numbers::zero_ints(&mut w[nodes..end]);
-    number_all(w, nodes, top)
 }

@@ -1,18 +1,17 @@
 -- The loop of `gather`: what is in the list of names, with what the rest of the chain names, stays the same.
-use mathlib.Core.Path.{◌≡◌, refl, ap, sym, ◌∙◌}
+use mathlib.Core.Path.{◌≡◌, refl, sym, ◌∙◌}
 use mathlib.Core.Bool.{Bool, true, false, ◌||◌}
 use mathlib.Core.List.{List, [], ◌∷◌, ◌++◌, append-nil, append_assoc}
-use Prim.Native.Nat.{ℕ, suc, ◌+◌, ◌-◌, ◌*◌, ◌≤◌, ◌<◌}
+use Prim.Native.Nat.{ℕ, suc, ◌+◌, ◌-◌, ◌≤◌, ◌<◌}
 use native.Mathlib.Omega.{arith}
-use native.Mathlib.Numerals.{add-one}
 use lib.Dec.{eqb}
-use lib.ListN.{length, get_or, take, drop, length-append, get_or-append}
-use lib.Seq.{slice, get_or-take, get_or-drop, length-take-le, length-slice}
+use lib.ListN.{length, get_or, take, length-append}
+use lib.Seq.{length-slice}
 use Rattle.definitions.specs.Groups.{listed}
 use Rattle.laws.proofs.Lists.{Each, each_head, each_tail}
 use Rattle.aggregates.specs.Lists.{Lists}
 use Rattle.aggregates.specs.JoinChoice.{at, others_by, named_by}
-use Rattle.aggregates.specs.JoinState.{Gathers, Reads, chain_of, total, walk}
+use Rattle.aggregates.specs.JoinState.{Chains, Gathers, members_of, total, walk}
 use Rattle.aggregates.proofs.NodeLists.{degree, offset_within, each_part}
 
 branch : (t : Bool) (x y : ℕ) (p q : List ℕ) → x ≡ y → p ≡ q → ◌≡◌ {A = List ℕ} (elim t [ true ↦ p | false ↦ x ∷ p ]) (elim t [ true ↦ q | false ↦ y ∷ q ])
@@ -32,96 +31,69 @@ others_short g ids sizes [] = omega arith
 others_short g ids sizes (x ∷ ws) = elim (eqb (get_or ids x 0) g || eqb (sizes (get_or ids x 0)) 0) as (λ t. length {A = ℕ} (elim t as (λ _. List ℕ) [ true ↦ others_by g ids sizes ws | false ↦ get_or ids x 0 ∷ others_by g ids sizes ws ]) ≤ suc (length ws))
     [ true ↦ omega (arith, others_short g ids sizes ws) | false ↦ omega (arith, others_short g ids sizes ws) ]
 
--- what lies in front stays
-pub front_kept : (u w l : List ℕ) (r e k : ℕ) → take r u ≡ take e w ++ l → e ≤ length w → e ≤ r → k < e → get_or u k 0 ≡ get_or w k 0
-front_kept u w l r e k q long up h =
-    sym (get_or-take r u k 0 (omega arith)) ∙ ap (λ x. get_or x k 0) q ∙ get_or-append (take e w) l 0 k (rw (length-take-le e w long) h) ∙ get_or-take e w k 0 h
+-- of the chain's members, `turns` were looked at, and from `cur` on the rest is to come
+pub record Gathering (n : ℕ) (offsets nb ids : List ℕ) (c : Chains) (g : ℕ) (names : List ℕ) (turns cur end : ℕ) : Type 0 where
+  pub nodes : Each (λ v. v < n) (walk (at c.counts g - turns) c.next cur)
+  pub room : end + total (degree offsets) (walk (at c.counts g - turns) c.next cur) ≤ length names
+  pub list : take end names ++ named_by (listed offsets nb) g ids (at c.counts) (walk (at c.counts g - turns) c.next cur) ≡ named_by (listed offsets nb) g ids (at c.counts) (members_of c g)
+  pub count : end + length (named_by (listed offsets nb) g ids (at c.counts) (walk (at c.counts g - turns) c.next cur)) ≡ length (named_by (listed offsets nb) g ids (at c.counts) (members_of c g))
 
--- the groups that some members of g name, by the list as it was
-abbrev names : ℕ → List ℕ → List ℕ → List ℕ → ℕ → List ℕ → List ℕ
-names n offsets nb w₀ g vs = named_by (listed offsets nb) g w₀ (at (3 * n + 1) w₀) vs
+module _ (n : ℕ) (offsets nb ids : List ℕ) (c : Chains) (g : ℕ) (ok : Lists n offsets nb) (names₀ : List ℕ) (asks : Gathers n offsets ids c (length names₀) g) where
+  pub gather_first : Gathering n offsets nb ids c g names₀ 0 (at c.first g) 0
+  unfolding members_of
+  gather_first = let e : at c.counts g - 0 ≡ at c.counts g = omega arith in record { nodes = rw e asks.nodes; room = rw e (omega (arith, asks.space)); list = rw e refl; count = rw e (omega arith) }
 
-pub record Gathering (n base : ℕ) (offsets nb w₀ : List ℕ) (g : ℕ) (w : List ℕ) (left cur end : ℕ) : Type 0 where
-  pub low : 5 * n + 3 ≤ end
-  pub same : length w ≡ length w₀
-  pub still : drop base w ≡ drop base w₀
-  pub kept : (k : ℕ) → k < 5 * n + 3 → get_or w k 0 ≡ get_or w₀ k 0
-  pub nodes : Each (λ v. v < n) (walk left (drop n w₀) cur)
-  pub room : end + total (degree offsets) (walk left (drop n w₀) cur) ≤ base
-  pub list : take end w ++ names n offsets nb w₀ g (walk left (drop n w₀) cur) ≡ take (5 * n + 3) w₀ ++ names n offsets nb w₀ g (chain_of n w₀ g)
-  pub count : end + length (names n offsets nb w₀ g (walk left (drop n w₀) cur)) ≡ 5 * n + 3 + length (names n offsets nb w₀ g (chain_of n w₀ g))
-
-module _ (n base : ℕ) (offsets nb w₀ : List ℕ) (g : ℕ) (ok : Lists n offsets nb) (asks : Gathers n base offsets w₀ g) where
-  pub gather_first : Gathering n base offsets nb w₀ g w₀ (at (3 * n + 1) w₀ g) (at (2 * n) w₀ g) (5 * n + 3)
-  gather_first = record { low = omega arith; same = refl; still = refl; kept = λ k l. refl; nodes = asks.nodes; room = asks.room; list = refl; count = refl }
-
-  module _ (w : List ℕ) (left cur end : ℕ) (inv : Gathering n base offsets nb w₀ g w left cur end) where
-    pub gather_last : left ≡ 0 → (end ≡ 5 * n + 3 + length (names n offsets nb w₀ g (chain_of n w₀ g))) × ((take end w ≡ take (5 * n + 3) w₀ ++ names n offsets nb w₀ g (chain_of n w₀ g)) × (end ≤ length w₀))
+  module _ (names : List ℕ) (turns cur end : ℕ) (inv : Gathering n offsets nb ids c g names turns cur end) where
+    pub gather_last : at c.counts g ≤ turns → (end ≡ length (named_by (listed offsets nb) g ids (at c.counts) (members_of c g))) × (take end names ≡ named_by (listed offsets nb) g ids (at c.counts) (members_of c g))
     unfolding walk named_by
-    gather_last z = (omega (arith, rw z at inv.count), (sym (append-nil (take end w)) ∙ rw z at inv.list, omega (arith, inv.room, asks.fits)))
+    gather_last h = let z : at c.counts g - turns ≡ 0 = omega arith in (omega (arith, rw z at inv.count), sym (append-nil (take end names)) ∙ rw z at inv.list)
 
-    module _ (some : 0 < left) where
-      left_is : left ≡ suc (left - 1)
+    module _ (some : turns < at c.counts g) where
+      left_is : at c.counts g - turns ≡ suc (at c.counts g - (turns + 1))
       left_is = omega arith
 
-      nodes' : Each (λ v. v < n) (walk (suc (left - 1)) (drop n w₀) cur)
+      nodes' : Each (λ v. v < n) (walk (suc (at c.counts g - (turns + 1))) c.next cur)
       nodes' = rw left_is at inv.nodes
 
       pub gather_node : cur < n
       unfolding walk
       gather_node = each_head nodes'
 
-      room' : end + total (degree offsets) (walk (suc (left - 1)) (drop n w₀) cur) ≤ base
+      room' : end + total (degree offsets) (walk (suc (at c.counts g - (turns + 1))) c.next cur) ≤ length names
       room' = rw left_is at inv.room
 
+      fits : get_or offsets (suc cur) 0 ≤ length nb
+      fits = offset_within n offsets nb ok (suc cur) gather_node
+
+      long : length (listed offsets nb cur) ≡ degree offsets cur
+      unfolding listed
+      long = length-slice (get_or offsets cur 0) (get_or offsets (suc cur) 0) nb fits
+
       -- what `names_of` asks
-      pub gather_asks : (get_or offsets cur 0 ≤ get_or offsets (cur + 1) 0) × ((get_or offsets (cur + 1) 0 ≤ length nb) × ((end + (get_or offsets (cur + 1) 0 - get_or offsets cur 0) ≤ base) × (base ≤ length w)))
+      pub gather_nodes : length ids ≡ n → Each (λ v. v < length ids) (listed offsets nb cur)
+      unfolding listed
+      gather_nodes e = rw e (each_part (λ v. v < n) (get_or offsets cur 0) (get_or offsets (suc cur) 0) nb fits ok.within)
+
+      pub gather_groups : Each (λ v. get_or ids v 0 < length c.counts) (listed offsets nb cur)
+      unfolding listed
+      gather_groups = each_part (λ v. get_or ids v 0 < length c.counts) (get_or offsets cur 0) (get_or offsets (suc cur) 0) nb fits (λ k h. asks.sizes (get_or nb k 0) (ok.within k h))
+
+      pub gather_space : end + length (listed offsets nb cur) ≤ length names
       unfolding walk total
-      gather_asks = rw (add-one cur) (ok.rises cur gather_node, (offset_within n offsets nb ok (suc cur) gather_node, (omega (arith, room'), omega (arith, inv.same, asks.fits))))
+      gather_space = omega (arith, room', long)
 
-      pub gather_reads : Reads (3 * n + 1) end nb w
-      gather_reads k h =
-          let v = ok.within k h in
-          (omega (arith, inv.low), omega (arith, inv.low, inv.kept (get_or nb k 0) (omega arith), asks.sizes (get_or nb k 0) v))
-
-      module _ (w' : List ℕ) (end' : ℕ)
-          (new : end' ≡ end + length (others_by g w (at (3 * n + 1) w) (slice (get_or offsets cur 0) (get_or offsets (cur + 1) 0) nb)))
-          (queue : take end' w' ≡ take end w ++ others_by g w (at (3 * n + 1) w) (slice (get_or offsets cur 0) (get_or offsets (cur + 1) 0) nb))
-          (long : length w' ≡ length w) (lists : drop base w' ≡ drop base w) where
-        some_names : List ℕ
-        some_names = others_by g w₀ (at (3 * n + 1) w₀) (slice (get_or offsets cur 0) (get_or offsets (suc cur) 0) nb)
-
-        fits : get_or offsets (suc cur) 0 ≤ length nb
-        fits = offset_within n offsets nb ok (suc cur) gather_node
-
-        alike : others_by g w (at (3 * n + 1) w) (slice (get_or offsets cur 0) (get_or offsets (cur + 1) 0) nb) ≡ some_names
-        unfolding some_names
-        alike = rw (add-one cur) (others_cong g w w₀ (at (3 * n + 1) w) (at (3 * n + 1) w₀) (slice (get_or offsets cur 0) (get_or offsets (suc cur) 0) nb)
-            (each_part (λ v. (get_or w v 0 ≡ get_or w₀ v 0) × (at (3 * n + 1) w (get_or w₀ v 0) ≡ at (3 * n + 1) w₀ (get_or w₀ v 0))) (get_or offsets cur 0) (get_or offsets (suc cur) 0) nb fits
-            (λ k h. let v = ok.within k h in (inv.kept (get_or nb k 0) (omega arith), inv.kept (3 * n + 1 + get_or w₀ (get_or nb k 0) 0) (omega (arith, asks.sizes (get_or nb k 0) v))))))
-
-        kept' : (k : ℕ) → k < end → get_or w' k 0 ≡ get_or w k 0
-        kept' k h = front_kept w' w (others_by g w (at (3 * n + 1) w) (slice (get_or offsets cur 0) (get_or offsets (cur + 1) 0) nb)) end' end k queue (omega (arith, inv.room, inv.same, asks.fits)) (omega (arith, new)) h
-
-        pub next_is : get_or w' (n + cur) 0 ≡ get_or (drop n w₀) cur 0
-        next_is = kept' (n + cur) (omega (arith, inv.low, gather_node)) ∙ inv.kept (n + cur) (omega (arith, gather_node)) ∙ sym (get_or-drop n w₀ cur 0)
-
-        pub gather_step : Gathering n base offsets nb w₀ g w' (left - 1) (get_or w' (n + cur) 0) end'
-        unfolding walk total named_by listed some_names
-        gather_step =
-            let e : end' ≡ end + length some_names = rw alike at new in
-            let q : take end' w' ≡ take end w ++ some_names = rw alike at queue in
-            let short : length some_names ≤ get_or offsets (suc cur) 0 - get_or offsets cur 0 = omega (arith, others_short g w₀ (at (3 * n + 1) w₀) (slice (get_or offsets cur 0) (get_or offsets (suc cur) 0) nb), length-slice (get_or offsets cur 0) (get_or offsets (suc cur) 0) nb fits) in
-            let tail = names n offsets nb w₀ g (walk (left - 1) (drop n w₀) (get_or (drop n w₀) cur 0)) in
-            let list' : take end w ++ (some_names ++ tail) ≡ take (5 * n + 3) w₀ ++ names n offsets nb w₀ g (chain_of n w₀ g) = rw left_is at inv.list in
-            let count' : end + length (some_names ++ tail) ≡ 5 * n + 3 + length (names n offsets nb w₀ g (chain_of n w₀ g)) = rw left_is at inv.count in
-            rw next_is (record {
-              low = omega (arith, inv.low);
-              same = long ∙ inv.same;
-              still = lists ∙ inv.still;
-              kept = λ k l. kept' k (omega (arith, inv.low)) ∙ inv.kept k l;
-              nodes = each_tail nodes';
-              room = omega (arith, room');
-              list = rw q (append_assoc (take end w) some_names tail ∙ list');
-              count = omega (arith, count', length-append some_names tail);
-            })
+      pub gather_step : (names' : List ℕ) (end' : ℕ) → end' ≡ end + length (others_by g ids (at c.counts) (listed offsets nb cur)) → take end' names' ≡ take end names ++ others_by g ids (at c.counts) (listed offsets nb cur) → length names' ≡ length names
+          → Gathering n offsets nb ids c g names' (turns + 1) (get_or c.next cur 0) end'
+      unfolding walk total named_by
+      gather_step names' end' e q same =
+          let new = others_by g ids (at c.counts) (listed offsets nb cur) in
+          let short : length new ≤ degree offsets cur = omega (arith, others_short g ids (at c.counts) (listed offsets nb cur), long) in
+          let tail = named_by (listed offsets nb) g ids (at c.counts) (walk (at c.counts g - (turns + 1)) c.next (get_or c.next cur 0)) in
+          let list' : take end names ++ (new ++ tail) ≡ named_by (listed offsets nb) g ids (at c.counts) (members_of c g) = rw left_is at inv.list in
+          let count' : end + length (new ++ tail) ≡ length (named_by (listed offsets nb) g ids (at c.counts) (members_of c g)) = rw left_is at inv.count in
+          record {
+            nodes = each_tail nodes';
+            room = omega (arith, room', same);
+            list = rw q (append_assoc (take end names) new tail ∙ list');
+            count = omega (arith, count', length-append new tail);
+          }

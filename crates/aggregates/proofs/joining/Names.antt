@@ -1,69 +1,61 @@
 -- The loop of `names_of`.
-use mathlib.Core.Path.{◌≡◌, refl, ap, sym, ◌∙◌}
-use mathlib.Core.Bool.{true, false, ◌||◌}
+use mathlib.Core.Path.{◌≡◌, sym, ap, ◌∙◌}
 use mathlib.Core.List.{List, [], ◌∷◌, ◌++◌, append-nil}
-use Prim.Native.Nat.{ℕ, suc, ◌+◌, ◌-◌, ◌≤◌, ◌<◌}
+use Prim.Native.Nat.{ℕ, ◌+◌, ◌-◌, ◌≤◌, ◌<◌}
 use native.Mathlib.Omega.{arith}
 use native.Mathlib.Numerals.{add-one}
-use lib.Dec.{eqb}
+use borrow.Author.Tests.{eq-eqb, ne_eqb}
 use lib.ListN.{length, get_or, set, take, drop, length-set}
-use lib.Seq.{slice, slice-cons, slice_empty, take-suc-set, drop-set-lt, append_snoc, get_or-set_other}
+use lib.Seq.{take-suc-set, append_snoc}
 use Rattle.aggregates.specs.JoinChoice.{at, others_by}
+use Rattle.aggregates.proofs.joining.Counting.{drop_more}
 
 module _ (g : ℕ) (ids : List ℕ) (sizes : ℕ → ℕ) (w : ℕ) (ws : List ℕ) where
-  others_leaves : (eqb (get_or ids w 0) g || eqb (sizes (get_or ids w 0)) 0) ≡ true → others_by g ids sizes (w ∷ ws) ≡ others_by g ids sizes ws
+  others_same : get_or ids w 0 ≡ g → others_by g ids sizes (w ∷ ws) ≡ others_by g ids sizes ws
   unfolding others_by
-  others_leaves e = rw (others_by, e)
+  others_same e = rw (others_by, eq-eqb (get_or ids w 0) g e)
 
-  others_takes : (eqb (get_or ids w 0) g || eqb (sizes (get_or ids w 0)) 0) ≡ false → others_by g ids sizes (w ∷ ws) ≡ get_or ids w 0 ∷ others_by g ids sizes ws
+  others_empty : (get_or ids w 0 ≡ g → ⊥) → sizes (get_or ids w 0) ≡ 0 → others_by g ids sizes (w ∷ ws) ≡ others_by g ids sizes ws
   unfolding others_by
-  others_takes e = rw (others_by, e)
+  others_empty d e = rw (others_by, ne_eqb (get_or ids w 0) g d, eq-eqb (sizes (get_or ids w 0)) 0 e)
 
-pub record Naming (nb ids work₀ : List ℕ) (base counts g from to tail : ℕ) (work : List ℕ) (end i : ℕ) : Type 0 where
-  pub upto : i ≤ to
-  pub low : tail ≤ end
-  pub room : end + (to - i) ≤ base
-  pub same : length work ≡ length work₀
-  pub still : drop base work ≡ drop base work₀
-  pub kept : (k : ℕ) → k < tail → get_or work k 0 ≡ get_or work₀ k 0
-  pub queue : take end work ++ others_by g ids (at counts work₀) (slice i to nb) ≡ take tail work₀ ++ others_by g ids (at counts work₀) (slice from to nb)
-  pub count : end + length (others_by g ids (at counts work₀) (slice i to nb)) ≡ tail + length (others_by g ids (at counts work₀) (slice from to nb))
+  others_takes : (get_or ids w 0 ≡ g → ⊥) → (sizes (get_or ids w 0) ≡ 0 → ⊥) → others_by g ids sizes (w ∷ ws) ≡ get_or ids w 0 ∷ others_by g ids sizes ws
+  unfolding others_by
+  others_takes d e = rw (others_by, ne_eqb (get_or ids w 0) g d, ne_eqb (sizes (get_or ids w 0)) 0 e)
 
-module _ (nb ids work₀ : List ℕ) (base counts g from to tail : ℕ) (k : to ≤ length nb) where
-  pub naming_first : from ≤ to → tail + (to - from) ≤ base → Naming nb ids work₀ base counts g from to tail work₀ tail from
-  naming_first h r = record { upto = h; low = omega arith; room = r; same = refl; still = refl; kept = λ k l. refl; queue = refl; count = refl }
+-- the names so far, and those that the list from i on still gives
+pub record Naming (list ids counts names₀ : List ℕ) (g tail : ℕ) (names : List ℕ) (end i : ℕ) : Type 0 where
+  pub space : end + (length list - i) ≤ length names
+  pub goes : take end names ++ others_by g ids (at counts) (drop i list) ≡ take tail names₀ ++ others_by g ids (at counts) list
+  pub count : end + length (others_by g ids (at counts) (drop i list)) ≡ tail + length (others_by g ids (at counts) list)
 
-  module _ (work : List ℕ) (end i : ℕ) (inv : Naming nb ids work₀ base counts g from to tail work end i) where
-    pub naming_last : to ≤ i → (end ≡ tail + length (others_by g ids (at counts work₀) (slice from to nb))) × (take end work ≡ take tail work₀ ++ others_by g ids (at counts work₀) (slice from to nb))
+module _ (list ids counts names₀ : List ℕ) (g tail : ℕ) where
+  module _ (names : List ℕ) (end i : ℕ) (inv : Naming list ids counts names₀ g tail names end i) where
+    pub naming_last : drop i list ≡ [] → (end ≡ tail + length (others_by g ids (at counts) list)) × (take end names ≡ take tail names₀ ++ others_by g ids (at counts) list)
     unfolding others_by
-    naming_last h =
-        let e : i ≡ to = omega arith in
-        let none : slice i to nb ≡ [] = rw e (slice_empty to nb) in
-        (omega (arith, rw none at inv.count), sym (append-nil (take end work)) ∙ rw none at inv.queue)
+    naming_last e = (omega (arith, rw e at inv.count), sym (append-nil (take end names)) ∙ rw e at inv.goes)
 
-    module _ (fits : base ≤ length work₀) (h : i < to) (o : ℕ) (is : o ≡ get_or ids (get_or nb i 0) 0) (below : counts + o < tail) where
-      sizes_same : at counts work o ≡ at counts work₀ o
-      sizes_same = inv.kept (counts + o) below
+    module _ (h : i < length list) where
+      abbrev o : ℕ
+      o = get_or ids (get_or list i 0) 0
 
-      pub naming_skips : (eqb o g || eqb (at counts work o) 0) ≡ true → Naming nb ids work₀ base counts g from to tail work end (i + 1)
-      naming_skips t =
-          let t' : (eqb (get_or ids (get_or nb i 0) 0) g || eqb (at counts work₀ (get_or ids (get_or nb i 0) 0)) 0) ≡ true = rw (← is) (rw sizes_same at t) in
-          let step : others_by g ids (at counts work₀) (slice i to nb) ≡ others_by g ids (at counts work₀) (slice (i + 1) to nb) = rw (add-one i, slice-cons i to nb 0 h k) (others_leaves g ids (at counts work₀) (get_or nb i 0) (slice (suc i) to nb) t') in
-          record { upto = omega arith; low = inv.low; room = omega arith; same = inv.same; still = inv.still; kept = inv.kept; queue = rw (← step) inv.queue; count = rw (← step) inv.count }
+      skips : others_by g ids (at counts) (get_or list i 0 ∷ drop (i + 1) list) ≡ others_by g ids (at counts) (drop (i + 1) list) → Naming list ids counts names₀ g tail names end (i + 1)
+      skips e =
+          let step : others_by g ids (at counts) (drop i list) ≡ others_by g ids (at counts) (drop (i + 1) list) = ap (others_by g ids (at counts)) (drop_more list i h) ∙ e in
+          record { space = omega (arith, inv.space); goes = rw (← step) inv.goes; count = rw (← step) inv.count }
 
-      pub naming_takes : (eqb o g || eqb (at counts work o) 0) ≡ false → Naming nb ids work₀ base counts g from to tail (set work end o) (end + 1) (i + 1)
-      naming_takes t =
-          let t' : (eqb (get_or ids (get_or nb i 0) 0) g || eqb (at counts work₀ (get_or ids (get_or nb i 0) 0)) 0) ≡ false = rw (← is) (rw sizes_same at t) in
-          let rest = others_by g ids (at counts work₀) (slice (i + 1) to nb) in
-          let step : others_by g ids (at counts work₀) (slice i to nb) ≡ o ∷ rest = rw (is, add-one i, slice-cons i to nb 0 h k) (others_takes g ids (at counts work₀) (get_or nb i 0) (slice (suc i) to nb) t') in
-          let ready : end < length work = omega (arith, inv.same) in
+      pub naming_same : o ≡ g → Naming list ids counts names₀ g tail names end (i + 1)
+      naming_same e = skips (others_same g ids (at counts) (get_or list i 0) (drop (i + 1) list) e)
+
+      pub naming_empty : (o ≡ g → ⊥) → at counts o ≡ 0 → Naming list ids counts names₀ g tail names end (i + 1)
+      naming_empty d e = skips (others_empty g ids (at counts) (get_or list i 0) (drop (i + 1) list) d e)
+
+      pub naming_takes : (o ≡ g → ⊥) → (at counts o ≡ 0 → ⊥) → Naming list ids counts names₀ g tail (set names end o) (end + 1) (i + 1)
+      naming_takes d e =
+          let rest = others_by g ids (at counts) (drop (i + 1) list) in
+          let step : others_by g ids (at counts) (drop i list) ≡ o ∷ rest = ap (others_by g ids (at counts)) (drop_more list i h) ∙ others_takes g ids (at counts) (get_or list i 0) (drop (i + 1) list) d e in
           record {
-            upto = omega arith;
-            low = omega arith;
-            room = omega arith;
-            same = simp length-set inv.same;
-            still = drop-set-lt base work end o (omega arith) ∙ inv.still;
-            kept = λ j l. get_or-set_other work end j o 0 (omega arith) ∙ inv.kept j l;
-            queue = rw (add-one end, take-suc-set work end o ready) (append_snoc (take end work) o rest ∙ rw (← step) inv.queue);
+            space = simp length-set (omega (arith, inv.space));
+            goes = rw (add-one end, take-suc-set names end o (omega (arith, inv.space))) (append_snoc (take end names) o rest ∙ rw step at inv.goes);
             count = omega (arith, ap length step, inv.count);
           }

@@ -2,7 +2,7 @@
 use mathlib.Core.Path.{◌≡◌, refl, ap, sym, ◌∙◌}
 use mathlib.Core.Bool.{◌||◌}
 use mathlib.Core.List.{List, [], ◌∷◌, ◌++◌}
-use Prim.Native.Nat.{ℕ, zero, suc, ◌+◌, ◌*◌, ◌≤◌, ◌<◌}
+use Prim.Native.Nat.{ℕ, zero, suc, ◌+◌, ◌≤◌, ◌<◌}
 use native.Mathlib.Omega.{arith}
 use borrow.Author.Tests.{lt-ltb, le-ltb, eqb-false}
 use lib.Dec.{eqb}
@@ -10,14 +10,14 @@ use lib.ListN.{length, get_or, length-append, replicate, length-replicate, get_o
 use lib.Seq.{slice, length-slice}
 use Rattle.definitions.specs.Groups.{Groups, Joining, nodes_in, size_in, edges_to, chosen, named_groups, listed, no_anchor, taker_of}
 use Rattle.laws.proofs.Tests.{both_false}
-use Rattle.laws.proofs.Lists.{Each, none, more, each_head, each_tail, each_imp, each_append, get_d_tab, tab_cong}
+use Rattle.laws.proofs.Lists.{Each, none, more, each_head, each_tail, each_imp, each_append, get_d_tab}
 use Rattle.aggregates.specs.JoinChoice.{at, others_by, named_by, named_is}
-use Rattle.aggregates.specs.JoinState.{Once, total, members_of, state_of, turn_of, Rep}
+use Rattle.aggregates.specs.JoinState.{Chains, Once, total, members_of, state_of, turn_of, Rep}
 use Rattle.aggregates.proofs.Stops.{Other, by_test, chosen_keeps}
 use Rattle.aggregates.proofs.NodeLists.{spare, degree, spare_within, each_part, offset_within}
 use Rattle.aggregates.proofs.joining.Together.{chosen_cong}
 use Rattle.aggregates.proofs.joining.Counting.{better_keeps}
-use Rattle.aggregates.proofs.joining.Chains.{walk_same, length_walk, total_within, once_append}
+use Rattle.aggregates.proofs.joining.Chains.{length_walk, total_within, once_append}
 use Rattle.aggregates.proofs.joining.Edges.{others_cong, others_short}
 
 module _ (lists : ℕ → List ℕ) (floor : ℕ) (s : Groups) (g : ℕ) where
@@ -86,23 +86,23 @@ module _ (lists : ℕ → List ℕ) (g : ℕ) where
   named_cong ids ids' p q [] a = refl
   named_cong ids ids' p q (v ∷ vs) a = rw (others_cong g ids ids' p q (lists v) (each_head a), named_cong ids ids' p q vs (each_tail a)) refl
 
-module _ (n groups : ℕ) (offsets nb ids w : List ℕ) (rep : Rep n groups offsets nb ids w) where
+module _ (n groups : ℕ) (offsets nb ids : List ℕ) (c : Chains) (rep : Rep n groups offsets nb ids c) where
   abbrev pub S : Groups
-  S = state_of n groups ids w
+  S = state_of groups ids c
 
   pub listed_each : (P : ℕ → Type 0) → ((x : ℕ) → x < n → P x) → (v : ℕ) → v < n → Each P (listed offsets nb v)
   unfolding listed
   listed_each P f v h = each_part P (get_or offsets v 0) (get_or offsets (suc v) 0) nb (offset_within n offsets nb rep.lists (suc v) h) (λ k l. f (get_or nb k 0) (rep.lists.within k l))
 
-  members_are : (o : ℕ) → o ≤ groups → nodes_in S o ≡ members_of n w o
+  members_are : (o : ℕ) → o ≤ groups → nodes_in S o ≡ members_of c o
   unfolding state_of
-  members_are o h = get_d_tab (members_of n w) (suc groups) o [] (omega arith)
+  members_are o h = get_d_tab (members_of c) (suc groups) o [] (omega arith)
 
-  pub size_is : (o : ℕ) → o ≤ groups → size_in S o ≡ at (2 * n + 1) w o
+  pub size_is : (o : ℕ) → o ≤ groups → size_in S o ≡ at c.counts o
   unfolding members_of
-  size_is o h = ap length (members_are o h) ∙ length_walk (at (2 * n + 1) w o) w (at n w o)
+  size_is o h = ap length (members_are o h) ∙ length_walk (at c.counts o) c.next (at c.first o)
 
-  pub low_members : (o : ℕ) → o ≤ groups → Each (λ v. v < n) (members_of n w o)
+  pub low_members : (o : ℕ) → o ≤ groups → Each (λ v. v < n) (members_of c o)
   low_members o h = each_imp (λ v p. p.0) (rep.members o h)
 
   named_short : (g : ℕ) (sizes : ℕ → ℕ) (vs : List ℕ) → Each (λ v. v < n) vs → length (named_by (listed offsets nb) g ids sizes vs) ≤ total (degree offsets) vs
@@ -116,96 +116,70 @@ module _ (n groups : ℕ) (offsets nb ids w : List ℕ) (rep : Rep n groups offs
     named_short g sizes vs (each_tail a),
   )
 
-  pub edges_within : (g : ℕ) → g ≤ groups → total (degree offsets) (members_of n w g) ≤ length nb
+  pub edges_within : (g : ℕ) → g ≤ groups → total (degree offsets) (members_of c g) ≤ length nb
   edges_within g hg = omega (
     arith,
-    total_within (degree offsets) (members_of n w g) (blank n) (rep.once g hg) (rw (length_blank n) (low_members g hg)) (each_blank n (members_of n w g) (low_members g hg)),
+    total_within (degree offsets) (members_of c g) (blank n) (rep.once g hg) (rw (length_blank n) (low_members g hg)) (each_blank n (members_of c g) (low_members g hg)),
     spare_within n offsets nb rep.lists (blank n) (length_blank n),
   )
 
   module _ (floor g : ℕ) (hg : g ≤ groups) where
-    pub none_empty : at (2 * n + 1) w g ≡ 0 → taker_of (listed offsets nb) no_anchor floor S g ≡ 0
+    pub none_empty : at c.counts g ≡ 0 → taker_of (listed offsets nb) no_anchor floor S g ≡ 0
     unfolding taker_of
     none_empty z = rw (taker_of, le-ltb 0 (size_in S g) (omega (arith, size_is g hg)))
 
-    pub none_floor : (at (2 * n + 1) w g ≡ 0 → ⊥) → floor ≤ at (2 * n + 1) w g → taker_of (listed offsets nb) no_anchor floor S g ≡ 0
+    pub none_floor : (at c.counts g ≡ 0 → ⊥) → floor ≤ at c.counts g → taker_of (listed offsets nb) no_anchor floor S g ≡ 0
     unfolding taker_of
     none_floor z h = rw (taker_of, lt-ltb 0 (size_in S g) (omega (arith, size_is g hg, z)), le-ltb (size_in S g) floor (omega (arith, size_is g hg)))
 
     abbrev pub names : List ℕ
-    names = named_by (listed offsets nb) g ids (at (2 * n + 1) w) (members_of n w g)
+    names = named_by (listed offsets nb) g ids (at c.counts) (members_of c g)
 
     pub names_few : length names ≤ length nb
-    names_few = omega (arith, named_short g (at (2 * n + 1) w) (members_of n w g) (low_members g hg), edges_within g hg)
+    names_few = omega (arith, named_short g (at c.counts) (members_of c g) (low_members g hg), edges_within g hg)
 
     -- each of them is another group that has members
-    pub names_ok : Each (λ o. (o ≤ groups) × Other g (at (2 * n + 1) w) o) names
-    names_ok = named_ok (listed offsets nb) g ids (at (2 * n + 1) w) (λ o. o ≤ groups) (members_of n w g)
+    pub names_ok : Each (λ o. (o ≤ groups) × Other g (at c.counts) o) names
+    names_ok = named_ok (listed offsets nb) g ids (at c.counts) (λ o. o ≤ groups) (members_of c g)
         (each_imp (λ v h. listed_each (λ x. get_or ids x 0 ≤ groups) rep.grouped v h) (low_members g hg))
 
     pub low_names : Each (λ o. o ≤ groups) names
     low_names = each_imp (λ o p. p.0) names_ok
 
     -- sizes that agree give the same choice
-    pub choice_same : (sizes : ℕ → ℕ) → ((o : ℕ) → o ≤ groups → sizes o ≡ at (2 * n + 1) w o) → chosen (edges_to names) sizes 0 names ≡ chosen (edges_to names) (at (2 * n + 1) w) 0 names
-    choice_same sizes e = chosen_cong (λ o. o ≤ groups) (edges_to names) sizes (edges_to names) (at (2 * n + 1) w) (λ x p. refl) e
-        (λ b a p q. better_keeps (edges_to names) (at (2 * n + 1) w) b a (λ x. x ≤ groups) p q) 0 names (omega arith) low_names
+    pub choice_same : (sizes : ℕ → ℕ) → ((o : ℕ) → o ≤ groups → sizes o ≡ at c.counts o) → chosen (edges_to names) sizes 0 names ≡ chosen (edges_to names) (at c.counts) 0 names
+    choice_same sizes e = chosen_cong (λ o. o ≤ groups) (edges_to names) sizes (edges_to names) (at c.counts) (λ x p. refl) e
+        (λ b a p q. better_keeps (edges_to names) (at c.counts) b a (λ x. x ≤ groups) p q) 0 names (omega arith) low_names
 
     pub same_names : named_groups (listed offsets nb) no_anchor g S (nodes_in S g) ≡ names
     unfolding state_of
-    same_names = named_is (listed offsets nb) g S (nodes_in S g) ∙ rw (members_are g hg) (named_cong (listed offsets nb) g ids ids (size_in S) (at (2 * n + 1) w) (members_of n w g)
-        (each_imp (λ v h. listed_each (λ x. (get_or ids x 0 ≡ get_or ids x 0) × (size_in S (get_or ids x 0) ≡ at (2 * n + 1) w (get_or ids x 0))) (λ x l. (refl, size_is (get_or ids x 0) (rep.grouped x l))) v h) (low_members g hg)))
+    same_names = named_is (listed offsets nb) g S (nodes_in S g) ∙ rw (members_are g hg) (named_cong (listed offsets nb) g ids ids (size_in S) (at c.counts) (members_of c g)
+        (each_imp (λ v h. listed_each (λ x. (get_or ids x 0 ≡ get_or ids x 0) × (size_in S (get_or ids x 0) ≡ at c.counts (get_or ids x 0))) (λ x l. (refl, size_is (get_or ids x 0) (rep.grouped x l))) v h) (low_members g hg)))
 
-    module _ (some : 0 < at (2 * n + 1) w g) (low : at (2 * n + 1) w g < floor) where
-      pub taker_is : taker_of (listed offsets nb) no_anchor floor S g ≡ chosen (edges_to names) (at (2 * n + 1) w) 0 names
+    module _ (some : 0 < at c.counts g) (low : at c.counts g < floor) where
+      pub taker_is : taker_of (listed offsets nb) no_anchor floor S g ≡ chosen (edges_to names) (at c.counts) 0 names
       unfolding taker_of
       taker_is = rw (taker_of, lt-ltb 0 (size_in S g) (omega (arith, size_is g hg)), lt-ltb (size_in S g) floor (omega (arith, size_is g hg)), same_names) (choice_same (size_in S) size_is)
 
-      module _ (b : ℕ) (b_is : b ≡ chosen (edges_to names) (at (2 * n + 1) w) 0 names) (found : b ≡ 0 → ⊥) where
-        pub good : (b ≤ groups) × Other g (at (2 * n + 1) w) b
+      module _ (b : ℕ) (b_is : b ≡ chosen (edges_to names) (at c.counts) 0 names) (found : b ≡ 0 → ⊥) where
+        pub good : (b ≤ groups) × Other g (at c.counts) b
         good =
-            let Q : ℕ → Type 0 = λ o. (o ≡ 0 → ⊥) → (o ≤ groups) × Other g (at (2 * n + 1) w) o in
-            let k : Q b = rw b_is (chosen_keeps Q (edges_to names) (at (2 * n + 1) w) 0 names (λ z. absurd (z refl)) (each_imp (λ o p z. p) names_ok)) in
+            let Q : ℕ → Type 0 = λ o. (o ≡ 0 → ⊥) → (o ≤ groups) × Other g (at c.counts) o in
+            let k : Q b = rw b_is (chosen_keeps Q (edges_to names) (at c.counts) 0 names (λ z. absurd (z refl)) (each_imp (λ o p z. p) names_ok)) in
             k found
 
         -- the two groups have different members
-        pub both_few : at (2 * n + 1) w g + at (2 * n + 1) w b ≤ n
+        pub both_few : at c.counts g + at c.counts b ≤ n
         unfolding members_of
         both_few =
-            let A = members_of n w g in
-            let B = members_of n w b in
+            let A = members_of c g in
+            let B = members_of c b in
             omega (
               arith,
               length-append A B,
-              length_walk (at (2 * n + 1) w g) w (at n w g),
-              length_walk (at (2 * n + 1) w b) w (at n w b),
+              length_walk (at c.counts g) c.next (at c.first g),
+              length_walk (at c.counts b) c.next (at c.first b),
               once_short n (A ++ B)
                   (once_append A B (rep.once g hg) (rep.once b good.0) (each_imp (λ x p. each_imp (λ y q e. good.1.1 (sym q.1 ∙ (rw (← e) at p.1))) (rep.members b good.0)) (rep.members g hg)))
                   (each_append (low_members g hg) (low_members b good.0)),
             )
-
--- a work list that agrees up to the names stands for the same groups
-module _ (n groups : ℕ) (offsets nb ids w w₁ : List ℕ) (rep : Rep n groups offsets nb ids w) (long : length w₁ ≡ length w) (front : (k : ℕ) → k < 4 * n + 3 → get_or w₁ k 0 ≡ get_or w k 0) where
-  pub chain_still : (o : ℕ) → o ≤ groups → members_of n w₁ o ≡ members_of n w o
-  unfolding members_of
-  chain_still o h =
-      let c : at (2 * n + 1) w₁ o ≡ at (2 * n + 1) w o = front (2 * n + 1 + o) (omega (arith, rep.few)) in
-      let d : at n w₁ o ≡ at n w o = front (n + o) (omega (arith, rep.few)) in
-      rw (c, d) (walk_same w w₁ (at (2 * n + 1) w o) (at n w o) (each_imp (λ v l. front v (omega arith)) (low_members n groups offsets nb ids w rep o h)))
-
-  pub state_still : state_of n groups ids w₁ ≡ state_of n groups ids w
-  unfolding state_of
-  state_still = let e = tab_cong (members_of n w₁) (members_of n w) (suc groups) (λ o h. chain_still o (omega arith)) in λ i. record { of = ids; members = e i }
-
-  pub rep_still : Rep n groups offsets nb ids w₁
-  rep_still = record {
-    nodes = rep.nodes;
-    lists = rep.lists;
-    room = rw long rep.room;
-    few = rep.few;
-    small = rep.small;
-    grouped = rep.grouped;
-    members = λ o h. rw (chain_still o h) (rep.members o h);
-    once = λ o h. rw (chain_still o h) (rep.once o h);
-    quiet = λ k l m. front k m ∙ rep.quiet k l m;
-  }

@@ -1,18 +1,16 @@
 -- The scan of `last_rule`, and that `rule_of` compares by edges and members.
 use mathlib.Core.Path.{◌≡◌, refl, ap, sym, ◌∙◌}
 use mathlib.Core.List.{List, [], ◌∷◌}
-use Prim.Native.Nat.{ℕ, ◌+◌, ◌≤◌, ◌<◌, max}
-use native.Mathlib.Omega.{arith}
-use native.Mathlib.Numerals.{add-one}
+use Prim.Native.Nat.{ℕ, ◌+◌, ◌<◌, max}
 use native.Mathlib.Decide.{ℕ_discrete}
 use borrow.Author.Tests.{eq-eqb, ne_eqb}
-use lib.ListN.{length, get_or}
-use lib.Seq.{slice, slice-cons, slice_empty}
+use lib.ListN.{length, get_or, drop}
 use Rattle.definitions.specs.Groups.{edges_to}
-use Rattle.laws.proofs.Lists.{Each, each_head, each_tail}
+use Rattle.laws.proofs.Lists.{Each, each_head, each_tail, each_any}
 use Rattle.aggregates.specs.JoinChoice.{bump, at}
 use Rattle.aggregates.specs.Log.{Rules, rule_against, rule_by}
-use Rattle.aggregates.proofs.joining.Together.{low, same_names, edges_counted, sizes_kept}
+use Rattle.aggregates.proofs.joining.Counting.{drop_more}
+use Rattle.aggregates.proofs.joining.Together.{edges_counted}
 
 module _ (e m : ℕ → ℕ) (b a : ℕ) where
   pub against_same : a ≡ b → rule_against e m b a ≡ 1
@@ -32,22 +30,17 @@ module _ (e m : ℕ → ℕ) (b a : ℕ) where
   against_id d x y = rw (rule_against, ne_eqb a b d, eq-eqb (e a) (e b) x, eq-eqb (m a) (m b) y)
 
 -- the rule over the groups looked at so far: what is still to come gives the same
-pub record Ruling (work : List ℕ) (counts hits from end b rule i : ℕ) : Type 0 where
-  pub lo : from ≤ i
-  pub hi : i ≤ end
-  pub goes : rule_by (at hits work) (at counts work) b rule (slice i end work) ≡ rule_by (at hits work) (at counts work) b 1 (slice from end work)
+abbrev pub Ruling : List ℕ → List ℕ → List ℕ → ℕ → ℕ → ℕ → Type 0
+Ruling counts hits names b rule i = rule_by (at hits) (at counts) b rule (drop i names) ≡ rule_by (at hits) (at counts) b 1 names
 
-module _ (work : List ℕ) (counts hits from end b : ℕ) (long : end ≤ length work) where
-  pub rule_step : (rule i rule' : ℕ) → Ruling work counts hits from end b rule i → i < end → rule' ≡ max rule (rule_against (at hits work) (at counts work) b (get_or work i 0)) → Ruling work counts hits from end b rule' (i + 1)
+module _ (counts hits names : List ℕ) (b rule i : ℕ) (inv : Ruling counts hits names b rule i) where
+  pub rule_step : (rule' : ℕ) → i < length names → rule' ≡ max rule (rule_against (at hits) (at counts) b (get_or names i 0)) → Ruling counts hits names b rule' (i + 1)
   unfolding rule_by
-  rule_step rule i rule' inv h e = record { lo = omega (arith, inv.lo); hi = omega arith; goes = rw (e, add-one i) (rw (slice-cons i end work 0 h long) at inv.goes) }
+  rule_step rule' h e = rw e (rw (drop_more names i h) at inv)
 
-  pub rule_last : (rule i : ℕ) → Ruling work counts hits from end b rule i → end ≤ i → rule ≡ rule_by (at hits work) (at counts work) b 1 (slice from end work)
+  pub rule_last : drop i names ≡ [] → rule ≡ rule_by (at hits) (at counts) b 1 names
   unfolding rule_by
-  rule_last rule i inv h =
-      let e : i ≡ end = omega (arith, inv.hi) in
-      let none : slice i end work ≡ [] = rw e (slice_empty end work) in
-      rw none at inv.goes
+  rule_last e = rw e at inv
 
 -- edges and members that agree give the same rule
 module _ (P : ℕ → Type 0) (e m e' m' : ℕ → ℕ) (same-e : (x : ℕ) → P x → e x ≡ e' x) (same-m : (x : ℕ) → P x → m x ≡ m' x) (b : ℕ) (p : P b) where
@@ -66,12 +59,6 @@ module _ (P : ℕ → Type 0) (e m e' m' : ℕ → ℕ) (same-e : (x : ℕ) → 
   rule_cong r (x ∷ l) a = ap (λ t. rule_by e m b (max r t) l) (against_cong x (each_head a)) ∙ rule_cong (max r (rule_against e' m' b x)) l (each_tail a)
 
 -- `tally` and the scan: by the edges that lead to a group
-pub rule_by_lem : (w : List ℕ) (counts hits from end b : ℕ) → Rules counts hits from end b w → rule_by (at hits (bump hits (slice from end w) w)) (at counts (bump hits (slice from end w) w)) b 1 (slice from end (bump hits (slice from end w) w)) ≡ rule_by (edges_to (slice from end w)) (at counts w) b 1 (slice from end w)
-rule_by_lem w counts hits from end b asks =
-    let names = slice from end w in
-    let first : hits < from = omega (arith, asks.taker) in
-    rw (same_names w counts hits from end asks.upward asks.fits asks.room first asks.named asks.zeros)
-    (rule_cong (λ x. hits + x < from) (at hits (bump hits names w)) (at counts (bump hits names w)) (edges_to names) (at counts w)
-    (edges_counted w counts hits from end asks.upward asks.fits asks.room first asks.named asks.zeros)
-    (sizes_kept w counts hits from end asks.upward asks.fits asks.room first asks.named asks.zeros)
-    b asks.taker 1 names (low w counts hits from end asks.upward asks.fits asks.room first asks.named asks.zeros))
+pub rule_by_lem : (counts hits names : List ℕ) (b : ℕ) → Rules counts hits names b → rule_by (at (bump names hits)) (at counts) b 1 names ≡ rule_by (edges_to names) (at counts) b 1 names
+rule_by_lem counts hits names b asks =
+    rule_cong (λ _. Unit {0}) (at (bump names hits)) (at counts) (edges_to names) (at counts) (λ x p. edges_counted counts hits names asks.zeros asks.within x) (λ x p. refl) b tt 1 names (each_any names (λ x. tt))

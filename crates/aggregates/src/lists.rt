@@ -1,0 +1,24 @@
+// The neighbour lists of the nodes, one behind another: where each starts, and behind the last where that ends.
+ghost use Rattle.std.specs.Prelude.{◌≡◌, ◌<◌};
+ghost use Rattle.definitions.specs.Groups.{listed};
+ghost use Rattle.aggregates.specs.Lists.{Lists as Fit};
+
+#[derive(Clone, Copy)]
+pub(crate) struct Lists<'a> {
+    pub(crate) nodes: usize,
+    pub(crate) offsets: &'a [u32],
+    pub(crate) neighbours: &'a [u32],
+    ghost fit: { Fit nodes offsets.now neighbours.now },
+}
+
+impl Lists<'_> {
+    // What the node v lists.
+    pub(crate) fn of(&self, v: usize) -> &[u32]
+        requires { v < self.now.nodes }
+        ensures { result.now ≡ listed self.now.offsets.now self.now.neighbours.now v }
+    {
+        let from = self.offsets[v] as usize;
+        let to = self.offsets[v + 1] as usize;
+        &self.neighbours[from..to]
+    }
+}
