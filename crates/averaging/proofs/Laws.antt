@@ -23,10 +23,6 @@ use Rattle.laws.proofs.Places.{same_row, same_col, place}
 
 -- ---- parts of the pairs
 
--- no pair yet
-pub averages_none : (c : ℕ) (P : ℕ → ℕ → Type 0) (m : List Float) → ((i j : ℕ) → j < i → P i j → ⊥) → Averages c P m m
-averages_none c P m n = record { long = refl; low = λ i j h k p. absurd (n i j h p); up = λ i j h k p. absurd (n i j h p); other = λ p h. refl }
-
 -- the pair (i, j)
 module _ (c i j : ℕ) (m : List Float) (h : j < i) (k : i < c) (big : c * c ≤ length m) where
   abbrev v : Float
@@ -121,6 +117,27 @@ rows_more c first end m₀ m r h k a b =
     parts : (x y : ℕ) → y < x → Tile 0 end 0 c x y → Dec (x < first) → Tile 0 first 0 c x y ⊎ Tile first end 0 end x y
     parts x y q t (yes l) = inl (omega arith, l, omega arith, t.3)
     parts x y q t (no n) = inr (omega arith, t.1, omega arith, omega (arith, t))
+
+-- the same pairs, named otherwise
+averages_same : (c : ℕ) (P R : ℕ → ℕ → Type 0) (m r : List Float) → Averages c P m r → ((i j : ℕ) → j < i → i < c → R i j → P i j) → ((i j : ℕ) → j < i → i < c → P i j → R i j) → Averages c R m r
+averages_same c P R m r a f g = record {
+  long = a.long;
+  low = λ i j h k t. a.low i j h k (f i j h k t);
+  up = λ i j h k t. a.up i j h k (f i j h k t);
+  other = λ p n. a.other p (λ i j h k t. n i j h k (g i j h k t));
+}
+
+-- one strip of eight rows more, or of those that are left
+pub strips_more : (c k end : ℕ) (m₀ m r : List Float) → k * 8 < end → end ≤ c → end ≤ k * 8 + 8 → ((i : ℕ) → i < c → i < k * 8 + 8 → i < end) → Averages c (Tile 0 (k * 8) 0 c) m₀ m
+    → Averages c (Tile (k * 8) end 0 end) m r → Averages c (Tile 0 ((k + 1) * 8) 0 c) m₀ r
+strips_more c k end m₀ m r h q n s a b =
+    averages_same c (Tile 0 end 0 c) (Tile 0 ((k + 1) * 8) 0 c) m₀ r (rows_more c (k * 8) end m₀ m r (omega arith) q a b)
+    (λ i j g l t. (omega arith, s i l (omega (arith, t)), omega arith, t.3)) (λ i j g l t. (omega arith, omega (arith, t), omega arith, t.3))
+
+pub strips_end : (c k : ℕ) (m r : List Float) → c ≤ k * 8 → Averages c (Tile 0 (k * 8) 0 c) m r → Averages c (Tile 0 c 0 c) m r
+strips_end c k m r h a =
+    averages_same c (Tile 0 (k * 8) 0 c) (Tile 0 c 0 c) m r a
+    (λ i j g l t. (omega arith, omega arith, omega arith, t.3)) (λ i j g l t. (omega arith, l, omega arith, t.3))
 
 -- ---- the definition's three cases
 

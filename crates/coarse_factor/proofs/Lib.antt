@@ -1,3 +1,3 @@
+pub mod Fronts
 pub mod Cholesky
 pub mod Fitting
-pub mod Fronts

@@ -1,33 +1,12 @@
--- What small numbers leave of sums and products, and when a record's numbers are small.
+-- What small numbers leave of products, and where the parts of a record with small numbers stand.
 use Prim.Native.Nat.{ℕ, ◌+◌, ◌*◌, ◌≤◌}
 use native.Mathlib.Nat.{mul-le-mul}
 use mathlib.Core.Path.{◌≡◌}
-use mathlib.Core.Bool.{true, false}
-use borrow.Author.Tests.{leb-true, le-leb}
+use borrow.Author.Tests.{le-leb}
 use Rattle.definitions.specs.Places.{places_of, used_ints, used_floats}
 use Rattle.definitions.specs.declared.Places.{Places}
 use Rattle.definitions.specs.declared.Setup.{Setup}
-use Rattle.laws.proofs.Tests.{both_true}
-use Rattle.layout.specs.Layout.{placeable, nowhere, layout_of}
-
-pub record Small (s : Setup) : Type 0 where
-  pub nodes : s.nodes ≤ 1_048_576
-  pub rows : s.rows ≤ 1_048_576
-  pub block : s.block ≤ 8
-  pub transfers : s.transfers ≤ 17_825_792
-  pub coarse : s.coarse ≤ 2_048
-  pub factors : s.rows * s.block ≤ 8_388_608
-
-pub small_of : (s : Setup) → placeable s ≡ true → Small s
-unfolding placeable
-small_of s e =
-    let p4 = both_true _ _ e in
-    let p3 = both_true _ _ p4.0 in
-    let p2 = both_true _ _ p3.0 in
-    let p1 = both_true _ _ p2.0 in
-    let rows = leb-true _ _ p1.1 in
-    let block = leb-true _ _ p2.1 in
-    record { nodes = leb-true _ _ p1.0; rows = rows; block = block; transfers = leb-true _ _ p3.1; coarse = leb-true _ _ p4.1; factors = mul-le-mul rows block }
+use Rattle.layout.specs.Layout.{placeable, layout_of}
 
 -- ---- what callers use
 
@@ -36,15 +15,7 @@ pub placed : (s : Setup) → s.nodes ≤ 1_048_576 → s.rows ≤ 1_048_576 → 
 unfolding layout_of placeable
 placed s n r b t c = rw (le-leb s.nodes 1_048_576 n, le-leb s.rows 1_048_576 r, le-leb s.block 8 b, le-leb s.transfers 17_825_792 t, le-leb s.coarse 2_048 c, layout_of)
 
-pub layout_within : (s : Setup) → placeable s ≡ true → layout_of s ≡ places_of s
-unfolding layout_of
-layout_within s e = rw (e, layout_of)
-
-pub layout_over : (s : Setup) → placeable s ≡ false → layout_of s ≡ nowhere
-unfolding layout_of
-layout_over s e = rw (e, layout_of)
-
--- a square of a coarse dimension, and its packed half
+-- a coarse dimension times itself or the next
 pub square_fits : (c d : ℕ) → c ≤ 2048 → d ≤ 2049 → c * d ≤ 4_196_352
 square_fits c d h k = mul-le-mul h k
 

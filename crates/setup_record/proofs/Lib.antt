@@ -1,4 +1,3 @@
 pub mod Products
 pub mod Limits
-pub mod RowsFit
 pub mod Misfits
