@@ -3,35 +3,27 @@ use Prim.Native.Nat.{ℕ, zero, suc, ◌+◌, ◌-◌, ◌*◌, ◌/◌, ◌<◌
 use mathlib.Core.Path.{◌≡◌, ap, sym, ◌∙◌}
 use mathlib.Core.List.{List, [], ◌++◌, flat_map, append-nil, append_assoc}
 use native.Mathlib.Omega.{arith}
-use native.Mathlib.Nat.{min-eq_left, min-eq_right, mul-le-mul, div-mul-le_self, div-eq_of_lt-le, lt-div-mul-add, suc-mul, le_refl, le_antisymm}
+use native.Mathlib.Nat.{min-eq_left, min-eq_right, mul-le-mul, div-mul-le_self, div-eq_of_lt-le, lt-div-mul-add, suc-mul, le_refl}
 use native.Mathlib.Numerals.{add-one}
 use native.Mathlib.Decide.{dec_le}
 use lib.ListN.{length, take, drop, length-append, length-drop, drop_of_length-le}
 use lib.Seq.{take_at, drop_at, drop-drop, length-take-le}
 use lib.Ieee.{Float}
-use Rattle.definitions.specs.Lists.{up_to, between, tab}
-use Rattle.definitions.specs.Block.{width_of, block_count, block_solve, block_part, block_applied}
+use Rattle.definitions.specs.Lists.{up_to, tab}
+use Rattle.definitions.specs.Block.{width_of, block_count, block_solve, block_applied}
 use Rattle.laws.proofs.Growing.{up_to_snoc, flat_map_snoc}
 use Rattle.block_apply.specs.Solved.{solved_block, solved_blocks}
-use Rattle.block_apply.proofs.Calling.{product_small}
 use Rattle.block_apply.proofs.Triangles.{length_solve}
 
 -- ---- where a block lies
 
--- the rows of a block w wide that begins at first, and its factor, in a list of so many numbers
-pub record Inside (rows size first w room : ℕ) : Type 0 where
-  pub rows_end : first + w ≤ rows
-  pub factor_end : first * size + w * w ≤ room
-  pub few : rows ≤ 1_048_576
-  pub narrow : w ≤ 8
-  pub small : first * size + w * w ≤ 8_388_608
-
-pub block_inside : (rows size first w room : ℕ) → size ≤ 8 → w ≤ size → first + w ≤ rows → rows ≤ 1_048_576 → rows * size ≤ room → Inside rows size first w room
-block_inside rows size first w room hs p q few h =
+-- the factor of a block w wide, in a list of so many numbers
+pub factor_end : (rows size first w room : ℕ) → w ≤ size → first + w ≤ rows → rows * size ≤ room → first * size + w * w ≤ room
+factor_end rows size first w room p q h =
     let b : (first + w) * size ≤ rows * size = mul-le-mul q (le_refl size) in
     let s : (first + w) * size ≡ first * size + w * size = omega arith in
     let f : w * w ≤ w * size = mul-le-mul (le_refl w) p in
-    record { rows_end = q; factor_end = omega arith; few = few; narrow = omega arith; small = omega (arith, product_small rows size few hs) }
+    omega arith
 
 -- block k of so many whole ones
 pub whole_end : (count size k rows : ℕ) → k < count → count * size ≤ rows → k * size + size ≤ rows
@@ -54,16 +46,9 @@ pub whole_width : (rows size k : ℕ) → k * size + size ≤ rows → size ≡ 
 unfolding width_of
 whole_width rows size k h = sym (min-eq_left (omega arith))
 
--- a size that is none of those before
-above : {n : ℕ} (m : ℕ) → m ≤ n → (n ≡ m → ⊥) → suc m ≤ n
-above m p r = omega arith
-
-pub last_size : (n : ℕ) → 1 ≤ n → n ≤ 8 → (n ≡ 1 → ⊥) → (n ≡ 2 → ⊥) → (n ≡ 3 → ⊥) → (n ≡ 4 → ⊥) → (n ≡ 5 → ⊥) → (n ≡ 6 → ⊥) → (n ≡ 7 → ⊥) → n ≡ 8
-last_size n h q a b c d e f g = le_antisymm q (above 7 (above 6 (above 5 (above 4 (above 3 (above 2 (above 1 h a) b) c) d) e) f) g)
-
--- a part lent by its start and end
-pub part_length_lem : (u : List Float) (a n : ℕ) → a + n ≤ length u → length (take (a + n - a) (drop a u)) ≡ n
-part_length_lem u a n h = let k : a + n - a ≡ n = omega arith in rw k (length-take-le n (drop a u) (rw (length-drop a u) (omega arith)))
+-- a part lent by its start and its length
+pub length_part : (l : List Float) (a n m : ℕ) → n ≡ m → a + m ≤ length l → length (take n (drop a l)) ≡ m
+length_part l a n m e h = rw e (length-take-le m (drop a l) (rw (length-drop a l) (omega arith)))
 
 -- ---- the blocks solved so far
 
@@ -105,17 +90,19 @@ module _ (rows size : ℕ) (factors r : List Float) where
           drop_of_length-le z₀ a ∙ sym (drop_of_length-le z₀ b)
 
   -- a block more, put in place of what lay there
-  pub blocks_more : (z₀ z y : List Float) (k w : ℕ) → length z₀ ≡ rows → k * size < rows → w ≡ width_of rows size k → z ≡ solved_blocks rows size factors r k ++ drop (k * size) z₀
-      → y ≡ block_solve (block_part size w k factors) w (between (k * size) (k * size + w) r)
-      → take (k * size) z ++ (y ++ drop (k * size + w - k * size) (drop (k * size) z)) ≡ solved_blocks rows size factors r (k + 1) ++ drop ((k + 1) * size) z₀
+  pub blocks_more : (z₀ z y : List Float) (k w n u m v : ℕ) → length z₀ ≡ rows → k * size < rows → w ≡ width_of rows size k → n ≡ w → u ≡ w → m ≡ w * w → v ≡ w
+      → z ≡ solved_blocks rows size factors r k ++ drop (k * size) z₀
+      → y ≡ block_solve (take m (drop (k * size * size) factors)) v (take u (drop (k * size) r))
+      → take (k * size) z ++ (y ++ drop n (drop (k * size) z)) ≡ solved_blocks rows size factors r (k + 1) ++ drop ((k + 1) * size) z₀
   unfolding solved_block
-  blocks_more z₀ z y k w n h ew e ey =
-      let q : k * size + w - k * size ≡ w = omega arith in
-      let m : length (solved_blocks rows size factors r k) ≡ k * size = length_blocks k (omega arith) in
-      let t : take (k * size) z ≡ solved_blocks rows size factors r k = rw e (take_at (solved_blocks rows size factors r k) (drop (k * size) z₀) (k * size) m) in
-      let d : drop (k * size) z ≡ drop (k * size) z₀ = rw e (drop_at (solved_blocks rows size factors r k) (drop (k * size) z₀) (k * size) m) in
-      let y' : y ≡ solved_block rows size factors r k = ey ∙ rw ew in
-      rw (q, t, d, drop-drop w (k * size) z₀, past z₀ k w n h ew, y', add-one, blocks_snoc k)
+  blocks_more z₀ z y k w n u m v l h ew en eu em ev e ey =
+      let a : k * size + w - k * size ≡ w = omega arith in
+      let b : k * size * size + w * w - k * size * size ≡ w * w = omega arith in
+      let c : length (solved_blocks rows size factors r k) ≡ k * size = length_blocks k (omega arith) in
+      let t : take (k * size) z ≡ solved_blocks rows size factors r k = rw e (take_at (solved_blocks rows size factors r k) (drop (k * size) z₀) (k * size) c) in
+      let d : drop (k * size) z ≡ drop (k * size) z₀ = rw e (drop_at (solved_blocks rows size factors r k) (drop (k * size) z₀) (k * size) c) in
+      let y' : y ≡ solved_block rows size factors r k = rw (ey, eu, em, ev, ← ew, a, b) in
+      rw (en, t, d, drop-drop w (k * size) z₀, past z₀ k w l h ew, y', add-one, blocks_snoc k)
       (sym (append_assoc (solved_blocks rows size factors r k) (solved_block rows size factors r k) (drop (suc k * size) z₀)))
 
   pub blocks_all : (z₀ z : List Float) (k : ℕ) → length z₀ ≡ rows → rows ≤ k * size → k * size < rows + size → z ≡ solved_blocks rows size factors r k ++ drop (k * size) z₀

@@ -3,24 +3,24 @@ use Prim.Native.Nat.{ℕ, zero, suc, ◌+◌, ◌-◌, ◌*◌, ◌<◌, ◌≤�
 use mathlib.Core.Path.{◌≡◌, refl, ap, sym, ◌∙◌}
 use mathlib.Core.List.{List, [], ◌∷◌, ◌++◌, append-nil, append_assoc}
 use native.Mathlib.Omega.{arith}
-use native.Mathlib.Nat.{mul-le-mul, suc-mul, le_refl}
 use native.Mathlib.Numerals.{add-one}
 use lib.ListN.{length, get_or, set, take, drop, length-append, get_or-append}
-use lib.Seq.{drop-cons, drop-length, set_at, get_or_at, take-suc, take-length, length-take-le, get_or-append-add}
+use lib.Seq.{drop-cons, set_at, get_or_at, take-suc, take-length, length-take-le, get_or-append-add}
 use lib.Ieee.{Float, nan}
 use Rattle.definitions.specs.Lists.{tab}
 use Rattle.definitions.specs.Numbers.{◌-ᶠ◌, ◌*ᶠ◌, ◌/ᶠ◌, reduced}
 use Rattle.definitions.specs.Block.{lower, forward, backward, block_solve}
 use Rattle.laws.proofs.Lists.{tab_cong}
 use Rattle.laws.proofs.Growing.{reduced_none}
-use Rattle.block_apply.proofs.Sums.{reduced_from}
+use Rattle.std.proofs.lemmas.List.{get_or-take, get_or-drop}
+use Rattle.block_apply.proofs.Sums.{reduced_from, product}
 
--- row i lies within the factor, and the factor is small
-pub row_inside : (i w : ℕ) → i < w → i * w + w ≤ w * w
-row_inside i w p = rw suc-mul at (mul-le-mul p (le_refl w))
-
-pub square_small : (w : ℕ) → w ≤ 8 → w * w ≤ 64
-square_small w q = mul-le-mul q q
+-- the part of row i before its diagonal, by numbers of z
+pub row_products : (l z : List Float) (w i m n : ℕ) (x : Float) → m ≡ i → i ≤ n → reduced x (tab (product (take i (take n (drop (i * w) l))) (take i z)) m) ≡ reduced x (tab (λ k. lower l w i k *ᶠ get_or z k nan) i)
+row_products l z w i m n x e h =
+    rw e
+    (ap (reduced x) (tab_cong (product (take i (take n (drop (i * w) l))) (take i z)) (λ k. lower l w i k *ᶠ get_or z k nan) i
+    (λ k q. let p : k < n = omega arith in rw (get_or-take i (take n (drop (i * w) l)) k nan q, get_or-take n (drop (i * w) l) k nan p, get_or-drop (i * w) l k nan, get_or-take i z k nan q))))
 
 -- ---- forward
 
@@ -50,12 +50,6 @@ pub forward_none : (l : List Float) (w : ℕ) (r z : List Float) → z ≡ forwa
 unfolding forward
 forward_none l w r z = refl
 
-pub forward_all : (l : List Float) (w : ℕ) (r z₀ z : List Float) (i : ℕ) → length z₀ ≡ w → i ≡ w → z ≡ forward l w r i ++ drop i z₀ → z ≡ forward l w r w
-forward_all l w r z₀ z i n h e = let q : i ≡ length z₀ = omega arith in let d : drop i z₀ ≡ [] = rw q (drop-length z₀) in e ∙ rw (d, append-nil, h)
-
-pub forward_length : (l : List Float) (w : ℕ) (r z : List Float) → z ≡ forward l w r w → length z ≡ w
-forward_length l w r z e = ap length e ∙ length_forward l w r w
-
 -- ---- backward
 
 length_backward : (l : List Float) (w : ℕ) (y : List Float) (k : ℕ) → length (backward l w y k) ≡ k
@@ -77,41 +71,41 @@ module _ (l : List Float) (w : ℕ) (z : List Float) (x : Float) (i : ℕ) where
       let q : suc i + (m - suc i) ≡ m = omega arith in
       reduced_from x (column_term l w z i) (suc i) m s (s -ᶠ lower l w m i *ᶠ get_or z m nan) h e (rw q)
 
-module _ (l z₀ z : List Float) (w k i : ℕ) (n : length z₀ ≡ w) (h : k < w) (ei : i ≡ w - suc k) (e : z ≡ take (w - k) z₀ ++ backward l w z₀ k) where
-  back_all : z ≡ take (suc i) z₀ ++ backward l w z₀ k
-  back_all = let q : w - k ≡ suc i = omega arith in e ∙ ap (λ n. take n z₀ ++ backward l w z₀ k) q
+-- the numbers from i on are solved
+module _ (l z₀ z : List Float) (w i j : ℕ) (h : i < length z₀) (n : length z₀ ≡ w) (ej : j ≡ suc i) (e : z ≡ take j z₀ ++ backward l w z₀ (w - j)) where
+  abbrev solved : List Float
+  solved = backward l w z₀ (w - suc i)
 
-  back_here : z ≡ take i z₀ ++ get_or z₀ i nan ∷ backward l w z₀ k
-  back_here = back_all ∙ rw (take-suc z₀ i nan (omega arith)) (append_assoc (take i z₀) (get_or z₀ i nan ∷ []) (backward l w z₀ k))
+  back_all : z ≡ take (suc i) z₀ ++ solved
+  back_all = rw ej at e
+
+  back_here : z ≡ take i z₀ ++ get_or z₀ i nan ∷ solved
+  back_here = back_all ∙ rw (take-suc z₀ i nan h) (append_assoc (take i z₀) (get_or z₀ i nan ∷ []) solved)
 
   back_at : get_or z i nan ≡ get_or z₀ i nan
-  back_at = ap (λ t. get_or t i nan) back_here ∙ get_or_at (take i z₀) (get_or z₀ i nan) (backward l w z₀ k) nan i (length-take-le i z₀ (omega arith))
+  back_at = ap (λ t. get_or t i nan) back_here ∙ get_or_at (take i z₀) (get_or z₀ i nan) solved nan i (length-take-le i z₀ (omega arith))
 
-  back_above : (m : ℕ) → get_or z (suc i + m) nan ≡ get_or (backward l w z₀ k) m nan
+  back_above : (m : ℕ) → get_or z (suc i + m) nan ≡ get_or solved m nan
   back_above m =
       let q : length (take (suc i) z₀) ≡ suc i = length-take-le (suc i) z₀ (omega arith) in
-      ap (λ t. get_or t (suc i + m) nan) back_all ∙ ap (λ n. get_or (take (suc i) z₀ ++ backward l w z₀ k) (n + m) nan) (sym q)
-      ∙ get_or-append-add (take (suc i) z₀) (backward l w z₀ k) m nan
+      ap (λ t. get_or t (suc i + m) nan) back_all ∙ ap (λ n. get_or (take (suc i) z₀ ++ solved) (n + m) nan) (sym q)
+      ∙ get_or-append-add (take (suc i) z₀) solved m nan
 
-  back_sum : (x : Float) → reduced x (tab (column_term l w z i) (w - suc i)) ≡ reduced x (tab (λ m. lower l w (suc i + m) i *ᶠ get_or (backward l w z₀ k) m nan) k)
-  back_sum x =
-      let q : w - suc i ≡ k = omega arith in
-      ap (λ a. reduced x (tab (column_term l w z i) a)) q
-      ∙ ap (reduced x) (tab_cong (column_term l w z i) (λ m. lower l w (suc i + m) i *ᶠ get_or (backward l w z₀ k) m nan) k (λ m p. rw (back_above m)))
+  back_sum : (x : Float) → reduced x (tab (column_term l w z i) (w - suc i)) ≡ reduced x (tab (λ m. lower l w (suc i + m) i *ᶠ get_or solved m nan) (w - suc i))
+  back_sum x = ap (reduced x) (tab_cong (column_term l w z i) (λ m. lower l w (suc i + m) i *ᶠ get_or solved m nan) (w - suc i) (λ m p. rw (back_above m)))
 
   pub backward_step : (sum v : Float) → sum ≡ reduced (get_or z i nan) (tab (column_term l w z i) (w - suc i)) → v ≡ sum /ᶠ lower l w i i
-      → set z i v ≡ take (w - (k + 1)) z₀ ++ backward l w z₀ (k + 1)
+      → set z i v ≡ take i z₀ ++ backward l w z₀ (w - i)
   unfolding backward
   backward_step sum v es ev =
-      ap (λ t. set t i v) back_here ∙ set_at (take i z₀) (get_or z₀ i nan) (backward l w z₀ k) v i (length-take-le i z₀ (omega arith))
-      ∙ rw (add-one, ← ei, ev, es, back_at, back_sum (get_or z₀ i nan))
+      let k : w - i ≡ suc (w - suc i) = omega arith in
+      let q : w - suc (w - suc i) ≡ i = omega arith in
+      ap (λ t. set t i v) back_here ∙ set_at (take i z₀) (get_or z₀ i nan) solved v i (length-take-le i z₀ (omega arith))
+      ∙ rw (k, backward, q, ev, es, back_at, back_sum (get_or z₀ i nan))
 
-pub backward_none : (l z : List Float) (w : ℕ) → length z ≡ w → z ≡ take (w - 0) z ++ backward l w z 0
+pub backward_none : (l z : List Float) → z ≡ take (length z) z ++ backward l (length z) z (length z - length z)
 unfolding backward
-backward_none l z w n = let e : w - 0 ≡ length z = omega arith in rw (e, take-length z, append-nil)
-
-pub backward_all : (l z₀ z : List Float) (w k : ℕ) → k ≡ w → z ≡ take (w - k) z₀ ++ backward l w z₀ k → z ≡ backward l w z₀ w
-backward_all l z₀ z w k e q = let d : w - w ≡ 0 = omega arith in q ∙ rw (e, d)
+backward_none l z = let e : length z - length z ≡ 0 = omega arith in rw (e, take-length z, append-nil)
 
 -- ---- both
 

@@ -22,7 +22,6 @@ pub record Whole (count size : ℕ) (factors r z : List Float) : Type 0 where
   pub inside : count * size ≤ length r
   pub held : length r * size ≤ length factors
 
--- they are solved, and what stands behind them is kept
-pub record SolvedTo (count size : ℕ) (factors r z₀ z : List Float) : Type 0 where
-  pub long : length z ≡ length z₀
-  pub solved : z ≡ solved_blocks (length r) size factors r count ++ drop (count * size) z₀
+-- a list in which they are solved, and what stands behind them is kept
+abbrev pub solved_to : ℕ → ℕ → List Float → List Float → List Float → List Float
+solved_to count size factors r z = solved_blocks (length r) size factors r count ++ drop (count * size) z

@@ -6,7 +6,7 @@ ghost use Rattle.definitions.specs.Matrix.{max_rows};
 ghost use Rattle.definitions.specs.Block.{max_block, block_apply_call, block_apply_left};
 ghost use Rattle.definitions.specs.Answers.{answer_of};
 
-use definitions::{Answer, MAX_BLOCK, MAX_ROWS, Refusal};
+use definitions::{MAX_BLOCK, MAX_ROWS, Refusal};
 
 mod blocks;
 mod solve;
@@ -15,14 +15,7 @@ mod solve;
 fn fits(rows: usize, size: usize, room: usize) -> bool
     ensures { result ≡ (leb rows max_rows && leb 1 size && leb size max_block && leb (rows * size) room) }
 {
-    if rows <= MAX_ROWS {
-        if 1 <= size {
-            if size <= MAX_BLOCK {
-                return rows * size <= room;
-            }
-        }
-    }
-    false
+    rows <= MAX_ROWS && 1 <= size && size <= MAX_BLOCK && rows * size <= room
 }
 
 // The correction from the residual, block after block. Refused: 25 for the residual, 25 for the correction, 26.
@@ -32,18 +25,18 @@ pub fn block_apply(
     factors: &[f64],
     residual: &[f64],
     correction: &mut [f64],
-) -> Answer
+) -> Result<(), Refusal>
     ensures value { result ≡ answer_of (block_apply_call rows block_size factors.now residual.now (length correction.old)) }
     ensures correction_after { correction.new ≡ block_apply_left rows block_size factors.now residual.now correction.old }
 {
     if residual.len() != rows {
-        return Answer::Refused(Refusal::WrongLength {
+        return Err(Refusal::WrongLength {
             expected: rows as u64,
             actual: residual.len() as u64,
         });
     }
     if correction.len() != rows {
-        return Answer::Refused(Refusal::WrongLength {
+        return Err(Refusal::WrongLength {
             expected: rows as u64,
             actual: correction.len() as u64,
         });
@@ -51,7 +44,7 @@ pub fn block_apply(
     let known = fits(rows, block_size, factors.len());
     if known {
         blocks::solve_blocks(rows, block_size, factors, residual, correction);
-        return Answer::Accepted;
+        return Ok(());
     }
-    Answer::Refused(Refusal::SetupMisfit)
+    Err(Refusal::SetupMisfit)
 }

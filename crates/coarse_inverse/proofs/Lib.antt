@@ -1,4 +1,4 @@
-pub mod Rows
-pub mod Sides
 pub mod Zeros
 pub mod Starting
+pub mod Rows
+pub mod Sides

@@ -8,7 +8,7 @@ use native.Mathlib.Numerals.{add-one}
 use native.Mathlib.Decide.{ℕ_discrete}
 use lib.Dec.{eqb}
 use lib.ListN.{length, get_or, set, take, drop, replicate, length-set, length-replicate, get_or-replicate, length-append, length-drop}
-use lib.Seq.{get_or-set_same, get_or-set_other, take_at, drop_at, drop-drop, length-take-le}
+use lib.Seq.{get_or-set_same, get_or-set_other, take_at, drop_at, drop-drop}
 use lib.Ieee.{Float, nan}
 use borrow.Author.Tests.{eq-eqb, ne_eqb}
 use Rattle.definitions.specs.Lists.{tab, up_to, padded}
@@ -32,9 +32,9 @@ unit_of c i h = tab_is nan (set (replicate c zeroᶠ) i oneᶠ) (λ j. cond (eqb
     step j q (no d) = rw (ne_eqb j i d) (get_or-set_other (replicate c zeroᶠ) i j oneᶠ nan d ∙ get_or-replicate c j zeroᶠ nan q)
 
 module _ (c : ℕ) (l : List Float) where
-  pub solved_none : (w : List Float) → w ≡ solved_rows c l 0 ++ drop (0 * c) w
+  pub solved_none : (w : List Float) (k : ℕ) → k ≡ 0 → w ≡ solved_rows c l k ++ drop (k * c) w
   unfolding solved_rows up_to tab flat_map
-  solved_none w = let z : 0 * c ≡ 0 = omega arith in rw z
+  solved_none w k e = let z : 0 * c ≡ 0 = omega arith in rw (e, z)
 
   pub solved_snoc : (i : ℕ) → solved_rows c l (suc i) ≡ solved_rows c l i ++ packed_solve c l (unit c i)
   unfolding solved_rows up_to
@@ -54,10 +54,6 @@ module _ (c : ℕ) (l : List Float) where
       let d : drop (i * c) u ≡ drop (i * c) w = rw eu (drop_at (solved_rows c l i) (drop (i * c) w) (i * c) (length_solved i)) in
       let s : (i + 1) * c ≡ i * c + c = omega arith in
       rw (k, ef, t, d, drop-drop c (i * c) w, er, s, add-one, solved_snoc i) (sym (append_assoc (solved_rows c l i) (packed_solve c l (unit c i)) (drop (i * c + c) w)))
-
--- c elements lent from a place on
-pub row_length : (u : List Float) (from c : ℕ) → from + c ≤ length u → length (take (from + c - from) (drop from u)) ≡ c
-row_length u from c h = let k : from + c - from ≡ c = omega arith in rw k (length-take-le c (drop from u) (rw (length-drop from u) (omega arith)))
 
 -- all rows, averaged, and zeros after them
 pub invert_law : (c : ℕ) (l w u v : List Float) → c ≤ max_coarse → c * c ≤ length w → u ≡ solved_rows c l c ++ drop (c * c) w → v ≡ result_left zeroᶠ (average_call c u) u → v ≡ padded zeroᶠ (length w) (inverse_of c l)

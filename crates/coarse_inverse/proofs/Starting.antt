@@ -74,14 +74,14 @@ flag_of : (t : Bool) → Flag (cond t oneᶠ zeroᶠ)
 flag_of true = inr refl
 flag_of false = inl refl
 
-pub units_start : (m c i n : ℕ) (l w : List Float) (first : ℕ) → i ≤ c → length l ≡ packed_length c → first ≤ i → (0 < first → Regular c l) → Units m c i n w → LanesStart m c l first w
+pub units_start : (m c i n : ℕ) (l : List Float) (w : List (List Float)) (first : ℕ) → i ≤ c → length l ≡ packed_length c → first ≤ i → (0 < first → Regular c l) → Units m c i n w → LanesStart m c l first w
 unfolding unit
 units_start m c i n l w first hi long h ok u r q = step (dec_lt r n)
   where
     at : (j k : ℕ) → k < c → get_or (unit c j) k nan ≡ cond (eqb k j) oneᶠ zeroᶠ
     at j k p = get_d_tab (λ k. cond (eqb k j) oneᶠ zeroᶠ) c k nan p
 
-    step : Dec (r < n) → Starts l c first (lane m c w r)
+    step : Dec (r < n) → Starts l c first (lane w r)
     step (yes p) =
         rw (u.made r p) (starts l c first (unit c (i + r)) (length_tab (λ k. cond (eqb k (i + r)) oneᶠ zeroᶠ) c) (omega arith) long ok
         (λ k b. at (i + r) k (omega arith) ∙ rw (ne_eqb k (i + r) (λ e. omega arith))) (λ k b. rw (at (i + r) k b) (flag_of (eqb k (i + r)))))

@@ -7,87 +7,52 @@ ghost use Rattle.definitions.specs.Setup.{max_coarse};
 ghost use Rattle.coarse_inverse.specs.Lanes.{lane, Regular};
 ghost use Rattle.coarse_inverse.specs.Rows.{solved_rows};
 
-use crate::lanes::solve_units;
+use crate::packed::Packed;
 use averaging::average;
+use definitions::MAX_COARSE;
 use numbers::finite;
 
-// How many of the rows that are left are solved side by side.
-fn lanes_of(left: usize) -> usize
-    ensures { (result ≤ 16) × (result ≤ left) × (0 < left → 0 < result) }
+// Lane r, as a row.
+fn copy_lane(w: &[[f64; 16]], r: usize, row: &mut [f64])
+    requires { (r < 16) × (length row.old ≡ length w.now) }
+    ensures { row.new ≡ lane w.now r }
 {
-    if left < 16 {
-        return left;
+    for (k, x) in row.iter_mut().enumerate() {
+        *x = w[k][r];
     }
-    16
 }
 
-// Whether all numbers of the factor are finite and its diagonal is above zero.
-fn regular(l: &[f64], c: usize) -> bool
-    requires { (length l.now ≡ packed_length c) × (c ≤ max_coarse) }
-    ensures { result ≡ true → Regular c l.now }
-{
-    let mut k = 0;
-    while k < l.len() {
-        if finite(l[k]) {
-            k += 1;
-        } else {
-            return false;
+impl Packed<'_> {
+    // Whether all numbers are finite and the diagonal is above zero.
+    fn is_regular(&self) -> bool
+        ensures { result ≡ true → Regular self.now.n self.now.l.now }
+    {
+        for x in self.l {
+            if !finite(*x) {
+                return false;
+            }
         }
-    }
-    let mut start = 0;
-    let mut i = 0;
-    while i < c {
-        if 0.0 < l[start + i] {
-            start += i + 1;
-            i += 1;
-        } else {
-            return false;
+        for i in 0..self.n {
+            if !(0.0 < self.row(i)[i]) {
+                return false;
+            }
         }
+        true
     }
-    true
-}
 
-// The row where the forward solve of the unit vectors from i on begins: the numbers before i stay +0 in a regular factor's solve.
-fn first_row(regular: bool, i: usize) -> usize
-    ensures { (result ≤ i) × (0 < result → regular ≡ true) }
-{
-    if regular {
-        return i;
-    }
-    0
-}
-
-// Lane r of sixteen, as a row.
-fn copy_lane(w: &[f64], r: usize, row: &mut [f64])
-    requires { (r < 16) × (length row.old ≤ max_coarse) × (length row.old * 16 ≤ length w.now) }
-    ensures { row.new ≡ lane 16 (length row.old) w.now r }
-{
-    for k in 0..row.len() {
-        row[k] = w[k * 16 + r];
-    }
-}
-
-// The n rows from i on, where those before them are there; w is what the lanes are solved in.
-fn solve_rows(
-    c: usize,
-    lower: &[f64],
-    w: &mut [f64],
-    inverse: &mut [f64],
-    i: usize,
-    n: usize,
-    first: usize,
-)
-    requires n_bound { (n ≤ 16) × (i + n ≤ c) × (c ≤ max_coarse) × (length w.old ≡ c * 16) × (length lower.now ≡ packed_length c) × (c * c ≤ length inverse.old) }
-    requires first_le_i { (first ≤ i) × (0 < first → Regular c lower.now) }
-    ensures { let rows = solved_rows c lower.now in
-        (u : List Float) → inverse.old ≡ rows i ++ drop (i * c) u → inverse.new ≡ rows (i + n) ++ drop ((i + n) * c) u }
-{
-    solve_units(lower, w, c, i, n, first);
-    let mut from = i * c;
-    for r in 0..n {
-        let to = from + c;
-        copy_lane(w, r, &mut inverse[from..to]);
-        from = to;
+    // The n rows from i on, where those before them are there; w is what the lanes are solved in.
+    fn solve_rows(&self, w: &mut [[f64; 16]], inverse: &mut [f64], i: usize, n: usize, first: usize)
+        requires n_bound { (n ≤ 16) × (i + n ≤ self.now.n) × (length w.old ≡ self.now.n) × (self.now.n * self.now.n ≤ length inverse.old) }
+        requires first_le_i { (first ≤ i) × (0 < first → Regular self.now.n self.now.l.now) }
+        ensures { let c = self.now.n in
+            let rows = solved_rows c self.now.l.now in
+            (u : List Float) → inverse.old ≡ rows i ++ drop (i * c) u → inverse.new ≡ rows (i + n) ++ drop ((i + n) * c) u }
+    {
+        self.solve_units(w, i, n, first);
+        for r in 0..n {
+            let from = (i + r) * self.n;
+            copy_lane(w, r, &mut inverse[from..from + self.n]);
+        }
     }
 }
 
@@ -96,16 +61,13 @@ pub(crate) fn invert(c: usize, lower: &[f64], inverse: &mut [f64])
     requires { (length lower.now ≡ packed_length c) × (c * c ≤ length inverse.old) × (c ≤ max_coarse) }
     ensures { inverse.new ≡ padded zeroᶠ (length inverse.old) (inverse_of c lower.now) }
 {
-    let safe = regular(lower, c);
-    let mut w = [0.0; 32768];
-    let from = 0;
-    let to = c * 16;
-    let mut i = 0;
-    while i < c {
-        let n = lanes_of(c - i);
-        let first = first_row(safe, i);
-        solve_rows(c, lower, &mut w[from..to], inverse, i, n, first);
-        i += n;
+    let factor = Packed { l: lower, n: c };
+    let regular = factor.is_regular();
+    let mut w = [[0.0; 16]; MAX_COARSE];
+    for i in (0..c).step_by(16) {
+        // The numbers before i stay +0 in a regular factor's forward solve.
+        let first = if regular { i } else { 0 };
+        factor.solve_rows(&mut w[..c], inverse, i, (c - i).min(16), first);
     }
-    average(c, inverse);
+    let _ = average(c, inverse);
 }

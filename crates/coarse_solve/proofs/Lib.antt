@@ -1,4 +1,4 @@
+pub mod Sums
+pub mod Filling
 pub mod Solving
-pub mod RowSums
-pub mod Products
-pub mod RowByRow
+pub mod ByPolicy

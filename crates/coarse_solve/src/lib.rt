@@ -7,9 +7,10 @@ ghost use Rattle.definitions.specs.Refusal.{result_left};
 ghost use Rattle.definitions.specs.Answers.{answer_of};
 ghost use Rattle.coarse_solve.specs.Calls.{coarse_solve_call};
 
-use definitions::{Answer, MAX_COARSE, Refusal, TwoLevelCoarseApplyPolicy};
-use numbers::{long_enough, zero_floats};
+use definitions::{MAX_COARSE, Refusal, TwoLevelCoarseApplyPolicy};
 
+mod packed;
+mod rows;
 mod solve;
 mod stored;
 
@@ -19,21 +20,20 @@ pub fn coarse_solve(
     c: usize,
     part: &[f64],
     work: &mut [f64],
-) -> Answer
+) -> Result<(), Refusal>
     ensures { let o = coarse_solve_call policy c part.now work.old in
         (result ≡ answer_of o) × (work.new ≡ result_left zeroᶠ o work.old) }
 {
-    if c <= MAX_COARSE {
-        let count = stored::stored_length(policy, c);
-        if long_enough(count, part.len(), 2 * c, work.len()) {
-            let from = 0;
-            stored::solve_stored(policy, c, &part[from..count], work);
-            return Answer::Accepted;
-        }
-        zero_floats(work);
-        Answer::Refused(Refusal::CoarseListTooShort(c as u64))
-    } else {
-        zero_floats(work);
-        Answer::Refused(Refusal::CoarseTooLarge(c as u64))
+    if MAX_COARSE < c {
+        work.fill(0.0);
+        return Err(Refusal::CoarseTooLarge(c as u64));
     }
+    let count = stored::stored_length(policy, c);
+    let room = 2 * c;
+    if part.len() < count || work.len() < room {
+        work.fill(0.0);
+        return Err(Refusal::CoarseListTooShort(c as u64));
+    }
+    stored::solve_stored(policy, c, &part[..count], work);
+    Ok(())
 }

@@ -1,4 +1,5 @@
 -- The calls' own checks, one after the other, and what they leave.
+use Rattle.std.specs.Prelude.{Err, Ok}
 use Prim.Native.Nat.{ℕ, zero, suc, ◌+◌, ◌-◌, ◌*◌, ◌<◌, ◌≤◌}
 use mathlib.Core.Path.{◌≡◌, refl, ap, sym, ◌∙◌}
 use mathlib.Core.Bool.{true, false}
@@ -17,7 +18,6 @@ use Rattle.definitions.specs.Coarse.{coarse_length, coarse_solve, entry_in}
 use Rattle.definitions.specs.Fits.{setup_fits}
 use Rattle.definitions.specs.Apply.{applied, apply_call, apply_left, apply_work_left}
 use Rattle.definitions.specs.declared.Setup.{Setup}
-use Rattle.definitions.specs.declared.Answer.TheVariants.{Accepted, Refused}
 use Rattle.definitions.specs.declared.Refusal.{Refusal}
 use Rattle.definitions.specs.declared.Refusal.TheVariants.{ListTooShort, WrongLength, SetupMisfit}
 use Rattle.definitions.specs.declared.TwoLevelCoarseApplyPolicy.{TwoLevelCoarseApplyPolicy}
@@ -97,13 +97,13 @@ module _ (s : Setup) (ints : List ℕ) (floats r lent work : List Float) where
 
   -- a refusal that keeps all
   pub refused_call : (q : Refusal) → keeps_all q ≡ true → apply_call s ints floats r (length lent) (length work) ≡ refused q
-      → (Refused q ≡ answer_of (apply_call s ints floats r (length lent) (length work))) × (lent ≡ apply_left s ints floats r lent (length work)) × (work ≡ apply_work_left s ints floats r (length lent) work)
+      → (Err q ≡ answer_of (apply_call s ints floats r (length lent) (length work))) × (lent ≡ apply_left s ints floats r lent (length work)) × (work ≡ apply_work_left s ints floats r (length lent) work)
   unfolding answer_of apply_left apply_work_left result_left work_left
   refused_call q k e = (rw e, rw (e, result_left, k), rw (e, work_left, k))
 
   pub done_call : (z w : List Float) → apply_call s ints floats r (length lent) (length work) ≡ done (applied s ints floats r) → length lent ≡ s.rows
       → z ≡ applied s ints floats r → w ≡ replicate (length work) zeroᶠ
-      → (Accepted ≡ answer_of (apply_call s ints floats r (length lent) (length work))) × (z ≡ apply_left s ints floats r lent (length work)) × (w ≡ apply_work_left s ints floats r (length lent) work)
+      → ((Ok tt) ≡ answer_of (apply_call s ints floats r (length lent) (length work))) × (z ≡ apply_left s ints floats r lent (length work)) × (w ≡ apply_work_left s ints floats r (length lent) work)
   unfolding answer_of apply_left apply_work_left result_left work_left
   done_call z w e h p q = (rw e, rw (e, result_left) (p ∙ sym (padded_whole (applied s ints floats r) (length lent) (applied_length s ints floats r ∙ sym h))), rw (e, work_left) q)
 

@@ -1,4 +1,5 @@
 pub mod Restricting
+pub mod AddedParts
 pub mod Nodes
 pub mod Prolonging
 pub mod Parts

@@ -22,9 +22,6 @@ module _ {size n c : ℕ} {ids : List ℕ} (g : Grouped size ids n c) (first nod
   pub rows_passed : node ≡ length ids → first ≡ n
   rows_passed h = e ∙ rw h (sym g.rows)
 
-pub next_node : (size first node : ℕ) → first ≡ node * size → first + size ≡ (node + 1) * size
-next_node size first node e = omega arith
-
 module _ (size : ℕ) (ids : List ℕ) (first node w : ℕ) (e : first ≡ node * size) (q : w ≡ get_or ids node 0) where
   columns_are : (j : ℕ) → j < size → w * size + j ≡ coarse_column size ids (first + j)
   columns_are j h = rw (e, q) (sym (column_at size ids node j h))

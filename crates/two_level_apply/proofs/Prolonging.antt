@@ -1,20 +1,21 @@
 -- Prolongation: each row gains one number, so that the rows done are filled in and the others are as they were.
-use Prim.Native.Nat.{ℕ, zero, suc, ◌+◌, ◌<◌, ◌≤◌}
+use Prim.Native.Nat.{ℕ, zero, suc, ◌+◌, ◌-◌, ◌<◌, ◌≤◌}
 use mathlib.Core.Path.{◌≡◌, refl, ap, ◌∙◌}
 use mathlib.Core.List.{List, ◌++◌, foldl, zip_with}
 use native.Mathlib.Omega.{arith}
 use native.Mathlib.Numerals.{add-one}
-use lib.ListN.{length, get_or, drop}
-use lib.Seq.{slice-cons, slice_empty}
+use lib.ListN.{length, get_or, take, drop, drop_of_length-le}
+use lib.Seq.{drop-cons}
 use lib.Ieee.{Float, nan}
 use Rattle.definitions.specs.Lists.{tab}
 use Rattle.definitions.specs.Numbers.{◌+ᶠ◌, ◌*ᶠ◌, summed}
-use Rattle.definitions.specs.Matrix.{row_of, stored}
+use Rattle.definitions.specs.Matrix.{row_of}
 use Rattle.definitions.specs.Apply.{prolongation_terms}
 use Rattle.laws.proofs.Growing.{tab_none, tab_more, tab_all, tab_unread}
 use Rattle.laws.specs.Scatter.{put, bump, scatter, scattered, single}
-use Rattle.two_level_apply.specs.Scatter.{gain_puts}
+use Rattle.two_level_apply.specs.Scatter.{gain_puts, entries}
 use Rattle.laws.proofs.Scattering.{single_step}
+use Rattle.two_level_apply.proofs.Restricting.{part_is}
 
 module _ (x : ℕ → Float) (z : List Float) where
   abbrev gains : ℕ → Float
@@ -31,23 +32,23 @@ module _ (x : ℕ → Float) (z : List Float) where
   pub gained_all : (n : ℕ) (l : List Float) → n ≡ length z → l ≡ scattered (single (λ i. i) x) n z → l ≡ tab (λ i. get_or z i nan +ᶠ x i) (length z)
   gained_all n l h e = tab_all gains n l z h (e ∙ gained_by_lem n (omega arith))
 
-module _ (idx : List ℕ) (vals sol : List Float) (to : ℕ) where
+module _ (idx : List ℕ) (vals sol : List Float) where
   -- the sum so far, and what the weights from k on add to it
   abbrev pub sum_left : ℕ → Float → Float
-  sum_left k s = foldl (λ a v. a +ᶠ v) s (prolongation_terms (stored idx vals k to) sol)
+  sum_left k s = foldl (λ a v. a +ᶠ v) s (prolongation_terms (entries (drop k idx) (drop k vals)) sol)
 
-  pub sum_step : (k at : ℕ) (s t : Float) → k < to → to ≤ length idx → to ≤ length vals → at ≡ get_or idx k 0 → sum_left k s ≡ t
-      → sum_left (k + 1) (s +ᶠ get_or vals k nan *ᶠ get_or sol at nan) ≡ t
+  pub sum_step : (k n : ℕ) (c : ℕ) (v s t : Float) → n ≡ k + 1 → k < length idx → k < length vals → c ≡ get_or idx k 0 → v ≡ get_or vals k nan → sum_left k s ≡ t
+      → sum_left n (s +ᶠ v *ᶠ get_or sol c nan) ≡ t
   unfolding prolongation_terms zip_with
-  sum_step k at s t h p q ea inv = rw (ea, add-one) (rw (slice-cons k to idx 0 h p, slice-cons k to vals nan h q) at inv)
+  sum_step k n c v s t en p q ec ev inv = rw (en, ec, ev, add-one) (rw (drop-cons idx k 0 p, drop-cons vals k nan q) at inv)
 
-  pub sum_done : (s t : Float) → sum_left to s ≡ t → s ≡ t
+  pub sum_done : (k : ℕ) (s t : Float) → length idx ≤ k → sum_left k s ≡ t → s ≡ t
   unfolding prolongation_terms zip_with
-  sum_done s t e = rw (slice_empty to idx) at e
+  sum_done k s t h e = rw (drop_of_length-le idx h) at e
 
 pub row_gain : (ptr idx : List ℕ) (vals sol l₀ l m : List Float) (i from to : ℕ) (v : Float)
     → l ≡ scattered (gain_puts (row_of ptr idx vals) sol) i l₀ → from ≡ get_or ptr i 0 → to ≡ get_or ptr (i + 1) 0
-    → v ≡ summed (prolongation_terms (stored idx vals from to) sol) → m ≡ bump l (put i v) → m ≡ scattered (gain_puts (row_of ptr idx vals) sol) (i + 1) l₀
+    → v ≡ summed (prolongation_terms (entries (take (to - from) (drop from idx)) (take (to - from) (drop from vals))) sol) → m ≡ bump l (put i v) → m ≡ scattered (gain_puts (row_of ptr idx vals) sol) (i + 1) l₀
 unfolding row_of
 row_gain ptr idx vals sol l₀ l m i from to v e ef et ev em =
-    single_step (λ k. k) (λ k. summed (prolongation_terms (row_of ptr idx vals k) sol)) l₀ l m i i v e refl (rw (ev, ef, et, add-one)) em
+    single_step (λ k. k) (λ k. summed (prolongation_terms (row_of ptr idx vals k) sol)) l₀ l m i i v e refl (rw (ev, part_is idx vals from to, ef, et, add-one)) em

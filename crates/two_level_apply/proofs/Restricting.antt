@@ -1,14 +1,14 @@
 -- Restriction: the numbers that the loops put at a coarse column are those that its definition lists.
-use Prim.Native.Nat.{ℕ, zero, suc, ◌+◌, ◌*◌, ◌<◌, ◌≤◌}
+use Prim.Native.Nat.{ℕ, zero, suc, ◌+◌, ◌-◌, ◌*◌, ◌<◌, ◌≤◌}
 use mathlib.Core.Path.{◌≡◌, refl, ap, ◌∙◌}
 use mathlib.Core.Bool.{Bool, true, false}
 use mathlib.Core.List.{List, [], ◌∷◌, map, flat_map, zip_with}
-use native.Mathlib.Omega.{arith}
 use native.Mathlib.Numerals.{add-one}
 use lib.Dec.{eqb}
 use lib.Arith.{digits_div, digits_mod}
-use lib.ListN.{length, get_or, replicate}
-use lib.Seq.{slice-cons, slice_empty}
+use lib.ListN.{length, get_or, replicate, take, drop, drop_of_length-le}
+use lib.Seq.{drop-cons}
+use Rattle.std.proofs.lemmas.Slice.{between_is}
 use lib.Ieee.{Float, nan}
 use Rattle.definitions.specs.Lists.{tab, up_to, keep}
 use Rattle.definitions.specs.Numbers.{◌*ᶠ◌, zeroᶠ, total}
@@ -18,10 +18,16 @@ use Rattle.definitions.specs.Apply.{constant_restriction_terms, smoothed_restric
 use Rattle.laws.proofs.Lists.{each_any, flat_map_cong}
 use Rattle.laws.proofs.Kept.{flat_map_keep, flat_map_one}
 use Rattle.csr32.proofs.Stored.{where_hit, where_miss, where_none}
-use Rattle.laws.specs.Bounds.{Compressed}
 use Rattle.laws.specs.Scatter.{put, bump, scatter, scattered}
-use Rattle.two_level_apply.specs.Scatter.{restrict_puts, scaled, scaled_puts}
+use Rattle.two_level_apply.specs.Scatter.{restrict_puts, scaled, scaled_puts, entries}
 use Rattle.laws.proofs.Scattering.{puts_at, scatter_law, rows_step}
+
+-- a part of columns and weights
+pub part_is : (idx : List ℕ) (vals : List Float) (from to : ℕ) → entries (take (to - from) (drop from idx)) (take (to - from) (drop from vals)) ≡ stored idx vals from to
+part_is idx vals from to =
+    let p : take (to - from) (drop from idx) ≡ drop from (take to idx) = between_is idx from to in
+    let q : take (to - from) (drop from vals) ≡ drop from (take to vals) = between_is vals from to in
+    rw (p, q)
 
 -- the coarse column of a node's row
 pub column_at : (size : ℕ) (ids : List ℕ) (node k : ℕ) → k < size → coarse_column size ids (node * size + k) ≡ get_or ids node 0 * size + k
@@ -71,27 +77,22 @@ pub smoothed_law : (transfer : ℕ → List Entry) (r z l : List Float) (c : ℕ
     → l ≡ tab (λ j. total (smoothed_restriction_terms transfer r j)) c
 smoothed_law transfer r z l c p q = rw (q, p, zeros_tab c) (scatter_law (scaled_puts transfer r) (length r) c (smoothed_restriction_terms transfer r) (smoothed_parts transfer r))
 
-module _ (idx : List ℕ) (vals : List Float) (x : Float) (to : ℕ) where
+module _ (idx : List ℕ) (vals : List Float) (x : Float) where
   -- what the weights from k on put
   abbrev pub weights_left : ℕ → List Float → List Float
-  weights_left k l = scatter (scaled x (stored idx vals k to)) l
+  weights_left k l = scatter (scaled x (entries (drop k idx) (drop k vals))) l
 
-  pub weight_step : (from k at : ℕ) (l₀ l m : List Float) → k < to → to ≤ length idx → to ≤ length vals
-      → weights_left k l ≡ weights_left from l₀ → at ≡ get_or idx k 0 → m ≡ bump l (put at (get_or vals k nan *ᶠ x)) → weights_left (k + 1) m ≡ weights_left from l₀
+  pub weight_step : (k n c : ℕ) (v : Float) (l m t : List Float) → n ≡ k + 1 → k < length idx → k < length vals → c ≡ get_or idx k 0 → v ≡ get_or vals k nan
+      → weights_left k l ≡ t → m ≡ bump l (put c (v *ᶠ x)) → weights_left n m ≡ t
   unfolding scatter zip_with
-  weight_step from k at l₀ l m h p q inv ea em = rw (em, ea, add-one) (rw (slice-cons k to idx 0 h p, slice-cons k to vals nan h q) at inv)
+  weight_step k n c v l m t en p q ec ev inv em = rw (en, em, ec, ev, add-one) (rw (drop-cons idx k 0 p, drop-cons vals k nan q) at inv)
 
-  pub weights_done : (l : List Float) → weights_left to l ≡ l
+  pub weights_done : (k : ℕ) (l t : List Float) → length idx ≤ k → weights_left k l ≡ t → l ≡ t
   unfolding scatter zip_with
-  weights_done l = rw (slice_empty to idx)
+  weights_done k l t h e = rw (drop_of_length-le idx h) at e
 
 pub transfer_step : (r : List Float) (ptr idx : List ℕ) (vals : List Float) (i from to : ℕ) (l₀ l m : List Float)
     → l ≡ scattered (scaled_puts (row_of ptr idx vals) r) i l₀ → from ≡ get_or ptr i 0 → to ≡ get_or ptr (i + 1) 0
-    → m ≡ weights_left idx vals (get_or r i nan) to from l → m ≡ scattered (scaled_puts (row_of ptr idx vals) r) (i + 1) l₀
+    → m ≡ scatter (scaled (get_or r i nan) (entries (take (to - from) (drop from idx)) (take (to - from) (drop from vals)))) l → m ≡ scattered (scaled_puts (row_of ptr idx vals) r) (i + 1) l₀
 unfolding row_of
-transfer_step r ptr idx vals i from to l₀ l m e ef et em = rows_step (scaled_puts (row_of ptr idx vals) r) l₀ l m i e (rw (em, ef, et, add-one))
-
-pub row_span : {n w m : ℕ} {ptr idx : List ℕ} (i from to : ℕ) → Compressed n w ptr idx m → i < n → from ≡ get_or ptr i 0 → to ≡ get_or ptr (i + 1) 0 → (from ≤ to) × (to ≤ m)
-row_span i from to h l ef et =
-    let e = rw add-one at et in
-    (omega (arith, h.rises i l, e), omega (arith, h.ends (suc i) (omega arith), e))
+transfer_step r ptr idx vals i from to l₀ l m e ef et em = rows_step (scaled_puts (row_of ptr idx vals) r) l₀ l m i e (rw (em, part_is idx vals from to, ef, et, add-one))

@@ -1,5 +1,6 @@
 -- What restriction and prolongation add, row by row, and what they ask of a setup's lists.
 use Rattle.std.specs.Prelude.{ℕ, ◌+◌, ◌*◌, ◌<◌, ◌≤◌, ◌≡◌, true, List, map, length, get_or, Float}
+use mathlib.Core.List.{zip_with}
 use Rattle.std.specs.Float.{nan}
 use Rattle.definitions.specs.Lists.{tab}
 use Rattle.definitions.specs.Numbers.{◌+ᶠ◌, ◌*ᶠ◌, summed}
@@ -14,6 +15,10 @@ use Rattle.laws.specs.Scatter.{put, single}
 -- the numbers of one list from a on, added to those of another from b on
 abbrev pub part_puts : List Float → ℕ → ℕ → ℕ → List Entry
 part_puts from a b = single (λ k. b + k) (λ k. get_or from (a + k) nan)
+
+-- columns and weights side by side
+abbrev pub entries : List ℕ → List Float → List Entry
+entries idx vals = zip_with put idx vals
 
 -- restriction where each row has one coarse column: r(i) at that column
 abbrev pub restrict_puts : (ℕ → ℕ) → List Float → ℕ → List Entry

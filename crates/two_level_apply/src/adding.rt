@@ -1,23 +1,15 @@
 // Adding into a list.
-ghost use Rattle.std.specs.Prelude.{◌≡◌, ◌+◌, ◌<◌, ◌≤◌, length};
-ghost use Rattle.laws.specs.Scatter.{put, bump, scattered};
-ghost use Rattle.two_level_apply.specs.Scatter.{part_puts};
+ghost use Rattle.std.specs.Prelude.{◌≡◌, length, get_or};
+ghost use Rattle.std.specs.Float.{nan};
+ghost use Rattle.definitions.specs.Lists.{tab};
+ghost use Rattle.definitions.specs.Numbers.{◌+ᶠ◌};
 
-pub(crate) fn add_at(l: &mut [f64], at: usize, x: f64)
-    requires { at < length l.old }
-    ensures { l.new ≡ bump l.old (put at x) }
+// Adds the numbers of one list to those of another.
+pub(crate) fn add_list(from: &[f64], to: &mut [f64])
+    requires { length from.now ≡ length to.old }
+    ensures { to.new ≡ tab (λ k. get_or to.old k nan +ᶠ get_or from.now k nan) (length to.old) }
 {
-    l[at] += x;
-}
-
-// Adds n numbers of one list, from a on, to those of another, from b on.
-pub(crate) fn add_part(from: &[f64], a: usize, to: &mut [f64], b: usize, n: usize)
-    requires { (a + n ≤ length from.now) × (b + n ≤ length to.old) }
-    ensures { to.new ≡ scattered (part_puts from.now a b) n to.old }
-{
-    let mut k = 0;
-    while k < n {
-        add_at(to, b + k, from[a + k]);
-        k += 1;
+    for (k, x) in to.iter_mut().enumerate() {
+        *x += from[k];
     }
 }

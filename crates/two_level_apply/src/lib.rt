@@ -11,8 +11,7 @@ ghost use Rattle.definitions.specs.Places.{factors_in, coarse_in};
 ghost use Rattle.definitions.specs.Apply.{applied, apply_call, apply_left, apply_work_left};
 ghost use Rattle.two_level_apply.specs.Scatter.{Laid};
 
-use definitions::{Answer, Places, Refusal, Setup};
-use setup_record::Fitting;
+use definitions::{Places, Refusal, Setup};
 
 mod adding;
 mod prolongation;
@@ -24,9 +23,7 @@ fn solve_coarse(s: Setup, p: Places, ints: &[u32], floats: &[f64], work: &mut [f
     ensures { let w = work.old in
         work.new ≡ padded zeroᶠ (length w) (coarse_solve s.policy s.coarse (coarse_in s floats.now) (take s.coarse w)) }
 {
-    let policy = s.policy;
-    let a = p.coarse;
-    coarse_solve::coarse_solve(policy, s.coarse as usize, &floats[a..], work);
+    let _ = coarse_solve::coarse_solve(s.policy, s.coarse as usize, &floats[p.coarse..], work);
 }
 
 // The solves with the blocks.
@@ -34,8 +31,13 @@ fn solve_blocks(s: Setup, p: Places, ints: &[u32], floats: &[f64], r: &[f64], z:
     requires { Laid s p ints.now floats.now × (length r.now ≡ s.rows) × (length z.old ≡ s.rows) }
     ensures { z.new ≡ block_applied s.rows s.block (factors_in s floats.now) r.now }
 {
-    let n = p.weights;
-    block_apply::block_apply(s.rows as usize, s.block as usize, &floats[..n], r, z);
+    let _ = block_apply::block_apply(
+        s.rows as usize,
+        s.block as usize,
+        &floats[..p.weights],
+        r,
+        z,
+    );
 }
 
 // The correction, of lists that fit; work is cleared.
@@ -56,7 +58,7 @@ fn correct(
     solve_coarse(s, p, ints, floats, work);
     let c = s.coarse as usize;
     prolongation::prolong(s, p, ints, floats, &work[..c], z);
-    numbers::zero_floats(&mut work[..c]);
+    work[..c].fill(0.0);
 }
 
 // Two-level apply: 25 for the residual, 25 for the correction, 26, 13.
@@ -67,7 +69,7 @@ pub fn apply(
     residual: &[f64],
     correction: &mut [f64],
     work: &mut [f64],
-) -> Answer
+) -> Result<(), Refusal>
     ensures { let i = ints.now in
         let f = floats.now in
         let x = residual.now in
@@ -84,24 +86,24 @@ pub fn apply(
         if room == rows {
             let fitting = setup_record::setup_fits(setup, ints, floats);
             match fitting {
-                Fitting::Misfit => {
-                    return Answer::Refused(Refusal::SetupMisfit);
+                None => {
+                    return Err(Refusal::SetupMisfit);
                 }
-                Fitting::Fits(places) => {
+                Some(places) => {
                     if 2 * setup.coarse <= work.len() as u64 {
                         correct(setup, places, ints, floats, residual, correction, work);
-                        return Answer::Accepted;
+                        return Ok(());
                     }
-                    return Answer::Refused(Refusal::ListTooShort);
+                    return Err(Refusal::ListTooShort);
                 }
             }
         }
-        return Answer::Refused(Refusal::WrongLength {
+        return Err(Refusal::WrongLength {
             expected: rows,
             actual: room,
         });
     }
-    Answer::Refused(Refusal::WrongLength {
+    Err(Refusal::WrongLength {
         expected: rows,
         actual: given,
     })

@@ -1,0 +1,24 @@
+-- The pair that the loop is at holds the column and the weight at the index that it has come to.
+use Rattle.std.proofs.Common.{length, refl, arith, length-append}
+use Rattle.std.proofs.lemmas.Slice.Zip.{zip_turn, zip_end}
+use borrow.Author.Rules.{rules}
+use lib.Ieee.{nan}
+use Rattle.two_level_apply.proofs.Restricting.{weight_step, weights_done}
+use Rattle.two_level_apply.proofs.restriction.add_weights.Goals as goal
+
+pub loop-col-init : goal.loop-col-init
+loop-col-init c = refl
+
+pub loop-col-preserved : goal.loop-col-preserved
+loop-col-preserved c =
+    let a = c.args in
+    let o = c.loop-col in
+    let t = zip_turn a.idx.now a.vals.now o.yielded _ o.col-iterator c.next.new.self c.next.result (search rules) (search rules) o.yielded_by (c.in-Some.col, c.in-Some.weight) c.in-Some.is c.next.ensures.steps in
+    weight_step a.idx.now a.vals.now a.x (length o.yielded) _ c.in-Some.col.now c.in-Some.weight.now o.rhs _ _ (length-append o.yielded _) t.0 t.1 (t.2 0) (t.3 nan) o.invariant refl
+
+pub returns : goal.returns
+returns c =
+    let a = c.args in
+    let o = c.loop-col in
+    let t = zip_end a.idx.now a.vals.now o.yielded _ o.col-iterator c.next.new.self c.next.result (search rules) (search rules) o.yielded_by c.in-None.is c.next.ensures.steps in
+    weights_done a.idx.now a.vals.now a.x (length o.yielded) o.rhs _ (omega (arith, t, c.requires.0)) o.invariant
