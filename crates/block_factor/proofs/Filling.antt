@@ -1,4 +1,5 @@
 -- Blocks one by one, and two at a time: what is left to do gives, from the factors so far, what the whole gives.
+use Rattle.std.specs.Prelude.{Err, Ok, Result}
 use Prim.Native.Nat.{ℕ, zero, suc, ◌+◌, ◌-◌, ◌*◌, ◌<◌, ◌≤◌}
 use mathlib.Core.Path.{◌≡◌, refl, ap, sym, ◌∙◌}
 use mathlib.Core.Bool.{Bool, true, false}
@@ -18,8 +19,6 @@ use Rattle.definitions.specs.Block.{in_block, top_of, skewed, block_of, block_fa
 use Rattle.definitions.specs.Answers.{answer_of}
 use Rattle.definitions.specs.declared.Refusal.{Refusal}
 use Rattle.definitions.specs.declared.Refusal.TheVariants.{BlockNotSymmetric}
-use Rattle.definitions.specs.declared.Answer.{Answer}
-use Rattle.definitions.specs.declared.Answer.TheVariants.{Accepted, Refused}
 use Rattle.csr32.specs.Calls.{refused_is, goes_on, stops}
 use Rattle.block_factor.specs.Factored.{pivot_row}
 use Rattle.block_factor.specs.Held.{held, PairIn}
@@ -56,7 +55,7 @@ block_clears m first w r e = step (skewed (block_of m first w) w (symmetry_tol *
     step false p = from_clears (in_block w) (λ i j. get_or (block_of m first w) (in_block w i j) nan) (pivot_row first) (λ i. refl) (pivot_tol *ᶠ top_of (block_of m first w)) w 0 (replicate (w * w) zeroᶠ) r (rw (p, block_factor) at e)
 
 -- the outcome of a block, from its answer
-is_accepted : (o : Outcome (List Float)) (place : List Float) → answer_of o ≡ Accepted → o ≡ done (held o place)
+is_accepted : (o : Outcome (List Float)) (place : List Float) → answer_of o ≡ (Ok tt) → o ≡ done (held o place)
 unfolding answer_of held
 is_accepted (done l) place e = refl
 is_accepted (refused r) place e = cc
@@ -96,13 +95,13 @@ module _ (m : Matrix) (size : ℕ) where
 
   module _ (k used end w : ℕ) (h : k < block_count m.rows size) (ew : w ≡ width_of m.rows size k) (ee : end ≡ used + w * w) (d p : List Float) (fits : end ≤ length d)
       (lp : length p ≡ length (take (end - used) (drop used d))) (ep : p ≡ held (block_factor m (k * size) w) (take (end - used) (drop used d)))
-      (inv : factors_from m size (block_count m.rows size - k) k (take used d) ≡ factors_of m size) (x : Answer) (ex : x ≡ answer_of (block_factor m (k * size) w)) where
-    pub blocks_more : x ≡ Accepted → factors_from m size (block_count m.rows size - (k + 1)) (k + 1) (take end (put_mid used (end - used) d p)) ≡ factors_of m size
+      (inv : factors_from m size (block_count m.rows size - k) k (take used d) ≡ factors_of m size) (x : (Result (Unit {0}) Refusal)) (ex : x ≡ answer_of (block_factor m (k * size) w)) where
+    pub blocks_more : x ≡ (Ok tt) → factors_from m size (block_count m.rows size - (k + 1)) (k + 1) (take end (put_mid used (end - used) d p)) ≡ factors_of m size
     blocks_more e =
         let o : block_factor m (k * size) w ≡ done p = is_accepted (block_factor m (k * size) w) (take (end - used) (drop used d)) (sym ex ∙ e) ∙ ap done (sym ep) in
         rw (add-one k, front used end d p (omega arith) fits lp) (one_more k w h ew (take used d) inv p o)
 
-    pub blocks_stop : (r : Refusal) → x ≡ Refused r → (factors_of m size ≡ refused r) × (keeps_all r ≡ false)
+    pub blocks_stop : (r : Refusal) → x ≡ Err r → (factors_of m size ≡ refused r) × (keeps_all r ≡ false)
     blocks_stop r e =
         let o : block_factor m (k * size) w ≡ refused r = refused_is (block_factor m (k * size) w) r (sym ex ∙ e) in
         (sym (opened k w h ew (take used d) inv) ∙ stops (block_factor m (k * size) w) r _ o, block_clears m (k * size) w r o)

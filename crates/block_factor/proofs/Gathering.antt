@@ -14,15 +14,18 @@ use borrow.Author.Tests.{eqb-true, eqb-false, eq-eqb, ne_eqb}
 use borrow.Rule.Slice.PartMut.{put_mid}
 use Rattle.definitions.specs.Lists.{tab, up_to, square}
 use Rattle.definitions.specs.Numbers.{◌+ᶠ◌, zeroᶠ, total}
-use Rattle.definitions.specs.Matrix.{Matrix, row_of, entries_of, stored_at}
+use Rattle.definitions.specs.Matrix.{Matrix, row_of, entries_of, stored, stored_at, values_where}
 use Rattle.definitions.specs.Block.{block_entry, block_of}
 use Rattle.csr32.proofs.Stored.{numbers_none, numbers_hit, numbers_miss}
 use Rattle.laws.proofs.Lists.{tab_is, length_tab, get_d_tab}
 use Rattle.laws.proofs.Growing.{flat_map_snoc, up_to_snoc}
 use Rattle.block_factor.specs.Dense.{blank, dense}
-use Rattle.block_factor.specs.Gathered.{sum_at}
 
 -- ---- one row
+
+-- the sum of what the entries from one position up to another store at column first + j
+unfoldable pub sum_at : List ℕ → List Float → ℕ → ℕ → ℕ → ℕ → Float
+sum_at idx vals from to first j = total (values_where (λ c. eqb c (first + j)) (stored idx vals from to))
 
 module _ (idx : List ℕ) (vals : List Float) (from first : ℕ) where
   none_sum : (j : ℕ) → sum_at idx vals from from first j ≡ zeroᶠ
@@ -65,10 +68,6 @@ module _ (idx : List ℕ) (vals : List Float) (from first : ℕ) where
           at j h false q =
               let z : j ≡ p → ⊥ = eqb-false j p q in
               get_or-set_other row p j (get_or row p nan +ᶠ get_or vals k nan) nan z ∙ row_at j h ∙ sym (miss_sum j (λ m. z (omega arith)))
-
--- the loop's facts one entry on
-pub entry_passed : (f : ℕ → Float) (n from k to : ℕ) (row : List Float) → from ≤ k → k < to → row ≡ tab f n → (from ≤ k + 1) × (k + 1 ≤ to) × (length row ≡ n) × (row ≡ tab f n)
-entry_passed f n from k to row a b e = (omega arith, omega arith, ap length e ∙ length_tab f n, e)
 
 -- ---- the block
 

@@ -1,4 +1,5 @@
 -- A block's factor in its place, from what gathering and factoring answer.
+use Rattle.std.specs.Prelude.{Err, Ok}
 use Prim.Native.Nat.{ℕ, zero, suc, ◌+◌, ◌-◌, ◌*◌, ◌≤◌}
 use mathlib.Core.Path.{◌≡◌, refl, ap, sym, ◌∙◌}
 use mathlib.Core.Bool.{Bool, true, false}
@@ -12,17 +13,15 @@ use borrow.Rule.Slice.PartMut.{put_mid}
 use Rattle.numbers.specs.Copied.{copied}
 use Rattle.laws.proofs.BlockFactors.{block_placing}
 use Rattle.definitions.specs.Numbers.{◌*ᶠ◌, rootᶠ, above, zeroᶠ, symmetry_tol, pivot_tol}
-use Rattle.definitions.specs.Refusal.{Outcome, refused, done, ◌>>=◌}
+use Rattle.definitions.specs.Refusal.{refused, done, ◌>>=◌}
 use Rattle.definitions.specs.Matrix.{Matrix}
 use Rattle.definitions.specs.Factor.{rest, below_diagonal, factor_rows}
 use Rattle.definitions.specs.Block.{in_block, top_of, skewed, block_of, block_factor}
 use Rattle.definitions.specs.Answers.{answer_of}
 use Rattle.definitions.specs.declared.Refusal.{Refusal}
-use Rattle.definitions.specs.declared.Answer.TheVariants.{Accepted, Refused}
 use Rattle.block_factor.specs.declared.dense.Block.{Block}
-use Rattle.block_factor.specs.declared.cholesky.Factored.{Factored}
 use Rattle.block_factor.specs.Dense.{blank, dense}
-use Rattle.block_factor.specs.Factored.{pivot_row, factor_of, factored, FactorOf}
+use Rattle.block_factor.specs.Factored.{pivot_row, factor_of, FactorOf}
 use Rattle.block_factor.specs.Held.{held, PairIn}
 use Rattle.block_factor.proofs.Front.{blank_front, factor_front}
 use Rattle.block_factor.proofs.Turns.{place_long}
@@ -90,55 +89,35 @@ placed_length first w d l place p o n h ep =
     let k : length l ≡ 64 = length_factor first w d l o in
     ap length (copied_front (w * w) l place p k n h ep) ∙ length-take-le (w * w) l (omega arith)
 
-is_refused : (w : ℕ) (o : Outcome (List Float)) (r : Refusal) → (factored w o).answer ≡ Refused r → o ≡ refused r
-unfolding factored
-is_refused w (done l) r e = cc
-is_refused w (refused q) r e = cc
+module _ (m : Matrix) (first w : ℕ) (b : Block) (eb : dense w b.a ≡ block_of m first w) (ew : b.size ≡ w) (h : w * w ≤ 64) where
+  made_is : factor_of first b.size (dense b.size b.a) ≡ factor_of first w (block_of m first w)
+  made_is = rw (ew, eb)
 
-is_done_lem : (w : ℕ) (o : Outcome (List Float)) → (factored w o).answer ≡ Accepted → o ≡ done (factored w o).block.a
-unfolding factored
-is_done_lem w (done l) e = refl
-is_done_lem w (refused q) e = cc
-
-module _ (m : Matrix) (first w : ℕ) (b : Block) (made : Factored) (eb : dense w b.a ≡ block_of m first w) (ew : b.size ≡ w)
-    (em : made ≡ factored b.size (factor_of first b.size (dense b.size b.a))) (h : w * w ≤ 64) where
-  made_is : made ≡ factored w (factor_of first w (block_of m first w))
-  made_is = em ∙ rw (ew, eb)
-
-  pub into_refused : (r : Refusal) (place : List Float) → made.answer ≡ Refused r → (Refused r ≡ answer_of (block_factor m first w)) × (place ≡ held (block_factor m first w) place)
+  pub into_refused : (r : Refusal) (place : List Float) → factor_of first b.size (dense b.size b.a) ≡ refused r → (Err r ≡ answer_of (block_factor m first w)) × (place ≡ held (block_factor m first w) place)
   unfolding answer_of held ◌>>=◌
-  into_refused r place e =
-      let o : factor_of first w (block_of m first w) ≡ refused r = is_refused w _ r (ap (λ f. f.answer) (sym made_is) ∙ e) in
-      (rw (factor_is m first w h, o), rw (factor_is m first w h, o))
+  into_refused r place e = let o : factor_of first w (block_of m first w) ≡ refused r = sym made_is ∙ e in (rw (factor_is m first w h, o), rw (factor_is m first w h, o))
 
-  pub into_accepted : (place p : List Float) → made.answer ≡ Accepted → length place ≡ w * w → p ≡ copied made.block.a place
-      → (Accepted ≡ answer_of (block_factor m first w)) × (p ≡ held (block_factor m first w) place)
+  pub into_accepted : (l place p : List Float) → factor_of first b.size (dense b.size b.a) ≡ done l → length place ≡ w * w → p ≡ copied l place
+      → ((Ok tt) ≡ answer_of (block_factor m first w)) × (p ≡ held (block_factor m first w) place)
   unfolding answer_of held
-  into_accepted place p e l ep =
-      let o : factor_of first w (block_of m first w) ≡ done made.block.a
-      = is_done_lem w _ (ap (λ f. f.answer) (sym made_is) ∙ e) ∙ ap (λ f. done f.block.a) (sym made_is) in
-      let q : block_factor m first w ≡ done p = placed m first w made.block.a place p o l h ep in
-      (rw q, rw q)
+  into_accepted l place p e n ep = let q : block_factor m first w ≡ done p = placed m first w l place p (sym made_is ∙ e) n h ep in (rw q, rw q)
 
 -- ---- two of them, one after the other
 
--- the second part is there once the first is written; and both written
-pub second_there : (n : ℕ) (place p : List Float) → length place ≡ n + n → n ≤ length (p ++ drop n place)
-second_there n place p l = omega (arith, length-append p (drop n place), length-drop n place)
-
+-- both written
 halves : (n : ℕ) (place p q : List Float) → length place ≡ n + n → length p ≡ n → put_mid n (length (p ++ drop n place) - n) (p ++ drop n place) q ≡ p ++ q
 halves n place p q lp lq =
     let d : length (drop n place) ≡ n = length-drop n place ∙ omega arith in
     let k : length (drop n place) ≤ length (p ++ drop n place) - n = omega (arith, length-append p (drop n place)) in
     rw (take_at p (drop n place) n lq, drop_at p (drop n place) n lq, drop_of_length-le (drop n place) k, append-nil)
 
-module _ (m : Matrix) (first w : ℕ) (b c : Block) (one two : List Float) (eb : dense w b.a ≡ block_of m first w) (ew : b.size ≡ w) (ec : dense w c.a ≡ block_of m (first + w) w)
-    (em : FactorOf b.size (dense b.size b.a) one × FactorOf b.size (dense b.size c.a) two) where
+module _ (m : Matrix) (first w : ℕ) (b c : Block) (one two : List Float) (eb : dense w b.a ≡ block_of m first w) (ew : b.size ≡ w) (ec : dense w c.a ≡ block_of m (first + w) w) (cw : c.size ≡ w)
+    (em : FactorOf b.size (dense b.size b.a) one × FactorOf c.size (dense c.size c.a) two) where
   factor_one : factor_of first w (block_of m first w) ≡ done one
   factor_one = rw (← eb) (rw ew at (em.0 first))
 
   factor_two : factor_of (first + w) w (block_of m (first + w) w) ≡ done two
-  factor_two = rw (← ec) (rw ew at (em.1 (first + w)))
+  factor_two = rw (← ec) (rw cw at (em.1 (first + w)))
 
   pub pair_placed : (place p q : List Float) → length place ≡ w * w + w * w → w * w ≤ 64 → p ≡ copied one (take (w * w) place)
       → q ≡ copied two (take (length (p ++ drop (w * w) place) - w * w) (drop (w * w) (p ++ drop (w * w) place)))

@@ -61,10 +61,6 @@ module _ (w : ℕ) (a : List Float) (tol : Float) where
   pub rows_end : (i : ℕ) (l : List Float) → RowsLeft i l → i ≡ w → FactorRows w a tol l
   rows_end i l inv h first = sym (inv first) ∙ rows_all (in_block w) (dense_entry w a) (pivot_row first) tol w i l h
 
--- where one of two is refused nothing is promised
-pub not_both : {A : Type 0} (b : Bool) → b ≡ false → b ≡ true → A
-not_both b e p = absurd (let z : ◌≡◌ {A = ℕ} 0 1 = cc in omega arith)
-
 module _ (first w : ℕ) (d : List Float) where
   pub factor_skewed : skewed d w (symmetry_tol *ᶠ top_of d) ≡ true → factor_of first w d ≡ refused (BlockNotSymmetric first)
   unfolding factor_of

@@ -2,7 +2,7 @@
 use Prim.Native.Nat.{ℕ, suc, ◌+◌, ◌-◌, ◌*◌, ◌/◌, ◌<◌, ◌≤◌, min}
 use mathlib.Core.Path.{◌≡◌, sym, ◌∙◌}
 use native.Mathlib.Omega.{arith}
-use native.Mathlib.Nat.{mul-le-mul, suc-mul, add-mul, le_refl, le-div_iff_mul-le, le-mul_of_pos_right}
+use native.Mathlib.Nat.{mul-le-mul, suc-mul, add-mul, le_refl, le-div_iff_mul-le}
 use native.Mathlib.Numerals.{add-one}
 use mathlib.Core.List.{List}
 use lib.ListN.{length, take, drop, length-drop}
@@ -52,7 +52,6 @@ pub record PairTurn (rows size k : ℕ) : Type 0 where
   pub there : suc k < block_count rows size
   pub next : k * size * size + 2 * (size * size) ≡ (k + 2) * size * size
   pub ends : k * size * size + 2 * (size * size) ≤ rows * size
-  pub few : k + 2 ≤ rows
 
 pub pair_turn : (rows size k : ℕ) → 0 < size → (k + 2) * size ≤ rows → PairTurn rows size k
 unfolding width_of block_count
@@ -69,8 +68,19 @@ pair_turn rows size k p h =
       there = (le-div_iff_mul-le p).1 c;
       next = sym n;
       ends = omega (arith, n, mul-le-mul h (le_refl size));
-      few = omega (arith, le-mul_of_pos_right (k + 2) p);
     }
+
+-- so many pairs of whole blocks have their place in the rows, and each of them
+pub pairs_fit : (rows size pairs : ℕ) → 0 < size → pairs ≤ rows / (2 * size) → 2 * pairs * size ≤ rows
+pairs_fit rows size pairs p h =
+    let z : 0 < 2 * size = omega arith in
+    let q : pairs * (2 * size) ≤ rows = (le-div_iff_mul-le z).0 h in
+    omega arith
+
+pub pair_turn_at : (rows size pair : ℕ) → 0 < size → pair < rows / (2 * size) → PairTurn rows size (2 * pair)
+pair_turn_at rows size pair p h =
+    let q : 2 * (pair + 1) * size ≤ rows = pairs_fit rows size (pair + 1) p (omega arith) in
+    pair_turn rows size (2 * pair) p (omega arith)
 
 -- a place of n numbers, as a part that is lent
 pub place_long : {A : Type 0} (used end n : ℕ) (d : List A) → end ≡ used + n → end ≤ length d → length (take (end - used) (drop used d)) ≡ n

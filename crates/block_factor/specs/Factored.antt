@@ -7,8 +7,6 @@ use Rattle.definitions.specs.Block.{in_block, top_of, skewed}
 use Rattle.definitions.specs.Factor.{factor_rows}
 use Rattle.definitions.specs.declared.Refusal.{Refusal}
 use Rattle.definitions.specs.declared.Refusal.TheVariants.{BlockNotSymmetric, BlockPivot}
-use Rattle.definitions.specs.declared.Answer.TheVariants.{Accepted, Refused}
-use Rattle.block_factor.specs.declared.cholesky.Factored.{Factored}
 use Rattle.block_factor.specs.Dense.{blank, dense_entry}
 
 abbrev pub pivot_row : ℕ → ℕ → Refusal
@@ -26,8 +24,3 @@ FactorOf w d l = (first : ℕ) → factor_of first w d ≡ done l
 
 abbrev pub FactorRows : ℕ → List Float → Float → List Float → Type 0
 FactorRows w a tol l = (first : ℕ) → factor_rows (in_block w) (pivot_row first) (dense_entry w a) tol w 0 blank ≡ done l
-
--- as a block and an answer
-unfoldable pub factored : ℕ → Outcome (List Float) → Factored
-factored w (done l) = record { block = record { a = l; size = w }; answer = Accepted }
-factored w (refused r) = record { block = record { a = blank; size = w }; answer = Refused r }

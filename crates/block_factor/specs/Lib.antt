@@ -1,5 +1,4 @@
 -- the numbers of a dense block, and what factoring it answers
 pub mod Dense
 pub mod Factored
-pub mod Gathered
 pub mod Held

@@ -1,98 +1,71 @@
 // Cholesky's factor of a dense block, of which only the lower half is read.
-ghost use Rattle.std.specs.Prelude.{◌≡◌, ◌+◌, ◌<◌, ◌≤◌, ◌^◌};
-ghost use Rattle.definitions.specs.Block.{in_block, max_block};
+ghost use Rattle.std.specs.Prelude.{◌≡◌, ◌<◌, ◌^◌, MatchResult};
+ghost use Rattle.definitions.specs.Block.{in_block};
 ghost use Rattle.definitions.specs.Factor.{rest as rest_of, below_diagonal, factor_rows};
+ghost use Rattle.definitions.specs.Refusal.{refused, done};
 ghost use Rattle.block_factor.specs.Dense.{blank, dense, dense_entry};
-ghost use Rattle.block_factor.specs.Factored.{factored, pivot_row, factor_of};
+ghost use Rattle.block_factor.specs.Factored.{pivot_row, factor_of};
 
-use super::dense::{Block, at, blanks, given, put};
+use super::dense::Block;
 use super::symmetry::{skewed, top};
-use definitions::{Answer, Refusal};
+use definitions::Refusal;
 
-// A factor, and whether there is one: refused, the block is blank.
-#[derive(Clone, Copy)]
-pub struct Factored {
-    pub block: Block,
-    pub answer: Answer,
-}
-
-// What is left of the entry (i, j) once the columns of l before j are taken off.
-pub(crate) fn rest(a: &[f64; 64], l: &[f64; 64], w: usize, i: usize, j: usize) -> f64
-    requires { (i < w) × (j < w) × (w ≤ max_block) }
-    ensures { result ≡ rest_of (in_block w) (dense_entry w a.now) l.now i j }
+// What is left of the entry (i, j) once the columns of l before j are taken off. Both are as wide as a: so the compiler reads one width.
+pub(crate) fn rest(a: &Block, l: &Block, i: usize, j: usize) -> f64
+    requires { (i < a.now.size) × (j < a.now.size) × (l.now.size ≡ a.now.size) }
+    ensures { result ≡ rest_of (in_block a.now.size) (dense_entry a.now.size a.now.a) l.now.a i j }
 {
-    let mut sum = given(a, w, i, j);
-    let mut k: usize = 0;
-    while k < j {
-        sum -= at(l, w, i, k) * at(l, w, j, k);
-        k += 1;
+    let w = a.size;
+    let mut sum = a.at(i, j);
+    for k in 0..j {
+        sum -= l.a[i * w + k] * l.a[j * w + k];
     }
     sum
 }
 
 // The entries of row i left of the diagonal.
-pub(crate) fn fill_row(a: &[f64; 64], l: &mut [f64; 64], w: usize, i: usize)
-    requires { (i < w) × (w ≤ max_block) }
-    ensures { l.new ≡ below_diagonal (in_block w) (dense_entry w a.now) i i l.old }
+pub(crate) fn fill_row(a: &Block, l: &mut Block, i: usize)
+    requires { (i < a.now.size) × (l.old.size ≡ a.now.size) }
+    ensures { (l.new.a ≡ below_diagonal (in_block a.now.size) (dense_entry a.now.size a.now.a) i i l.old.a) × (l.new.size ≡ l.old.size) }
 {
-    let mut j: usize = 0;
-    while j < i {
-        let x = rest(a, l, w, i, j) / at(l, w, j, j);
-        put(l, w, i, j, x);
-        j += 1;
-    }
-}
-
-fn refused(w: usize, cause: Refusal) -> Factored
-    ensures { result ≡ record { block = record { a = blank; size = w }; answer = Answer.Refused cause } }
-{
-    let a = blanks();
-    Factored {
-        block: Block { a, size: w },
-        answer: Answer::Refused(cause),
+    for j in 0..i {
+        let x = rest(a, l, i, j) / l.at(j, j);
+        l.put(i, j, x);
     }
 }
 
 // The rows one by one; first is the block's first row in the matrix, table the one that roots start from.
 fn factor_rows(
-    a: &[f64; 64],
-    w: usize,
+    a: &Block,
     first: usize,
     tol: f64,
     table: &root::StartTable,
-) -> Factored
-    requires { (w ≤ max_block) × (first < 2 ^ 32) }
-    ensures { result ≡ factored w (factor_rows (in_block w) (pivot_row first) (dense_entry w a.now) tol w 0 blank) }
+) -> Result<Block, Refusal>
+    requires { first < 2 ^ 32 }
+    ensures { let rows = factor_rows (in_block a.now.size) (pivot_row first) (dense_entry a.now.size a.now.a) tol a.now.size 0 blank in
+        MatchResult result (λ l. rows ≡ done l.a) (λ cause. rows ≡ refused cause) }
 {
-    let mut l = blanks();
-    let mut i: usize = 0;
-    while i < w {
-        fill_row(a, &mut l, w, i);
-        let pivot = rest(a, &l, w, i, i);
-        if numbers::above(tol, pivot) {
-            put(&mut l, w, i, i, root::root_by(table, pivot));
-            i += 1;
-        } else {
-            return refused(w, Refusal::BlockPivot((first + i) as u64));
+    let mut l = Block::blank(a.size);
+    for i in 0..a.size {
+        fill_row(a, &mut l, i);
+        let pivot = rest(a, &l, i, i);
+        if !numbers::above(tol, pivot) {
+            return Err(Refusal::BlockPivot((first + i) as u64));
         }
+        l.put(i, i, root::root_by(table, pivot));
     }
-    Factored {
-        block: Block { a: l, size: w },
-        answer: Answer::Accepted,
-    }
+    Ok(l)
 }
 
 // The factor of a block, or 14 with its first row, or 15 with the row of the pivot.
-pub(crate) fn factor(b: Block, first: usize, table: &root::StartTable) -> Factored
-    requires { (b.size ≤ max_block) × (first < 2 ^ 32) }
-    ensures { result ≡ factored b.size (factor_of first b.size (dense b.size b.a)) }
+pub(crate) fn factor(b: &Block, first: usize, table: &root::StartTable) -> Result<Block, Refusal>
+    requires { first < 2 ^ 32 }
+    ensures { let factor = factor_of first b.now.size (dense b.now.size b.now.a) in
+        MatchResult result (λ l. factor ≡ done l.a) (λ cause. factor ≡ refused cause) }
 {
-    let a = b.a;
-    let w = b.size;
-    let scale = top(&a, w);
-    if skewed(&a, w, 1e-11 * scale) {
-        refused(w, Refusal::BlockNotSymmetric(first as u64))
-    } else {
-        factor_rows(&a, w, first, 1e-14 * scale, table)
+    let scale = top(b);
+    if skewed(b, 1e-11 * scale) {
+        return Err(Refusal::BlockNotSymmetric(first as u64));
     }
+    factor_rows(b, first, 1e-14 * scale, table)
 }

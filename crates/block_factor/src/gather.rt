@@ -2,64 +2,42 @@
 ghost use Rattle.std.specs.Prelude.{◌≡◌, ◌+◌, ◌<◌, ◌≤◌, length, replicate};
 ghost use Rattle.definitions.specs.Lists.{tab};
 ghost use Rattle.definitions.specs.Numbers.{zeroᶠ};
-ghost use Rattle.definitions.specs.Matrix.{csr};
-ghost use Rattle.definitions.specs.Block.{block_of, max_block};
-ghost use Rattle.csr32.specs.Rows.{Rows};
+ghost use Rattle.definitions.specs.Block.{block_entry, block_of, max_block};
+ghost use Rattle.csr32.specs.Seen.{square};
 ghost use Rattle.block_factor.specs.Dense.{dense};
-ghost use Rattle.block_factor.specs.Gathered.{sum_at};
 
-use super::dense::{Block, blanks};
-use numbers::wide;
+use super::dense::Block;
+use csr32::SquareCsr;
 
-// The entries from..to of one row, added at their places among the columns first..; row holds zeros before.
-fn gather_row(
-    col_idx: &[u32],
-    values: &[f64],
-    from: usize,
-    to: usize,
-    first: usize,
-    row: &mut [f64],
-)
-    requires from_le_to { (from ≤ to) × (to ≤ length values.now) × (length col_idx.now ≡ length values.now) }
+// Row i of the block whose first row is `first`, of whose places as many as row has; row holds zeros before.
+fn gather_row(a: &SquareCsr<'_>, first: usize, i: usize, row: &mut [f64])
+    requires in_rows { first + i < a.now.rows }
     requires row_value { row.old ≡ replicate (length row.old) zeroᶠ }
-    ensures { row.new ≡ tab (sum_at col_idx.now values.now from to first) (length row.old) }
+    ensures { row.new ≡ tab (block_entry (square a.now) first i) (length row.old) }
 {
-    let mut k = from;
-    while k < to {
-        let c = wide(col_idx[k]);
-        if first <= c {
-            let j = c - first;
-            if j < row.len() {
-                row[j] += values[k];
-            }
+    let from = a.row_ptr[first + i] as usize;
+    let to = a.row_ptr[first + i + 1] as usize;
+    for k in from..to {
+        let c = a.col_idx[k] as usize;
+        if first <= c && c - first < row.len() {
+            row[c - first] += a.values[k];
         }
-        k += 1;
     }
 }
 
 // The block w wide whose first row is `first`.
-pub(crate) fn gather(
-    rows: usize,
-    row_ptr: &[u32],
-    col_idx: &[u32],
-    values: &[f64],
-    first: usize,
-    w: usize,
-) -> Block
-    requires rows { Rows (csr rows rows row_ptr.now col_idx.now values.now) }
-    requires w_bound { (first + w ≤ rows) × (w ≤ max_block) }
-    ensures a_value { dense w result.a ≡ block_of (csr rows rows row_ptr.now col_idx.now values.now) first w }
-    ensures size_value { result.size ≡ w }
+pub(crate) fn gather(a: &SquareCsr<'_>, first: usize, w: usize) -> Block
+    requires { (first + w ≤ a.now.rows) × (w ≤ max_block) }
+    ensures { (dense w result.a ≡ block_of (square a.now) first w) × (result.size ≡ w) }
 {
-    let mut a = blanks();
-    let mut i: usize = 0;
-    while i < w {
-        let from = wide(row_ptr[first + i]);
-        let to = wide(row_ptr[first + i + 1]);
+    let mut numbers = [0.0; 64];
+    for i in 0..w {
         let start = i * w;
         let end = start + w;
-        gather_row(col_idx, values, from, to, first, &mut a[start..end]);
-        i += 1;
+        gather_row(a, first, i, &mut numbers[start..end]);
     }
-    Block { a, size: w }
+    Block {
+        a: numbers,
+        size: w,
+    }
 }

@@ -1,52 +1,46 @@
 // A block's scale, and whether it is symmetric within a tolerance.
-ghost use Rattle.std.specs.Prelude.{◌≡◌, ◌<◌, ◌≤◌, length};
-ghost use Rattle.definitions.specs.Block.{top_of, skewed as skewed_of, max_block};
+ghost use Rattle.std.specs.Prelude.{◌≡◌, ◌<◌};
+ghost use Rattle.definitions.specs.Block.{top_of, skewed as skewed_of};
 ghost use Rattle.block_factor.specs.Dense.{dense, apart_at, row_apart};
 
-use super::dense::given;
+use super::dense::Block;
 
 // The largest magnitude of a block, taken as 1 where it is smaller.
-pub(crate) fn top(a: &[f64], w: usize) -> f64
-    requires { (w ≤ max_block) × (length a.now ≡ 64) }
-    ensures { result ≡ top_of (dense w a.now) }
+pub(crate) fn top(b: &Block) -> f64
+    ensures { result ≡ top_of (dense b.now.size b.now.a) }
 {
-    let n = w * w;
-    numbers::larger(numbers::largest(&a[..n]), 1.0)
+    let n = b.size * b.size;
+    numbers::larger(numbers::largest(&b.a[..n]), 1.0)
 }
 
 // Whether (i, j) and (j, i) are further apart than tol.
-fn apart(a: &[f64; 64], w: usize, i: usize, j: usize, tol: f64) -> bool
-    requires { (i < w) × (j < w) × (w ≤ max_block) }
-    ensures { result ≡ apart_at (dense w a.now) w tol i j }
+fn apart(b: &Block, i: usize, j: usize, tol: f64) -> bool
+    requires { (i < b.now.size) × (j < b.now.size) }
+    ensures { result ≡ apart_at (dense b.now.size b.now.a) b.now.size tol i j }
 {
-    let d = numbers::magnitude(given(a, w, i, j) - given(a, w, j, i));
+    let d = numbers::magnitude(b.at(i, j) - b.at(j, i));
     d > tol
 }
 
-fn row_skewed(a: &[f64; 64], w: usize, i: usize, tol: f64) -> bool
-    requires { (i < w) × (w ≤ max_block) }
-    ensures { result ≡ row_apart (dense w a.now) w tol i }
+fn row_skewed(b: &Block, i: usize, tol: f64) -> bool
+    requires { i < b.now.size }
+    ensures { result ≡ row_apart (dense b.now.size b.now.a) b.now.size tol i }
 {
-    let mut j: usize = 0;
-    while j < i {
-        if apart(a, w, i, j, tol) {
+    for j in 0..i {
+        if apart(b, i, j, tol) {
             return true;
         }
-        j += 1;
     }
     false
 }
 
-pub(crate) fn skewed(a: &[f64; 64], w: usize, tol: f64) -> bool
-    requires { w ≤ max_block }
-    ensures { result ≡ skewed_of (dense w a.now) w tol }
+pub(crate) fn skewed(b: &Block, tol: f64) -> bool
+    ensures { result ≡ skewed_of (dense b.now.size b.now.a) b.now.size tol }
 {
-    let mut i: usize = 0;
-    while i < w {
-        if row_skewed(a, w, i, tol) {
+    for i in 0..b.size {
+        if row_skewed(b, i, tol) {
             return true;
         }
-        i += 1;
     }
     false
 }

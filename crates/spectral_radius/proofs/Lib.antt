@@ -1,8 +1,7 @@
-mod Sums
-mod Regions
-mod Products
-mod Scaling
-mod Stages
-mod Course
-mod Cleared
-mod Checks
+pub mod Sums
+pub mod Products
+pub mod Scaling
+pub mod Stages
+pub mod Course
+pub mod Cleared
+pub mod Checks

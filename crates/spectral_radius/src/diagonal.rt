@@ -3,25 +3,21 @@ ghost use Rattle.std.specs.Prelude.{◌≡◌, length};
 ghost use Rattle.definitions.specs.Answers.{answer_of};
 ghost use Rattle.definitions.specs.Estimate.{usable_from, inverse_roots};
 
-use definitions::{Answer, Refusal};
+use definitions::Refusal;
 
 // Causes 20 and 21, row by row.
-pub(crate) fn check(d: &[f64]) -> Answer
+pub(crate) fn check(d: &[f64]) -> Result<(), Refusal>
     ensures { result ≡ answer_of (usable_from 0 d.now) }
 {
-    let mut i: usize = 0;
-    while i < d.len() {
-        let v = d[i];
-        if numbers::usable(v) {
-            if v < 0.0 {
-                return Answer::Refused(Refusal::NegativeDiagonal(i as u64));
-            }
-            i += 1;
-        } else {
-            return Answer::Refused(Refusal::ZeroDiagonal(i as u64));
+    for (i, v) in d.iter().enumerate() {
+        if !numbers::usable(*v) {
+            return Err(Refusal::ZeroDiagonal(i as u64));
+        }
+        if *v < 0.0 {
+            return Err(Refusal::NegativeDiagonal(i as u64));
         }
     }
-    Answer::Accepted
+    Ok(())
 }
 
 // 1 over the root of each number.
@@ -30,7 +26,7 @@ pub(crate) fn inverse_roots(d: &[f64], s: &mut [f64])
     ensures { s.new ≡ inverse_roots d.now }
 {
     let table = root::table();
-    for i in 0..s.len() {
-        s[i] = 1.0 / root::root_by(&table, d[i]);
+    for (i, v) in s.iter_mut().enumerate() {
+        *v = 1.0 / root::root_by(&table, d[i]);
     }
 }

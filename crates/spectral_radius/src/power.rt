@@ -1,141 +1,101 @@
-// The rounds of the power method over the work list, then rho and the damping factor.
-ghost use Rattle.std.specs.Prelude.{◌≡◌, ◌+◌, ◌<◌, ◌≤◌, length, take};
-ghost use mathlib.Core.List.{◌++◌, map, zip_with};
-ghost use Rattle.definitions.specs.Numbers.{total, summed, ◌*ᶠ◌, ◌/ᶠ◌};
-ghost use Rattle.definitions.specs.Matrix.{csr, stored};
+// The power method with the scaled matrix, then rho and the damping factor.
+ghost use Rattle.std.specs.Prelude.{◌≡◌, ◌<◌, length};
+ghost use mathlib.Core.List.{map};
+ghost use Rattle.definitions.specs.Numbers.{summed, ◌*ᶠ◌};
 ghost use Rattle.definitions.specs.Estimate.{image, normalised, rounds as rounds_of};
 ghost use Rattle.definitions.specs.Answers.{estimate_answer};
-ghost use Rattle.csr32.specs.Rows.{Rows};
-ghost use Rattle.laws.specs.Bounds.{Below};
-ghost use Rattle.spectral_radius.specs.Power.{vector_in, image_in, image_at, products, outcome_of, finished_of};
+ghost use Rattle.csr32.specs.Seen.{square};
+ghost use Rattle.spectral_radius.specs.Power.{image_at, outcome_of, finished_of, powered_of};
 
-use crate::vectors::dot;
-use definitions::{EstimateAnswer, Refusal};
-use numbers::wide;
+use super::vectors::{begin, dot, normalise};
+use csr32::SquareCsr;
+use definitions::{Estimated, Refusal};
 
-// The sum of (value * s[col]) * x[col] over the entries from..to.
-fn row_sum(idx: &[u32], vals: &[f64], from: usize, to: usize, s: &[f64], x: &[f64]) -> f64
-    requires from_le_to { (from ≤ to) × (to ≤ length vals.now) × (length idx.now ≡ length vals.now) × (length x.now ≡ length s.now) }
-    requires below { Below (length s.now) idx.now }
-    ensures { result ≡ total (products s.now x.now (stored idx.now vals.now from to)) }
-{
-    let mut sum = 0.0;
-    for k in from..to {
-        let col = wide(idx[k]);
-        sum += vals[k] * s[col] * x[col];
-    }
-    sum
+const ROUNDS: usize = 10;
+
+// The matrix, and the inverse roots of its diagonal, by which rows and columns are scaled.
+#[derive(Clone, Copy)]
+pub(crate) struct ScaledCsr<'a> {
+    pub a: SquareCsr<'a>,
+    pub s: &'a [f64],
+    pub ghost long: { length s.now ≡ a.rows },
 }
 
-// Element i of the image: the inverse root of row i times the row's sum.
-fn row_image(rows: usize, ptr: &[u32], idx: &[u32], vals: &[f64], w: &[f64], i: usize) -> f64
-    requires rows { Rows (csr rows rows ptr.now idx.now vals.now) }
-    requires i_lt_rows { (i < rows) × (rows + rows ≤ length w.now) }
-    ensures { result ≡ image_at (csr rows rows ptr.now idx.now vals.now) (take rows w.now) (vector_in rows w.now) i }
-{
-    let end = rows + rows;
-    let from = wide(ptr[i]);
-    let to = wide(ptr[i + 1]);
-    let sum = row_sum(idx, vals, from, to, &w[..rows], &w[rows..end]);
-    w[i] * sum
-}
-
-// The image of the vector, behind it; returns the sum of its squares, from -0, taken in the same pass.
-fn map_vector(rows: usize, ptr: &[u32], idx: &[u32], vals: &[f64], w: &mut [f64]) -> f64
-    requires rows { Rows (csr rows rows ptr.now idx.now vals.now) }
-    requires rows_in_bounds { rows + rows + rows ≤ length w.old }
-    ensures { let a = csr rows rows ptr.now idx.now vals.now in
-        let mapped = image a (take rows w.old) (vector_in rows w.old) in
-        (take (rows + rows + rows) w.new ≡ take (rows + rows) w.old ++ mapped) × (result ≡ summed (map (λ v. v *ᶠ v) mapped)) }
-{
-    let start = rows + rows;
-    let mut sum = -0.0;
-    for i in 0..rows {
-        let v = row_image(rows, ptr, idx, vals, w, i);
-        w[start + i] = v;
-        sum += v * v;
-    }
-    sum
-}
-
-// The image over its norm becomes the vector.
-fn scale(rows: usize, norm: f64, w: &mut [f64])
-    requires { rows + rows + rows ≤ length w.old }
-    ensures { take (rows + rows) w.new ≡ take rows w.old ++ map (λ v. v /ᶠ norm) (image_in rows w.old) }
-{
-    let start = rows + rows;
-    for i in 0..rows {
-        let v = w[start + i];
-        w[rows + i] = v / norm;
-    }
-}
-
-// One round. False where the norm of the image is zero or not finite: stage 2.
-fn round(rows: usize, ptr: &[u32], idx: &[u32], vals: &[f64], w: &mut [f64]) -> bool
-    requires rows { Rows (csr rows rows ptr.now idx.now vals.now) }
-    requires rows_in_bounds { rows + rows + rows ≤ length w.old }
-    ensures { let a = csr rows rows ptr.now idx.now vals.now in
-        let mapped = image a (take rows w.old) (vector_in rows w.old) in
-        (take rows w.new ≡ take rows w.old) × (outcome_of 2 result (vector_in rows w.new) ≡ normalised 2 mapped) }
-{
-    let squares = map_vector(rows, ptr, idx, vals, w);
-    let n = root::root(squares);
-    if numbers::usable(n) {
-        scale(rows, n, w);
-        return true;
-    }
-    false
-}
-
-// Ten rounds.
-pub(crate) fn rounds(rows: usize, ptr: &[u32], idx: &[u32], vals: &[f64], w: &mut [f64]) -> bool
-    requires rows { Rows (csr rows rows ptr.now idx.now vals.now) }
-    requires rows_in_bounds { rows + rows + rows ≤ length w.old }
-    ensures { let a = csr rows rows ptr.now idx.now vals.now in
-        (take rows w.new ≡ take rows w.old)
-        × (outcome_of 2 result (vector_in rows w.new) ≡ rounds_of a (take rows w.old) 10 (vector_in rows w.old)) }
-{
-    let mut k: usize = 0;
-    while k < 10 {
-        if round(rows, ptr, idx, vals, w) {
-            k += 1;
-        } else {
-            return false;
+impl ScaledCsr<'_> {
+    // Element i of the image of x: the inverse root of row i times the sum of (value * s[col]) * x[col] over the row's entries.
+    fn row_image(&self, x: &[f64], i: usize) -> f64
+        requires { (i < self.now.a.rows) × (length x.now ≡ self.now.a.rows) }
+        ensures { result ≡ image_at (square self.now.a) self.now.s.now x.now i }
+    {
+        let from = self.a.row_ptr[i] as usize;
+        let to = self.a.row_ptr[i + 1] as usize;
+        let mut sum = 0.0;
+        for k in from..to {
+            let col = self.a.col_idx[k] as usize;
+            sum += self.a.values[k] * self.s[col] * x[col];
         }
+        self.s[i] * sum
     }
-    true
-}
 
-// The Rayleigh quotient of the normalised vector: its product with its image.
-fn quotient(rows: usize, w: &[f64]) -> f64
-    requires { rows + rows + rows ≤ length w.now }
-    ensures { result ≡ summed (zip_with (λ u v. u *ᶠ v) (vector_in rows w.now) (image_in rows w.now)) }
-{
-    let start = rows + rows;
-    let end = start + rows;
-    dot(&w[rows..start], &w[start..end])
-}
+    // The image of x into y; returns the sum of its squares, from -0, taken in the same pass.
+    fn image(&self, x: &[f64], y: &mut [f64]) -> f64
+        requires { (length x.now ≡ self.now.a.rows) × (length y.old ≡ self.now.a.rows) }
+        ensures image_made { y.new ≡ image (square self.now.a) self.now.s.now x.now }
+        ensures squares { result ≡ summed (map (λ v. v *ᶠ v) (image (square self.now.a) self.now.s.now x.now)) }
+    {
+        let mut sum = -0.0;
+        for (i, v) in y.iter_mut().enumerate() {
+            let element = self.row_image(x, i);
+            *v = element;
+            sum += element * element;
+        }
+        sum
+    }
 
-// rho and the damping factor, or the stage 3 or 4 at which they fail.
-pub(crate) fn finish(
-    rows: usize,
-    ptr: &[u32],
-    idx: &[u32],
-    vals: &[f64],
-    w: &mut [f64],
-) -> EstimateAnswer
-    requires rows { Rows (csr rows rows ptr.now idx.now vals.now) }
-    requires rows_in_bounds { rows + rows + rows ≤ length w.old }
-    ensures { result ≡ estimate_answer (finished_of (csr rows rows ptr.now idx.now vals.now) (take rows w.old) (vector_in rows w.old)) }
-{
-    map_vector(rows, ptr, idx, vals, w);
-    let rho = quotient(rows, w);
-    if numbers::above(0.0, rho) {
+    // One round: the image of x over its norm becomes x. Stage 2.
+    fn round(&self, x: &mut [f64], y: &mut [f64]) -> Result<(), Refusal>
+        requires { (length x.old ≡ self.now.a.rows) × (length y.old ≡ self.now.a.rows) }
+        ensures { outcome_of result x.new ≡ normalised 2 (image (square self.now.a) self.now.s.now x.old) }
+    {
+        let squares = self.image(x, y);
+        normalise(2, y, root::root(squares), x)
+    }
+
+    // Ten rounds.
+    fn rounds(&self, x: &mut [f64], y: &mut [f64]) -> Result<(), Refusal>
+        requires { (length x.old ≡ self.now.a.rows) × (length y.old ≡ self.now.a.rows) }
+        ensures { outcome_of result x.new ≡ rounds_of (square self.now.a) self.now.s.now 10 x.old }
+    {
+        for _ in 0..ROUNDS {
+            self.round(x, y)?;
+        }
+        Ok(())
+    }
+
+    // rho, the Rayleigh quotient of the normalised vector, and the damping factor, or the stage 3 or 4 at which they fail.
+    fn finish(&self, x: &[f64], y: &mut [f64]) -> Result<Estimated, Refusal>
+        requires { (length x.now ≡ self.now.a.rows) × (length y.old ≡ self.now.a.rows) }
+        ensures { result ≡ estimate_answer (finished_of (square self.now.a) self.now.s.now x.now) }
+    {
+        self.image(x, y);
+        let rho = dot(x, y);
+        if !numbers::above(0.0, rho) {
+            return Err(Refusal::EstimateFailed(3));
+        }
         let damping = 4.0 / (3.0 * rho);
-        if numbers::above(0.0, damping) {
-            return EstimateAnswer::Estimated { rho, damping };
+        if !numbers::above(0.0, damping) {
+            return Err(Refusal::EstimateFailed(4));
         }
-        return EstimateAnswer::Refused(Refusal::EstimateFailed(4));
+        Ok(Estimated { rho, damping })
     }
-    EstimateAnswer::Refused(Refusal::EstimateFailed(3))
+
+    // Stages 1 to 4, the vector in x and its image in y.
+    pub(crate) fn estimate(&self, x: &mut [f64], y: &mut [f64]) -> Result<Estimated, Refusal>
+        requires { (length x.old ≡ self.now.a.rows) × (length y.old ≡ self.now.a.rows) }
+        ensures { result ≡ estimate_answer (powered_of (square self.now.a) self.now.s.now) }
+    {
+        begin(x, y)?;
+        self.rounds(x, y)?;
+        self.finish(x, y)
+    }
 }
