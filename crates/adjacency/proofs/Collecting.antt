@@ -1,16 +1,15 @@
 -- Collecting, step by step.
 use mathlib.Core.Path.{◌≡◌, refl, ap, sym, ◌∙◌}
 use mathlib.Core.List.{List, [], ◌∷◌, ◌++◌, append-nil}
-use Prim.Native.Nat.{ℕ, ◌+◌, ◌-◌, ◌≤◌, ◌<◌, ◌/◌}
+use Prim.Native.Nat.{ℕ, ◌+◌, ◌≤◌, ◌<◌, ◌/◌}
 use native.Mathlib.Omega.{arith}
 use native.Mathlib.Numerals.{add-one}
 use borrow.Author.Tests.{eq-eqb, ne_eqb, eqb-true, eqb-false}
 use lib.Dec.{eqb}
-use lib.ListN.{length, get_or, set, take, length-set}
-use lib.Seq.{slice-cons, take-suc-set, append_snoc, set-get_or, get_or-set_same, get_or-set_other}
+use lib.ListN.{length, get_or, set, take, drop, length-set, drop_of_length-le}
+use lib.Seq.{drop-cons, length-take-le, take-suc-set, append_snoc, set-get_or, get_or-set_same, get_or-set_other}
 use Rattle.laws.proofs.Lists.{Each, none, more, each_head, each_tail, each_imp}
 use Rattle.adjacency.specs.Collect.{gather, marked, nodes_in}
-use Rattle.adjacency.proofs.Steps.{slice_none}
 use Rattle.adjacency.proofs.Laws.{by_case}
 
 pub gather_skips : (s : ℕ) (mark : List ℕ) (w : ℕ) (ws : List ℕ) → get_or mark w 0 ≡ s → gather s mark (w ∷ ws) ≡ gather s mark ws
@@ -28,53 +27,50 @@ marked_on s mark w ws = refl
 marked_same : (s : ℕ) (mark : List ℕ) (w : ℕ) (ws : List ℕ) → get_or mark w 0 ≡ s → marked s mark (w ∷ ws) ≡ marked s mark ws
 marked_same s mark w ws e = marked_on s mark w ws ∙ ap (λ m. marked s m ws) (ap (set mark w) (sym e) ∙ set-get_or mark w 0)
 
-pub record Collected (cols mark₀ out₀ : List ℕ) (from to size stamp at : ℕ) (mark out : List ℕ) (end k : ℕ) : Type 0 where
-  pub upto : k ≤ to
-  pub room : end + (to - k) ≤ length out
-  pub marks : length mark ≡ length mark₀
-  pub outs : length out ≡ length out₀
-  pub list : take end out ++ gather stamp mark (nodes_in size k to cols) ≡ take at out₀ ++ gather stamp mark₀ (nodes_in size from to cols)
-  pub count : end + length (gather stamp mark (nodes_in size k to cols)) ≡ at + length (gather stamp mark₀ (nodes_in size from to cols))
-  pub stamps : marked stamp mark (nodes_in size k to cols) ≡ marked stamp mark₀ (nodes_in size from to cols)
+pub record Collected (cols mark₀ : List ℕ) (size stamp : ℕ) (mark names : List ℕ) (count k : ℕ) : Type 0 where
+  pub used : count ≤ k
+  pub list : take count names ++ gather stamp mark (nodes_in size (drop k cols)) ≡ gather stamp mark₀ (nodes_in size cols)
+  pub stamps : marked stamp mark (nodes_in size (drop k cols)) ≡ marked stamp mark₀ (nodes_in size cols)
 
-module _ {cols mark₀ out₀ : List ℕ} {from to size stamp at : ℕ} {mark out : List ℕ} {end k : ℕ} (v : Collected cols mark₀ out₀ from to size stamp at mark out end k) (h : k < to) (l : to ≤ length cols) where
-  next : nodes_in size k to cols ≡ get_or cols k 0 / size ∷ nodes_in size (k + 1) to cols
-  next = rw (add-one, slice-cons k to cols 0 h l)
+module _ {cols mark₀ : List ℕ} {size stamp : ℕ} {mark names : List ℕ} {count k : ℕ} (v : Collected cols mark₀ size stamp mark names count k) (h : k < length cols) where
+  next : nodes_in size (drop k cols) ≡ get_or cols k 0 / size ∷ nodes_in size (drop (k + 1) cols)
+  next = rw (add-one, drop-cons cols k 0 h)
 
-  pub collect_skip : get_or mark (get_or cols k 0 / size) 0 ≡ stamp → Collected cols mark₀ out₀ from to size stamp at mark out end (k + 1)
-  collect_skip e =
-      let g : gather stamp mark (nodes_in size (k + 1) to cols) ≡ gather stamp mark (nodes_in size k to cols) = sym (ap (gather stamp mark) next ∙ gather_skips stamp mark (get_or cols k 0 / size) (nodes_in size (k + 1) to cols) e) in
+  pub collect_skip : (w : ℕ) → w ≡ get_or cols k 0 / size → get_or mark w 0 ≡ stamp → Collected cols mark₀ size stamp mark names count (k + 1)
+  collect_skip w q e =
+      let ws = nodes_in size (drop (k + 1) cols) in
+      let n : nodes_in size (drop k cols) ≡ w ∷ ws = rw q next in
       record {
-        upto = omega arith;
-        room = omega (arith, v.room);
-        marks = v.marks;
-        outs = v.outs;
-        list = rw g v.list;
-        count = rw g v.count;
-        stamps = sym (ap (marked stamp mark) next ∙ marked_same stamp mark (get_or cols k 0 / size) (nodes_in size (k + 1) to cols) e) ∙ v.stamps;
+        used = omega (arith, v.used);
+        list = ap (λ l. take count names ++ l) (sym (ap (gather stamp mark) n ∙ gather_skips stamp mark w ws e)) ∙ v.list;
+        stamps = sym (ap (marked stamp mark) n ∙ marked_same stamp mark w ws e) ∙ v.stamps;
       }
 
-  pub collect_take : (w : ℕ) → w ≡ get_or cols k 0 / size → (get_or mark w 0 ≡ stamp → ⊥) → Collected cols mark₀ out₀ from to size stamp at (set mark w stamp) (set out end w) (end + 1) (k + 1)
-  collect_take w q e =
-      let n : nodes_in size k to cols ≡ w ∷ nodes_in size (k + 1) to cols = rw q next in
-      let g : gather stamp mark (nodes_in size k to cols) ≡ w ∷ gather stamp (set mark w stamp) (nodes_in size (k + 1) to cols) = ap (gather stamp mark) n ∙ gather_takes stamp mark w (nodes_in size (k + 1) to cols) e in
-      let p : end < length out = omega (arith, v.room) in
+  pub collect_take : (w : ℕ) → w ≡ get_or cols k 0 / size → (get_or mark w 0 ≡ stamp → ⊥) → count < length names → Collected cols mark₀ size stamp (set mark w stamp) (set names count w) (count + 1) (k + 1)
+  collect_take w q e p =
+      let ws = nodes_in size (drop (k + 1) cols) in
+      let n : nodes_in size (drop k cols) ≡ w ∷ ws = rw q next in
+      let g : gather stamp mark (nodes_in size (drop k cols)) ≡ w ∷ gather stamp (set mark w stamp) ws = ap (gather stamp mark) n ∙ gather_takes stamp mark w ws e in
       record {
-        upto = omega arith;
-        room = simp length-set (omega (arith, v.room));
-        marks = simp length-set v.marks;
-        outs = simp length-set v.outs;
-        list = rw (add-one end, take-suc-set out end w p) (append_snoc (take end out) w (gather stamp (set mark w stamp) (nodes_in size (k + 1) to cols)) ∙ rw g at v.list);
-        count = omega (arith, v.count, ap length g);
-        stamps = sym (ap (marked stamp mark) n ∙ marked_on stamp mark w (nodes_in size (k + 1) to cols)) ∙ v.stamps;
+        used = omega (arith, v.used);
+        list = rw (add-one count, take-suc-set names count w p) (append_snoc (take count names) w (gather stamp (set mark w stamp) ws) ∙ rw g at v.list);
+        stamps = sym (ap (marked stamp mark) n ∙ marked_on stamp mark w ws) ∙ v.stamps;
       }
 
-pub collected : {cols mark₀ out₀ : List ℕ} {from to size stamp at : ℕ} {mark out : List ℕ} {end k : ℕ} → Collected cols mark₀ out₀ from to size stamp at mark out end k → to ≤ k
-    → (end ≡ at + length (gather stamp mark₀ (nodes_in size from to cols))) × ((take end out ≡ take at out₀ ++ gather stamp mark₀ (nodes_in size from to cols)) × (mark ≡ marked stamp mark₀ (nodes_in size from to cols)))
-unfolding gather marked
-collected {cols} {mark₀} {out₀} {from} {to} {size} {stamp} {at} {mark} {out} {end} {k} v h =
-    let n = slice_none k to cols h in
-    (omega (arith, rw n at v.count), (sym (append-nil (take end out)) ∙ rw n at v.list, rw n at v.stamps))
+module _ {cols mark₀ : List ℕ} {size stamp : ℕ} {mark names : List ℕ} {count k : ℕ} (v : Collected cols mark₀ size stamp mark names count k) (h : length cols ≤ k) where
+  nothing : nodes_in size (drop k cols) ≡ []
+  nothing = rw (drop_of_length-le cols h)
+
+  pub collected_names : take count names ≡ gather stamp mark₀ (nodes_in size cols)
+  unfolding gather
+  collected_names = sym (append-nil (take count names)) ∙ rw nothing at v.list
+
+  pub collected_stamps : mark ≡ marked stamp mark₀ (nodes_in size cols)
+  unfolding marked
+  collected_stamps = rw nothing at v.stamps
+
+  pub collected_count : count ≤ length names → count ≡ length (gather stamp mark₀ (nodes_in size cols))
+  collected_count l = omega (arith, ap length collected_names, length-take-le count names l)
 
 -- ---- what is collected bears no stamp before, and is listed once
 

@@ -1,4 +1,5 @@
 -- The checks one by one, and what they leave.
+use Rattle.std.specs.Prelude.{Err, Ok}
 use mathlib.Core.Path.{◌≡◌, refl}
 use mathlib.Core.Bool.{Bool, true, false, ◌&&◌}
 use Prim.Native.Nat.{ℕ, ◌+◌, ◌-◌, ◌*◌, ◌/◌, ◌%◌, ◌≤◌, ◌<◌}
@@ -8,7 +9,6 @@ use lib.Dec.{leb}
 use Rattle.definitions.specs.Refusal.{require, ◌>>=◌}
 use Rattle.definitions.specs.Answers.{answer_of}
 use Rattle.definitions.specs.declared.Refusal.TheVariants.{NotSquare, BlockSize, NotMultiple, ListTooShort}
-use Rattle.definitions.specs.declared.Answer.TheVariants.{Accepted, Refused}
 use Rattle.adjacency.specs.Fits.{four, enough, fits_of}
 
 -- ---- room
@@ -39,28 +39,28 @@ module _ (nodes entries base ints floats : ℕ) where
 -- ---- the checks
 
 module _ (rows cols entries size base ints floats : ℕ) where
-  pub fits_square : (cols ≡ rows → ⊥) → Refused NotSquare ≡ answer_of (fits_of rows cols entries size base ints floats)
+  pub fits_square : (cols ≡ rows → ⊥) → Err NotSquare ≡ answer_of (fits_of rows cols entries size base ints floats)
   unfolding fits_of four require ◌>>=◌ answer_of
   fits_square h = rw (ne_eqb cols rows h)
 
   module _ (e : cols ≡ rows) where
-    pub fits_none : size < 1 → Refused BlockSize ≡ answer_of (fits_of rows cols entries size base ints floats)
+    pub fits_none : size < 1 → Err BlockSize ≡ answer_of (fits_of rows cols entries size base ints floats)
     unfolding fits_of four require ◌>>=◌ answer_of
     fits_none h = rw (eq-eqb cols rows e, lt-leb 1 size h)
 
-    pub fits_large : 1 ≤ size → 8 < size → Refused BlockSize ≡ answer_of (fits_of rows cols entries size base ints floats)
+    pub fits_large : 1 ≤ size → 8 < size → Err BlockSize ≡ answer_of (fits_of rows cols entries size base ints floats)
     unfolding fits_of four require ◌>>=◌ answer_of
     fits_large g h = rw (eq-eqb cols rows e, le-leb 1 size g, lt-leb size 8 h)
 
     module _ (g : 1 ≤ size) (h : size ≤ 8) where
-      pub fits_multiple : (rows % size ≡ 0 → ⊥) → Refused NotMultiple ≡ answer_of (fits_of rows cols entries size base ints floats)
+      pub fits_multiple : (rows % size ≡ 0 → ⊥) → Err NotMultiple ≡ answer_of (fits_of rows cols entries size base ints floats)
       unfolding fits_of four require ◌>>=◌ answer_of
       fits_multiple n = rw (eq-eqb cols rows e, le-leb 1 size g, le-leb size 8 h, ne_eqb (rows % size) 0 n)
 
-      pub fits_all : rows % size ≡ 0 → enough (rows / size) entries base ints floats ≡ true → Accepted ≡ answer_of (fits_of rows cols entries size base ints floats)
+      pub fits_all : rows % size ≡ 0 → enough (rows / size) entries base ints floats ≡ true → (Ok tt) ≡ answer_of (fits_of rows cols entries size base ints floats)
       unfolding fits_of four require ◌>>=◌ answer_of
       fits_all n m = rw (eq-eqb cols rows e, le-leb 1 size g, le-leb size 8 h, eq-eqb (rows % size) 0 n, m)
 
-      pub fits_short : rows % size ≡ 0 → enough (rows / size) entries base ints floats ≡ false → Refused ListTooShort ≡ answer_of (fits_of rows cols entries size base ints floats)
+      pub fits_short : rows % size ≡ 0 → enough (rows / size) entries base ints floats ≡ false → Err ListTooShort ≡ answer_of (fits_of rows cols entries size base ints floats)
       unfolding fits_of four require ◌>>=◌ answer_of
       fits_short n m = rw (eq-eqb cols rows e, le-leb 1 size g, le-leb size 8 h, eq-eqb (rows % size) 0 n, m)

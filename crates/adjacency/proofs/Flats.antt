@@ -1,21 +1,22 @@
 -- The result list: offsets and lists, then zeros.
 use mathlib.Core.Path.{◌≡◌, refl, ap, sym, ◌∙◌}
-use mathlib.Core.Bool.{true, false}
+use mathlib.Core.Bool.{Bool, true, false}
 use mathlib.Core.List.{List, [], ◌∷◌, ◌++◌, flat_map, append_assoc, append-nil}
-use Prim.Native.Nat.{ℕ, zero, suc, ◌+◌, ◌-◌, ◌≤◌, ◌<◌}
+use mathlib.Core.Logic.{◌⊎◌, inl, inr}
+use Prim.Native.Nat.{ℕ, zero, suc, ◌+◌, ◌-◌, ◌≤◌}
 use native.Mathlib.Omega.{arith}
-use borrow.Rule.Slice.PartMut.{put_mid, post_of}
-use lib.ListN.{length, get_or, take, drop, replicate, length-append, length-drop, length-replicate, replicate-append-replicate, take-append-drop, drop_of_length-le}
-use lib.Seq.{length-take-le, get_or-take, ext_get_or, take-add, take_at, drop_at}
+use lib.ListN.{length, get_or, take, replicate, length-append, length-replicate, replicate-append-replicate}
+use lib.Seq.{length-take-le, ext_get_or}
 use Rattle.definitions.specs.Lists.{tab, padded, pointers_from, joined_lists}
 use Rattle.definitions.specs.Matrix.{Matrix}
 use Rattle.definitions.specs.Neighbours.{list_for, neighbour_lists, flat_neighbours}
+use Rattle.definitions.specs.declared.TwoLevelAggregation.{TwoLevelAggregation}
 use Rattle.definitions.specs.declared.TwoLevelAggregation.TheVariants.{Contiguous, Graph, StrongGraph}
 use Rattle.laws.proofs.Lists.{length_tab, tab_cong}
 use Rattle.adjacency.specs.Flat.{flat_of}
 use Rattle.adjacency.specs.Lined.{Lined}
 use Rattle.adjacency.specs.Lists.{list_of}
-use Rattle.adjacency.proofs.Parts.{length_part}
+use Rattle.adjacency.specs.Within.{compares}
 
 take_tab : {A : Type 0} (f : ℕ → A) (u n : ℕ) → u ≤ n → take u (tab f n) ≡ tab f u
 unfolding tab
@@ -37,46 +38,27 @@ pointers_at k [] (suc u) h = absurd (omega arith)
 pointers_at k (r ∷ rows) zero h = omega arith
 pointers_at k (r ∷ rows) (suc u) h = pointers_at (k + length r) rows u (omega arith) ∙ omega (arith, length-append r (joined_lists (take u rows)))
 
-module _ {f : ℕ → List ℕ} {nodes at : ℕ} {lists : List ℕ} (n : Lined f nodes nodes at lists) where
-  offsets_are : take (nodes + 1) (take at lists) ≡ pointers_from 0 (tab f nodes)
-  offsets_are =
-      let t : length (take at lists) ≡ at = length-take-le at lists n.fits in
-      let k : length (take (nodes + 1) (take at lists)) ≡ nodes + 1 = length-take-le (nodes + 1) (take at lists) (omega (arith, t, n.ends)) in
-      ext_get_or 0 (take (nodes + 1) (take at lists)) (pointers_from 0 (tab f nodes)) (omega (arith, k, length_pointers 0 (tab f nodes), length_tab f nodes))
-      (λ u h.
-      let a : u < nodes + 1 = omega (arith, k) in
-      let b : u < at = omega (arith, n.ends) in
-      let c : u ≤ nodes = omega arith in
-      get_or-take (nodes + 1) (take at lists) u 0 a ∙ get_or-take at lists u 0 b ∙ n.starts u c
-      ∙ sym (pointers_at 0 (tab f nodes) u (omega (arith, length_tab f nodes)) ∙ rw (take_tab f u nodes c) (omega arith)))
+-- the offsets, the lists and zeros behind them
+pub lined_padded : {f : ℕ → List ℕ} {nodes at : ℕ} {offsets names : List ℕ} (n : Lined f nodes at offsets names) (rest : List ℕ) (len : ℕ) → length offsets ≡ nodes + 1 → length offsets + length names ≡ len → rest ≡ replicate (length names - at) 0
+    → offsets ++ (take at names ++ rest) ≡ padded 0 len (flat_of f nodes)
+unfolding padded flat_of
+lined_padded {f} {nodes} {at} {offsets} {names} n rest len p q e =
+    let ps = pointers_from 0 (tab f nodes) in
+    let t : length (take at names) ≡ at = length-take-le at names n.fits in
+    let o : offsets ≡ ps = ext_get_or 0 offsets ps (p ∙ omega (arith, length_pointers 0 (tab f nodes), length_tab f nodes))
+    (λ u h.
+    let c : u ≤ nodes = omega arith in
+    n.starts u c ∙ sym (pointers_at 0 (tab f nodes) u (omega (arith, length_tab f nodes)) ∙ rw (take_tab f u nodes c) (omega arith))) in
+    let k : length (ps ++ joined_lists (tab f nodes)) ≡ nodes + 1 + at = length-append ps (joined_lists (tab f nodes)) ∙ omega (arith, ap length o, ap length n.list, t) in
+    let z : length names - at ≡ len - length (ps ++ joined_lists (tab f nodes)) = omega arith in
+    rw (o, e, n.list, z) (sym (append_assoc ps (joined_lists (tab f nodes)) (replicate (len - length (ps ++ joined_lists (tab f nodes))) 0)))
 
-  pub lined_flat : take at lists ≡ flat_of f nodes
-  unfolding flat_of
-  lined_flat = sym (take-append-drop (nodes + 1) (take at lists)) ∙ rw (offsets_are, n.list)
-
--- what stands behind the lists cleared, and what stands before them
-module _ {f : ℕ → List ℕ} {nodes at : ℕ} (base : ℕ) (work : List ℕ) (n : Lined f nodes nodes at (drop base work)) where
-  -- the end of the lists, in the whole
-  pub lined_within : base ≤ length work → base + at ≤ length work
-  lined_within h = omega (arith, n.fits, length-drop base work)
-
-  pub lined_padded : (rest front : List ℕ) → base ≤ length work → rest ≡ replicate (length (take (length work - (base + at)) (drop (base + at) work))) 0
-      → front ≡ replicate (length (take base (put_mid (base + at) (length work - (base + at)) work rest))) 0
-      → front ++ drop base (put_mid (base + at) (length work - (base + at)) work rest) ≡ padded 0 (length work) (replicate base 0 ++ flat_of f nodes)
-  unfolding padded
-  lined_padded rest front h e q =
-      let m = length work - (base + at) in
-      let g = lined_within h in
-      let r : length (take m (drop (base + at) work)) ≡ m = length_part (base + at) (length work) work (omega arith) in
-      let o : post_of (base + at) m work ≡ [] = drop_of_length-le (drop (base + at) work) {i = m} (omega (arith, length-drop (base + at) work)) in
-      let t : take (base + at) work ≡ take base work ++ flat_of f nodes = take-add base at work ∙ ap (λ l. take base work ++ l) (lined_flat n) in
-      let b : length (take base work) ≡ base = length-take-le base work h in
-      let w : put_mid (base + at) m work rest ≡ take base work ++ (flat_of f nodes ++ replicate m 0) = rw (o, append-nil rest, e, r, t) (append_assoc (take base work) (flat_of f nodes) (replicate m 0)) in
-      let z : length (flat_of f nodes) ≡ at = ap length (sym (lined_flat n)) ∙ length-take-le at (drop base work) n.fits in
-      let k : length (replicate base 0 ++ flat_of f nodes) ≡ base + at = length-append (replicate base 0) (flat_of f nodes) ∙ rw (z, length-replicate {A = ℕ} base 0) in
-      let u : take base (put_mid (base + at) m work rest) ≡ take base work = ap (take base) w ∙ take_at (take base work) (flat_of f nodes ++ replicate m 0) base b in
-      let v : drop base (put_mid (base + at) m work rest) ≡ flat_of f nodes ++ replicate m 0 = ap (drop base) w ∙ drop_at (take base work) (flat_of f nodes ++ replicate m 0) base b in
-      rw (q, u, b, v, k) (sym (append_assoc (replicate base 0) (flat_of f nodes) (replicate m 0)))
+-- zeros before what is padded
+pub padded_behind : (base len m : ℕ) (x front back : List ℕ) → front ≡ replicate base 0 → back ≡ padded 0 m x → base + m ≡ len → front ++ back ≡ padded 0 len (replicate base 0 ++ x)
+unfolding padded
+padded_behind base len m x front back p q e =
+    let k : m - length x ≡ len - length (replicate base 0 ++ x) = omega (arith, length-append (replicate base 0) x, length-replicate {A = ℕ} base 0) in
+    rw (p, q, k) (sym (append_assoc (replicate base 0) x (replicate (len - length (replicate base 0 ++ x)) 0)))
 
 -- ---- by policy
 
@@ -102,13 +84,19 @@ module _ (a : Matrix) (size nodes : ℕ) where
   unfolding list_of list_for
   same_strong v = refl
 
-  pub flat_graph : flat_of (list_of false a size nodes) nodes ≡ flat_neighbours Graph a size nodes
+  flat_graph : flat_of (list_of false a size nodes) nodes ≡ flat_neighbours Graph a size nodes
   unfolding flat_of flat_neighbours neighbour_lists
   flat_graph = rw (tab_cong (list_of false a size nodes) (list_for Graph a size nodes) nodes (λ v _. same_graph v))
 
-  pub flat_strong : flat_of (list_of true a size nodes) nodes ≡ flat_neighbours StrongGraph a size nodes
+  flat_strong : flat_of (list_of true a size nodes) nodes ≡ flat_neighbours StrongGraph a size nodes
   unfolding flat_of flat_neighbours neighbour_lists
   flat_strong = rw (tab_cong (list_of true a size nodes) (list_for StrongGraph a size nodes) nodes (λ v _. same_strong v))
+
+  -- by number or by strength
+  pub flat_linked : (g : TwoLevelAggregation) (strong : Bool) → strong ≡ compares g → (g ≡ Graph) ⊎ (g ≡ StrongGraph) → flat_of (list_of strong a size nodes) nodes ≡ flat_neighbours g a size nodes
+  unfolding compares
+  flat_linked g strong e (inl p) = rw (e, p) flat_graph
+  flat_linked g strong e (inr p) = rw (e, p) flat_strong
 
   -- Contiguous lists nothing: every offset is zero
   nothing : (v : ℕ) → list_for Contiguous a size nodes v ≡ []

@@ -2,12 +2,12 @@
 use mathlib.Core.Path.{◌≡◌, refl, ap, sym, ◌∙◌}
 use mathlib.Core.Bool.{Bool, true, false, not, ◌&&◌}
 use mathlib.Core.List.{List, [], ◌∷◌}
-use Prim.Native.Nat.{ℕ, zero, suc, ◌+◌, ◌-◌, ◌≤◌, ◌<◌, ◌/◌}
+use Prim.Native.Nat.{ℕ, zero, suc, ◌+◌, ◌≤◌, ◌<◌, ◌/◌}
 use native.Mathlib.Omega.{arith}
 use borrow.Author.Tests.{eq-eqb, ne_eqb, eqb-true, eqb-false}
 use lib.Dec.{eqb, ltb}
-use lib.ListN.{length, get_or, set, take, length-take, length-drop, length-set, length-map}
-use lib.Seq.{get_or-take, get_or-drop, slice, length-slice, get_or-set_same, get_or-set_other}
+use lib.ListN.{length, get_or, set, length-set}
+use lib.Seq.{get_or-set_same, get_or-set_other}
 use Rattle.definitions.specs.Lists.{up_to, any}
 use Rattle.laws.proofs.Kept.{keep_length}
 use Rattle.laws.proofs.Lists.{Each, none, more, each_head, each_tail, each_imp, each_by, each_map}
@@ -84,15 +84,8 @@ unfolding marked
 length_marked s mark [] = refl
 length_marked s mark (w ∷ ws) = length_marked s (set mark w s) ws ∙ length-set mark w s
 
-pub each_node : (n size k e : ℕ) (cols : List ℕ) → Inside n size cols → Each (λ x. x < n) (nodes_in size k e cols)
-each_node n size k e cols i = each_map (λ c. c / size) (each_by (slice k e cols) 0 (λ j h.
-    let p : k + j < length (take e cols) = omega (arith, length-drop k (take e cols)) in
-    let q : k + j < e = omega (arith, length-take e cols) in
-    let r : k + j < length cols = omega (arith, length-take e cols) in
-    rw (get_or-drop k (take e cols) j 0, get_or-take e cols (k + j) 0 q) (i (k + j) r)))
-
-pub nodes_length : (size k e : ℕ) (cols : List ℕ) → e ≤ length cols → length (nodes_in size k e cols) ≡ e - k
-nodes_length size k e cols h = length-map (slice k e cols) (λ c. c / size) ∙ length-slice k e cols h
+pub each_node : (n size : ℕ) (cols : List ℕ) → Inside n size cols → Each (λ x. x < n) (nodes_in size cols)
+each_node n size cols i = each_map (λ c. c / size) (each_by cols 0 i)
 
 -- ---- what is found
 

@@ -1,6 +1,5 @@
 pub mod Laws
 pub mod Steps
-pub mod Halves
 pub mod Collecting
 pub mod Ascending
 pub mod Weighing
@@ -10,11 +9,11 @@ pub mod Sorting
 pub mod Measures
 pub mod Reading
 pub mod Rows
-pub mod Parts
-pub mod Merges
+pub mod Rests
 pub mod Measuring
 pub mod Found
 pub mod Inserting
+pub mod Halves
 pub mod Reciprocal
 pub mod Nodes
 pub mod Norming

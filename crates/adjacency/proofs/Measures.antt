@@ -1,8 +1,8 @@
--- What the float list holds after a node's strengths were made.
+-- What the sums and the strengths are after a node's strengths were made.
 use mathlib.Core.Path.{◌≡◌, refl, sym, ◌∙◌}
 use mathlib.Core.Bool.{Bool, true, false, ◌||◌}
 use mathlib.Core.List.{List, [], ◌∷◌, foldl}
-use Prim.Native.Nat.{ℕ, ◌+◌, ◌*◌, ◌/◌, ◌≤◌, ◌<◌}
+use Prim.Native.Nat.{ℕ, ◌/◌, ◌≤◌, ◌<◌}
 use native.Mathlib.Omega.{arith}
 use borrow.Author.Tests.{eq-eqb, eqb-true, eqb-false}
 use lib.Dec.{eqb}
@@ -47,11 +47,6 @@ unfolding cleared
 length_cleared [] l = refl
 length_cleared (w ∷ ws) l = length_cleared ws (set l w zeroᶠ) ∙ length-set l w zeroᶠ
 
-pub cleared_above : (n : ℕ) (ws : List ℕ) (l : List Float) (i : ℕ) (d : Float) → Each (λ x. x < n) ws → n ≤ i → get_or (cleared ws l) i d ≡ get_or l i d
-unfolding cleared
-cleared_above n [] l i d a h = refl
-cleared_above n (w ∷ ws) l i d a h = cleared_above n ws (set l w zeroᶠ) i d (each_tail a) h ∙ get_or-set_other l w i zeroᶠ d (λ e. omega (arith, each_head a, e))
-
 cleared_zero : (ws : List ℕ) (l : List Float) (u : ℕ) → u < length l → get_or l u nan ≡ zeroᶠ → get_or (cleared ws l) u nan ≡ zeroᶠ
 unfolding cleared
 cleared_zero [] l u h e = e
@@ -84,17 +79,10 @@ unfolding weighed
 length_weighed size [] l = refl
 length_weighed size (e ∷ es) l = length_weighed size es (step size e l) ∙ length-set l (e.col / size) (get_or l (e.col / size) nan +ᶠ squared e.value)
 
-pub weighed_above : (n size : ℕ) (es : List Entry) (l : List Float) (i : ℕ) (d : Float) → Towards n size es → n ≤ i → get_or (weighed size es l) i d ≡ get_or l i d
-unfolding weighed
-weighed_above n size [] l i d a h = refl
-weighed_above n size (e ∷ es) l i d a h =
-    weighed_above n size es (step size e l) i d (each_tail a) h
-    ∙ get_or-set_other l (e.col / size) i (get_or l (e.col / size) nan +ᶠ squared e.value) d (λ q. omega (arith, each_head a, q))
-
 -- the sum towards u grows by its squares, in order
 pub weighed_at : (n size u : ℕ) (es : List Entry) (l : List Float) → Towards n size es → n ≤ length l
     → get_or (weighed size es l) u nan ≡ foldl (λ s x. s +ᶠ x) (get_or l u nan) (squares_in size u es)
-unfolding weighed foldl squares_in values_where keep
+unfolding weighed squares_in values_where keep
 weighed_at n size u [] l a h = refl
 weighed_at n size u (e ∷ es) l a h =
     let w = e.col / size in
@@ -120,56 +108,33 @@ plain_weighed n size (e ∷ es) l t h f a =
 
 -- ---- measuring
 
-module _ (n v : ℕ) (hv : v < n) where
-  abbrev value : List Float → ℕ → Float
-  value l u = strong_of (get_or l u nan) (get_or l (n + v) nan) (get_or l (n + u) nan)
+module _ (v : ℕ) (sums norms : List Float) where
+  abbrev value : ℕ → Float
+  value u = strong_of (get_or sums u nan) (get_or norms v nan) (get_or norms u nan)
 
-  pub length_measured : (ws : List ℕ) (l : List Float) → length (measured n v ws l) ≡ length l
+  pub length_measured : (ws : List ℕ) (l : List Float) → length (measured v ws sums norms l) ≡ length l
   unfolding measured
   length_measured [] l = refl
-  length_measured (w ∷ ws) l = length_measured ws (set l (2 * n + w) (value l w)) ∙ length-set l (2 * n + w) (value l w)
+  length_measured (w ∷ ws) l = length_measured ws (set l w (value w)) ∙ length-set l w (value w)
 
-  pub measured_under : (ws : List ℕ) (l : List Float) (i : ℕ) (d : Float) → i < 2 * n → get_or (measured n v ws l) i d ≡ get_or l i d
+  measured_stays : (ws : List ℕ) (l : List Float) (u : ℕ) → u < length l → get_or l u nan ≡ value u → get_or (measured v ws sums norms l) u nan ≡ value u
   unfolding measured
-  measured_under [] l i d h = refl
-  measured_under (w ∷ ws) l i d h = measured_under ws (set l (2 * n + w) (value l w)) i d h ∙ get_or-set_other l (2 * n + w) i (value l w) d (λ e. omega arith)
+  measured_stays [] l u h e = e
+  measured_stays (w ∷ ws) l u h e = measured_stays ws (set l w (value w)) u (rw (length-set l w (value w)) h) (by_case (eqb u w)
+      (λ f. let z : u ≡ w = eqb-true u w f in let i : w < length l = omega arith in rw z (get_or-set_same l w (value w) nan i))
+      (λ f. get_or-set_other l w u (value w) nan (eqb-false u w f) ∙ e))
 
-  -- what is set above 2 · n changes no value
-  value_same : (l : List Float) (w u : ℕ) (x : Float) → u < n → value (set l (2 * n + w) x) u ≡ value l u
-  value_same l w u x h =
-      let a : get_or (set l (2 * n + w) x) u nan ≡ get_or l u nan = get_or-set_other l (2 * n + w) u x nan (λ e. omega arith) in
-      let b : get_or (set l (2 * n + w) x) (n + v) nan ≡ get_or l (n + v) nan = get_or-set_other l (2 * n + w) (n + v) x nan (λ e. omega arith) in
-      let c : get_or (set l (2 * n + w) x) (n + u) nan ≡ get_or l (n + u) nan = get_or-set_other l (2 * n + w) (n + u) x nan (λ e. omega arith) in
-      rw (a, b, c)
-
-  measured_stays : (ws : List ℕ) (l : List Float) (u : ℕ) → Each (λ x. x < n) ws → 3 * n ≤ length l → u < n → get_or l (2 * n + u) nan ≡ value l u → get_or (measured n v ws l) (2 * n + u) nan ≡ value l u
-  unfolding measured
-  measured_stays [] l u a h k e = e
-  measured_stays (w ∷ ws) l u a h k e =
-      let x = value l w in
-      let l' = set l (2 * n + w) x in
-      measured_stays ws l' u (each_tail a) (rw (length-set l (2 * n + w) x) h) k (by_case (eqb u w)
-      (λ f. let z : u ≡ w = eqb-true u w f in let i : 2 * n + w < length l = omega (arith, each_head a) in rw (value_same l w u x k, z) (get_or-set_same l (2 * n + w) x nan i))
-      (λ f. let z = eqb-false u w f in get_or-set_other l (2 * n + w) (2 * n + u) x nan (λ q. z (omega (arith, q))) ∙ e ∙ sym (value_same l w u x k)))
-      ∙ value_same l w u x k
-
-  pub measured_named : (ws : List ℕ) (l : List Float) (u : ℕ) → Each (λ x. x < n) ws → 3 * n ≤ length l → u < n → Names ws u → get_or (measured n v ws l) (2 * n + u) nan ≡ value l u
+  pub measured_named : (ws : List ℕ) (l : List Float) (u : ℕ) → u < length l → Names ws u → get_or (measured v ws sums norms l) u nan ≡ value u
   unfolding measured any
-  measured_named [] l u a h k m = absurd (let z : ◌≡◌ {A = ℕ} 0 1 = cc in omega arith)
-  measured_named (w ∷ ws) l u a h k m =
-      let x = value l w in
-      let l' = set l (2 * n + w) x in
-      let h' : 3 * n ≤ length l' = rw (length-set l (2 * n + w) x) h in
-      by_case (eqb w u)
-      (λ f. let z : w ≡ u = eqb-true w u f in let i : 2 * n + w < length l = omega (arith, each_head a) in
-      measured_stays ws l' u (each_tail a) h' k (rw (value_same l w u x k, ← z) (get_or-set_same l (2 * n + w) x nan i)) ∙ value_same l w u x k)
-      (λ f. measured_named ws l' u (each_tail a) h' k (rw f at m) ∙ value_same l w u x k)
+  measured_named [] l u h m = absurd (let z : ◌≡◌ {A = ℕ} 0 1 = cc in omega arith)
+  measured_named (w ∷ ws) l u h m = by_case (eqb w u)
+      (λ f. let z : w ≡ u = eqb-true w u f in measured_stays ws (set l w (value w)) u (rw (length-set l w (value w)) h) (rw z (get_or-set_same l u (value u) nan h)))
+      (λ f. measured_named ws (set l w (value w)) u (rw (length-set l w (value w)) h) (rw f at m))
 
-  pub plain_measured : (ws : List ℕ) (l : List Float) → Each (λ x. x < n) ws → 3 * n ≤ length l → AllPlain l → AllPlain (measured n v ws l)
+  pub plain_measured : (ws : List ℕ) (l : List Float) → Each (λ x. x < length sums) ws → AllPlain sums → AllPlain l → AllPlain (measured v ws sums norms l)
   unfolding measured
-  plain_measured [] l a h p = p
-  plain_measured (w ∷ ws) l a h p =
-      let x = value l w in
-      let i : w < length l = omega (arith, each_head a) in
-      plain_measured ws (set l (2 * n + w) x) (each_tail a) (rw (length-set l (2 * n + w) x) h)
-      (plain_set l (2 * n + w) x p (plain_strong (get_or l w nan) (get_or l (n + v) nan) (get_or l (n + w) nan) (rw (get_d_any l w nan zeroᶠ i) (p w))))
+  plain_measured [] l a s p = p
+  plain_measured (w ∷ ws) l a s p =
+      let i : w < length sums = omega (arith, each_head a) in
+      plain_measured ws (set l w (value w)) (each_tail a) s
+      (plain_set l w (value w) p (plain_strong (get_or sums w nan) (get_or norms v nan) (get_or norms w nan) (rw (get_d_any sums w nan zeroᶠ i) (s w))))

@@ -2,10 +2,9 @@
 use mathlib.Core.Path.{◌≡◌, refl, sym, ◌∙◌}
 use mathlib.Core.Bool.{true, false}
 use mathlib.Core.List.{List, ◌∷◌}
-use Prim.Native.Nat.{ℕ, suc, ◌+◌, ◌*◌, ◌≤◌, ◌<◌}
-use native.Mathlib.Omega.{arith}
+use Prim.Native.Nat.{ℕ, suc, ◌+◌, ◌≤◌, ◌<◌}
 use native.Mathlib.Numerals.{add-one}
-use lib.ListN.{length, get_or, set, drop, length-set, drop_of_length-le}
+use lib.ListN.{length, get_or, set, drop, drop_of_length-le}
 use lib.Seq.{drop-cons}
 use lib.Ieee.{Float, nan, lt}
 use lib.Ieee.Scale.{finite}
@@ -35,30 +34,21 @@ module _ (s p q n d : Float) (e : n ≡ rootᶠ s) (g : d ≡ rootᶠ (p *ᶠ q)
   unfolding divides
   strong_not_finite a = e ∙ undivided (rw (← g, a))
 
-pub record Measuring (list : List ℕ) (v nodes : ℕ) (l₀ l : List Float) (k : ℕ) : Type 0 where
-  pub upto : k ≤ length list
-  pub same : length l ≡ length l₀
-  pub goes : measured nodes v (drop k list) l ≡ measured nodes v list l₀
-
-measured_on : (nodes v w : ℕ) (ws : List ℕ) (l : List Float) → measured nodes v (w ∷ ws) l ≡ measured nodes v ws (set l (2 * nodes + w) (strong_of (get_or l w nan) (get_or l (nodes + v) nan) (get_or l (nodes + w) nan)))
+measured_on : (v w : ℕ) (ws : List ℕ) (sums norms l : List Float) → measured v (w ∷ ws) sums norms l ≡ measured v ws sums norms (set l w (strong_of (get_or sums w nan) (get_or norms v nan) (get_or norms w nan)))
 unfolding measured
-measured_on nodes v w ws l = refl
+measured_on v w ws sums norms l = refl
 
-pub measure_more : {list : List ℕ} {v nodes : ℕ} {l₀ l : List Float} {k : ℕ} (w own other at : ℕ) (x d : Float) → Measuring list v nodes l₀ l k → k < length list → v < nodes → 3 * nodes ≤ length l₀
-    → w ≡ get_or list k 0 → w < nodes → own ≡ nodes + v → other ≡ nodes + w → at ≡ nodes + (nodes + w) → x ≡ strong_of (get_or l w d) (get_or l own d) (get_or l other d)
-    → Measuring list v nodes l₀ (set l at x) (k + 1)
-measure_more {list} {v} {nodes} {l₀} {l} {k} w own other at x d m h i j e r p q t y =
-    let a : w < length l = omega (arith, m.same) in
-    let b : nodes + v < length l = omega (arith, m.same) in
-    let c : nodes + w < length l = omega (arith, m.same) in
-    let at' : at ≡ 2 * nodes + w = omega arith in
-    let y' : x ≡ strong_of (get_or l w nan) (get_or l (nodes + v) nan) (get_or l (nodes + w) nan) = y ∙ rw (p, q, get_d_any l w d nan a, get_d_any l (nodes + v) d nan b, get_d_any l (nodes + w) d nan c) in
-    record {
-      upto = omega arith;
-      same = simp length-set m.same;
-      goes = rw (add-one k, at', y') (sym (measured_on nodes v w (drop (suc k) list) l) ∙ rw (e, ← drop-cons list k 0 h) m.goes);
-    }
+module _ (list : List ℕ) (v : ℕ) (sums norms l₀ : List Float) where
+  abbrev pub Measured : List Float → ℕ → Type 0
+  Measured l k = measured v (drop k list) sums norms l ≡ measured v list sums norms l₀
 
-pub measure_done : {list : List ℕ} {v nodes : ℕ} {l₀ l : List Float} {k : ℕ} → Measuring list v nodes l₀ l k → length list ≤ k → l ≡ measured nodes v list l₀
-unfolding measured
-measure_done {list} {v} {nodes} {l₀} {l} {k} m h = rw (drop_of_length-le list h) at m.goes
+  pub measure_more : (l : List Float) (k : ℕ) (d x : Float) → Measured l k → k < length list → v < length norms → get_or list k 0 < length sums → get_or list k 0 < length norms
+      → x ≡ strong_of (get_or sums (get_or list k 0) d) (get_or norms v d) (get_or norms (get_or list k 0) d) → Measured (set l (get_or list k 0) x) (k + 1)
+  measure_more l k d x m h i a b y =
+      let w = get_or list k 0 in
+      let y' : x ≡ strong_of (get_or sums w nan) (get_or norms v nan) (get_or norms w nan) = y ∙ rw (get_d_any sums w d nan a, get_d_any norms v d nan i, get_d_any norms w d nan b) in
+      rw (add-one k, y') (sym (measured_on v w (drop (suc k) list) sums norms l) ∙ rw (← drop-cons list k 0 h) m)
+
+  pub measure_done : (l : List Float) (k : ℕ) → Measured l k → length list ≤ k → l ≡ measured v list sums norms l₀
+  unfolding measured
+  measure_done l k m h = rw (drop_of_length-le list h) at m

@@ -2,30 +2,28 @@
 use mathlib.Core.Path.{◌≡◌, refl, ap, sym, ◌∙◌}
 use mathlib.Core.Bool.{Bool, true, false}
 use mathlib.Core.List.{List, ◌++◌}
-use Prim.Native.Nat.{ℕ, ◌+◌, ◌-◌, ◌*◌, ◌≤◌, ◌<◌}
+use Prim.Native.Nat.{ℕ, ◌+◌, ◌*◌, ◌/◌, ◌≤◌, ◌<◌}
 use native.Mathlib.Omega.{arith}
 use lib.Dec.{ltb}
-use lib.ListN.{length, get_or, set, take, drop, length-set}
-use lib.Seq.{get_or-take, get_or-drop, length-take-le}
+use lib.ListN.{length, get_or, set, take, length-map, length-set}
+use lib.Seq.{take_at}
 use lib.Ieee.{Float, nan, lt, eq, of_bits}
 use Rattle.definitions.specs.Numbers.{total, zeroᶠ}
-use Rattle.definitions.specs.Matrix.{Matrix, csr, stored}
+use Rattle.definitions.specs.Matrix.{Matrix, Entry, csr}
 use Rattle.definitions.specs.Neighbours.{neighbours_of, squares_towards, norm_towards, divisor_of, strength}
-use Rattle.laws.proofs.Lists.{Each, each_at}
-use Rattle.adjacency.specs.Collect.{marked, nodes_in}
-use Rattle.adjacency.specs.WellFormed.{WellFormed, Spans}
-use Rattle.adjacency.specs.Lists.{found, weights, list_of, Between, Listed}
+use Rattle.laws.proofs.Lists.{Each, each_at, each_imp}
 use Rattle.laws.specs.Bounds.{Below}
-use Rattle.adjacency.specs.Order.{before, sort_by}
+use Rattle.adjacency.specs.Collect.{gather, marked, nodes_in, paired}
+use Rattle.adjacency.specs.WellFormed.{WellFormed, part_of}
+use Rattle.adjacency.specs.Lists.{list_of, Between, Listed}
+use Rattle.adjacency.specs.Order.{before, sort_by, Weak}
 use Rattle.adjacency.specs.Strengths.{AllPlain, squares_in, cleared, weighed, strong_of, measured}
 use Rattle.adjacency.proofs.Steps.{get_d_any}
-use Rattle.adjacency.proofs.Parts.{the_part, the_front}
-use Rattle.adjacency.proofs.Plain.{plain_drop}
 use Rattle.adjacency.proofs.Weak.{weak_before, before_apart}
 use Rattle.adjacency.proofs.Sorting.{strong_is, each_sort}
-use Rattle.adjacency.proofs.Rows.{span_rises, span_within, span_towards, span_finite, entries_are, neighbours_are}
-use Rattle.adjacency.proofs.Measures.{Names, each_named, named_below, length_cleared, cleared_above, cleared_named, plain_cleared, length_weighed, weighed_above, weighed_at, plain_weighed, length_measured, measured_under, measured_named, plain_measured}
-use Rattle.adjacency.proofs.Found.{each_node, nodes_length, gather_short, length_marked, found_ascending, found_sorted, found_short, found_each, stamps_below, length_sort}
+use Rattle.adjacency.proofs.Rows.{span_rises, span_towards, span_finite, span_named, columns_length, entries_are, neighbours_are}
+use Rattle.adjacency.proofs.Measures.{Names, each_named, named_below, length_cleared, cleared_named, plain_cleared, length_weighed, weighed_at, plain_weighed, length_measured, measured_named, plain_measured}
+use Rattle.adjacency.proofs.Found.{each_node, gather_short, length_marked, found_ascending, found_sorted, found_short, found_each, stamps_below, length_sort}
 
 -- a strength from the sum of squares and the norms
 pub strength_is : (a : Matrix) (size v u : ℕ) → strength a size v u ≡ strong_of (total (squares_towards a size v u)) (norm_towards a size v v) (norm_towards a size u u)
@@ -37,172 +35,155 @@ even_before : (s : List Float) → ((u : ℕ) → get_or s u zeroᶠ ≡ zeroᶠ
 unfolding before lt eq of_bits
 even_before s e x y = rw (e x, e y)
 
-module _ {kind : Bool} {nodes size : ℕ} {ptr cols : List ℕ} {vals : List Float} (w : WellFormed kind nodes size ptr cols vals) where
+-- what a node's sums and strengths are once they were made, if they are wanted, for the nodes g
+pub record Weighted (strong : Bool) (a : Matrix) (size nodes v : ℕ) (g : List ℕ) (sums strengths : List Float) : Type 0 where
+  pub summed : length sums ≡ nodes
+  pub compared : length strengths ≡ nodes
+  pub plain_sums : AllPlain sums
+  pub plains : AllPlain strengths
+  pub each : strong ≡ true → Each (λ u. get_or strengths u zeroᶠ ≡ strength a size v u) g
+  pub even : strong ≡ false → (u : ℕ) → get_or strengths u zeroᶠ ≡ zeroᶠ
+
+module _ {strong : Bool} {nodes size : ℕ} {ptr cols : List ℕ} {vals : List Float} (w : WellFormed strong nodes size ptr cols vals) where
   abbrev a : Matrix
   a = csr (nodes * size) (nodes * size) ptr cols vals
 
-  module _ {v from to : ℕ} (s : Spans nodes size v ptr from to) where
-    ws_each : Each (λ x. x < nodes) (nodes_in size from to cols)
-    ws_each = each_node nodes size from to cols w.inside
+  module _ {v : ℕ} (s : v < nodes) where
+    abbrev es : List Entry
+    es = paired (part_of size v ptr cols) (part_of size v ptr vals)
 
-    pub squares_are : (u : ℕ) → squares_in size u (stored cols vals from to) ≡ squares_towards a size v u
+    abbrev ws : List ℕ
+    ws = nodes_in size (part_of size v ptr cols)
+
+    pub squares_are : (u : ℕ) → squares_in size u es ≡ squares_towards a size v u
     unfolding squares_in squares_towards
     squares_are u = rw (← entries_are w s)
 
-    -- ---- the float list
-    module _ (g : List ℕ) (l : List Float) (ga : Each (λ x. x < nodes) g) (long : 3 * nodes ≤ length l) where
-      abbrev l₁ : List Float
-      l₁ = cleared g l
-
-      abbrev l₂ : List Float
-      l₂ = weighed size (stored cols vals from to) l₁
-
-      n₁ : nodes ≤ length l₁
-      n₁ = omega (arith, length_cleared g l)
-
-      length₂ : length l₂ ≡ length l
-      length₂ = length_weighed size (stored cols vals from to) l₁ ∙ length_cleared g l
-
-      above : (i : ℕ) → nodes ≤ i → get_or l₂ i nan ≡ get_or l i nan
-      above i h = weighed_above nodes size (stored cols vals from to) l₁ i nan (span_towards w s) h ∙ cleared_above nodes g l i nan ga h
-
-      pub weights_length : (strong : Bool) → length (weights strong nodes size v from to cols vals g l) ≡ length l
-      unfolding weights
-      weights_length true = length_measured nodes v s.node g l₂ ∙ length₂
-      weights_length false = refl
-
-      pub weights_plain : (strong : Bool) → strong ≡ kind → AllPlain l → AllPlain (weights strong nodes size v from to cols vals g l)
-      unfolding weights
-      weights_plain true q p = plain_measured nodes v s.node g l₂ ga (omega (arith, length₂)) (plain_weighed nodes size (stored cols vals from to) l₁ (span_towards w s) n₁ (span_finite w s (sym q)) (plain_cleared g l p))
-      weights_plain false q p = p
-
-      -- the norms stay
-      pub weights_norms : (strong : Bool) (u : ℕ) → u < nodes → get_or (weights strong nodes size v from to cols vals g l) (nodes + u) nan ≡ get_or l (nodes + u) nan
-      unfolding weights
-      weights_norms true u h = measured_under nodes v s.node g l₂ (nodes + u) nan (omega arith) ∙ above (nodes + u) (omega arith)
-      weights_norms false u h = refl
-
-      -- and the strengths are the definition's
-      weights_at_lem : ((u : ℕ) → u < nodes → get_or l (nodes + u) nan ≡ norm_towards a size u u) → (u : ℕ) → u < nodes → Names g u → get_or (measured nodes v g l₂) (2 * nodes + u) nan ≡ strength a size v u
-      unfolding total
-      weights_at_lem norms u h m =
-          let i : u < length l = omega arith in
-          let p : get_or l₂ (nodes + v) nan ≡ norm_towards a size v v = above (nodes + v) (omega arith) ∙ norms v s.node in
-          let q : get_or l₂ (nodes + u) nan ≡ norm_towards a size u u = above (nodes + u) (omega arith) ∙ norms u h in
-          let r : get_or l₂ u nan ≡ total (squares_towards a size v u) = weighed_at nodes size u (stored cols vals from to) l₁ (span_towards w s) n₁ ∙ rw (cleared_named g l u i m, squares_are u) in
-          measured_named nodes v s.node g l₂ u ga (omega (arith, length₂)) h m ∙ rw (r, p, q) (sym (strength_is a size v u))
-
-      weights_each : ((u : ℕ) → u < nodes → get_or l (nodes + u) nan ≡ norm_towards a size u u) → Each (λ u. get_or (drop (2 * nodes) (weights true nodes size v from to cols vals g l)) u zeroᶠ ≡ strength a size v u) g
-      unfolding weights
-      weights_each norms = each_named g (λ u m.
-          let h : u < nodes = named_below nodes g u ga m in
-          let x : 2 * nodes + u < length (measured nodes v g l₂) = omega (arith, length_measured nodes v s.node g l₂, length₂) in
-          get_or-drop (2 * nodes) (measured nodes v g l₂) u zeroᶠ ∙ get_d_any (measured nodes v g l₂) (2 * nodes + u) zeroᶠ nan x ∙ weights_at_lem norms u h m)
-
-    -- ---- the list
-    module _ (ints : List ℕ) (l : List Float) where
-      abbrev g : List ℕ
-      g = found nodes size v from to cols ints
-
-      abbrev ws : List ℕ
-      ws = nodes_in size from to cols
-
-      module _ (stamps : (k : ℕ) → k < nodes → get_or ints k 0 < v + 1) (room : 2 * nodes ≤ length ints) where
-        mark_length : length (take nodes ints) ≡ nodes
-        mark_length = length-take-le nodes ints (omega arith)
-
-        mark_below : Below (v + 1) (take nodes ints)
-        mark_below k h = let i : k < nodes = omega (arith, mark_length) in rw (get_or-take nodes ints k 0 i) (stamps k i)
-
-        pub g_each : Each (λ x. x < nodes) g
-        g_each = found_each nodes v (take nodes ints) ws mark_length s.node mark_below ws_each
-
-        pub g_short : (length g ≤ nodes) × (length g ≤ to - from)
-        g_short = (found_short nodes v (take nodes ints) ws mark_length s.node mark_below ws_each, omega (arith, gather_short (v + 1) (set (take nodes ints) v (v + 1)) ws, nodes_length size from to cols (span_within w s)))
-
-        -- the stamps afterwards
-        pub stamps_after : (ints' : List ℕ) → take nodes ints' ≡ marked (v + 1) (set (take nodes ints) v (v + 1)) ws → (k : ℕ) → k < nodes → get_or ints' k 0 < v + 1 + 1
-        stamps_after ints' e k h =
-            let i : k < length (marked (v + 1) (set (take nodes ints) v (v + 1)) ws) = omega (arith, length_marked (v + 1) (set (take nodes ints) v (v + 1)) ws, length-set (take nodes ints) v (v + 1), mark_length) in
-            let b = stamps_below nodes v (take nodes ints) ws mark_length s.node mark_below ws_each k i in
-            rw (← get_or-take nodes ints' k 0 h, e) (omega (arith, b))
-
-        pub list_is : (strong : Bool) → strong ≡ kind → 3 * nodes ≤ length l → AllPlain l
-            → (strong ≡ true → (u : ℕ) → u < nodes → get_or l (nodes + u) nan ≡ norm_towards a size u u) → (strong ≡ false → (u : ℕ) → get_or l (2 * nodes + u) zeroᶠ ≡ zeroᶠ)
-            → sort_by (before (drop (2 * nodes) (weights strong nodes size v from to cols vals g l))) g ≡ list_of strong a size nodes v
-        unfolding list_of weights
-        list_is true k long p norms even =
-            let l' = weights true nodes size v from to cols vals g l in
-            let d = drop (2 * nodes) l' in
-            let q = plain_drop (2 * nodes) l' (weights_plain g l g_each long true k p) in
-            let e : sort_by ltb g ≡ neighbours_of a size nodes v = found_ascending nodes v (take nodes ints) ws mark_length s.node mark_below ws_each ltb (λ x y. refl) ∙ neighbours_are w s in
-            let each : Each (λ u. get_or d u zeroᶠ ≡ strength a size v u) (neighbours_of a size nodes v) = rw e at (each_sort (λ u. get_or d u zeroᶠ ≡ strength a size v u) ltb g (weights_each g l g_each long (norms refl))) in
-            found_sorted nodes v (take nodes ints) ws mark_length s.node mark_below ws_each (before d) (weak_before d q) (before_apart d q)
-            ∙ ap (sort_by (before d)) (neighbours_are w s)
-            ∙ sym (strong_is a size nodes v d each)
-        list_is false k long p norms even =
-            found_ascending nodes v (take nodes ints) ws mark_length s.node mark_below ws_each (before (drop (2 * nodes) (weights false nodes size v from to cols vals g l)))
-            (even_before (drop (2 * nodes) (weights false nodes size v from to cols vals g l)) (λ u. zero_at_lem u))
-            ∙ neighbours_are w s
-          where
-            zero_at_lem : (u : ℕ) → get_or (drop (2 * nodes) (weights false nodes size v from to cols vals g l)) u zeroᶠ ≡ zeroᶠ
-            zero_at_lem u = get_or-drop (2 * nodes) (weights false nodes size v from to cols vals g l) u zeroᶠ ∙ even refl u
-
--- ---- the calls of `node_list`, in their order
-module _ {strong : Bool} {nodes size : ℕ} {ptr cols : List ℕ} {vals : List Float} (w : WellFormed strong nodes size ptr cols vals) {v from to : ℕ} (s : Spans nodes size v ptr from to)
-    {ints : List ℕ} {l : List Float} (b : Between strong (csr (nodes * size) (nodes * size) ptr cols vals) size nodes v ints l)
-    (at end : ℕ) (lists lists₁ : List ℕ) (h : at + (to - from) ≤ length lists)
-    (e : end ≡ at + length (found nodes size v from to cols ints)) (q : take end lists₁ ≡ take at lists ++ found nodes size v from to cols ints) where
-  part_is : take (end - at) (drop at lists₁) ≡ found nodes size v from to cols ints
-  part_is = the_part at end lists lists₁ (found nodes size v from to cols ints) (omega arith) e q
-
-  found_in : Each (λ x. x < nodes) (found nodes size v from to cols ints)
-  found_in = g_each w s ints l b.stamps b.room
-
-  pub part_below : Below nodes (take (end - at) (drop at lists₁))
-  part_below = rw part_is (λ k i. each_at (found nodes size v from to cols ints) k 0 found_in i)
-
-  pub part_fits : (at ≤ end) × ((end ≤ at + (to - from)) × (end - at ≤ nodes))
-  part_fits = let z = g_short w s ints l b.stamps b.room in (omega arith, (omega (arith, z.1), omega (arith, z.0)))
-
-  module _ (l' : List Float) (m : l' ≡ weights strong nodes size v from to cols vals (take (end - at) (drop at lists₁)) l) where
-    m' : l' ≡ weights strong nodes size v from to cols vals (found nodes size v from to cols ints) l
-    m' = rw part_is at m
-
-    pub long_after : 3 * nodes ≤ length l'
-    long_after = omega (arith, ap length m', weights_length w s (found nodes size v from to cols ints) l found_in b.space strong, b.space)
-
-    pub plain_after : AllPlain l'
-    plain_after = rw m' (weights_plain w s (found nodes size v from to cols ints) l found_in b.space strong refl b.plains)
-
-    pub node_listed : (lists₂ ints₁ ints₂ : List ℕ) → take nodes ints₁ ≡ marked (v + 1) (set (take nodes ints) v (v + 1)) (nodes_in size from to cols)
-        → take end lists₂ ≡ take at lists₁ ++ sort_by (before (drop (2 * nodes) l')) (take (end - at) (drop at lists₁)) → take nodes ints₂ ≡ take nodes ints₁ → length ints₂ ≡ length ints
-        → Listed strong (csr (nodes * size) (nodes * size) ptr cols vals) size nodes v at end lists lists₂ ints₂ l'
-    unfolding weights
-    node_listed lists₂ ints₁ ints₂ p r t u =
-        let a = csr (nodes * size) (nodes * size) ptr cols vals in
-        let g = found nodes size v from to cols ints in
-        let is : sort_by (before (drop (2 * nodes) l')) g ≡ list_of strong a size nodes v = rw m' (list_is w s ints l b.stamps b.room strong refl b.space b.plains b.norms b.even) in
-        record {
-          next = record {
-            stamps = λ k i. after k i;
-            room = omega (arith, u, b.room);
-            space = long_after;
-            plains = plain_after;
-            norms = λ x k i. rw m' (weights_norms w s g l found_in b.space strong k i ∙ b.norms x k i);
-            even = λ x k. rw (m', x) (unweighed k ∙ b.even x k);
-          };
-          list = r ∙ rw (the_front at end lists lists₁ g (omega arith) e q, part_is, is);
-          count = e ∙ ap (λ n. at + n) (sym (length_sort (before (drop (2 * nodes) l')) g) ∙ ap length is);
-          most = omega (arith, part_fits.1.0, s.first, s.last, span_rises w s);
+    module _ {stamps : List ℕ} {sums norms strengths : List Float} (b : Between strong a size nodes v stamps sums norms strengths) where
+      -- ---- the strengths
+      module _ (g : List ℕ) (ga : Each (λ x. x < nodes) g) where
+        pub weighted_not : strong ≡ false → Weighted strong a size nodes v g sums strengths
+        weighted_not e = record {
+          summed = b.summed;
+          compared = b.compared;
+          plain_sums = b.plain_sums;
+          plains = b.plains;
+          each = λ t. absurd (let z : ◌≡◌ {A = Bool} true false = sym t ∙ e in let y : ◌≡◌ {A = ℕ} 0 1 = cc in omega arith);
+          even = b.even;
         }
-      where
-        unweighed : (k : ℕ) → get_or (weights false nodes size v from to cols vals (found nodes size v from to cols ints) l) (2 * nodes + k) zeroᶠ ≡ get_or l (2 * nodes + k) zeroᶠ
-        unweighed k = refl
 
-        after : (k : ℕ) → k < nodes → get_or ints₂ k 0 < v + 1 + 1
-        after k i = stamps_after w s ints l b.stamps b.room ints₂ (t ∙ p) k i
+        abbrev sums' : List Float
+        sums' = weighed size es (cleared g sums)
 
--- the end may be told as a sum
-pub listed_to : {strong : Bool} {a : Matrix} {size nodes v at end n : ℕ} {lists lists' ints' : List ℕ} {floats' : List Float} → n ≡ end → Listed strong a size nodes v at end lists lists' ints' floats' → Listed strong a size nodes v at n lists lists' ints' floats'
-listed_to e l = rw e l
+        abbrev strengths' : List Float
+        strengths' = measured v g sums' norms strengths
+
+        cleared_long : nodes ≤ length (cleared g sums)
+        cleared_long = omega (arith, length_cleared g sums, b.summed)
+
+        summed' : length sums' ≡ nodes
+        summed' = length_weighed size es (cleared g sums) ∙ length_cleared g sums ∙ b.summed
+
+        -- the strengths are the definition's
+        strength_at : strong ≡ true → (u : ℕ) → u < nodes → Names g u → get_or strengths' u nan ≡ strength a size v u
+        unfolding total
+        strength_at t u h m =
+            let i : u < length strengths = omega (arith, b.compared) in
+            let k : u < length sums = omega (arith, b.summed) in
+            let p : get_or norms v nan ≡ norm_towards a size v v = b.norms_are t v s in
+            let q : get_or norms u nan ≡ norm_towards a size u u = b.norms_are t u h in
+            let r : get_or sums' u nan ≡ total (squares_towards a size v u) = weighed_at nodes size u es (cleared g sums) (span_towards w s) cleared_long ∙ rw (cleared_named g sums u k m, squares_are u) in
+            measured_named v sums' norms g strengths u i m ∙ rw (r, p, q) (sym (strength_is a size v u))
+
+        made : strong ≡ true → Weighted strong a size nodes v g sums' strengths'
+        made t =
+            let z : AllPlain sums' = plain_weighed nodes size es (cleared g sums) (span_towards w s) cleared_long (span_finite w s t) (plain_cleared g sums b.plain_sums) in
+            let n : length strengths' ≡ nodes = length_measured v sums' norms g strengths ∙ b.compared in
+            record {
+              summed = summed';
+              compared = n;
+              plain_sums = z;
+              plains = plain_measured v sums' norms g strengths (each_imp (λ x h. omega (arith, summed', h)) ga) z b.plains;
+              each = λ _. each_named g (λ u m. let h : u < nodes = named_below nodes g u ga m in let i : u < length strengths' = omega (arith, n) in get_d_any strengths' u zeroᶠ nan i ∙ strength_at t u h m);
+              even = λ e. absurd (let y : ◌≡◌ {A = Bool} true false = sym t ∙ e in let x : ◌≡◌ {A = ℕ} 0 1 = cc in omega arith);
+            }
+
+        weighted : strong ≡ true → (sums₁ strengths₁ : List Float) → sums₁ ≡ sums' → strengths₁ ≡ measured v g sums₁ norms strengths → Weighted strong a size nodes v g sums₁ strengths₁
+        weighted t sums₁ strengths₁ p q = rw (q, p) (made t)
+
+      -- ---- the list
+      abbrev g : List ℕ
+      g = gather (v + 1) (set stamps v (v + 1)) ws
+
+      ws_each : Each (λ x. x < nodes) ws
+      ws_each = each_node nodes size (part_of size v ptr cols) (span_named w s).inside
+
+      pub found_in : Each (λ x. x < nodes) g
+      found_in = found_each nodes v stamps ws b.marks s b.stamped ws_each
+
+      pub found_below : Below nodes g
+      found_below k h = each_at g k 0 found_in h
+
+      pub found_few : (length g ≤ nodes) × (length g + get_or ptr (v * size) 0 ≤ get_or ptr ((v + 1) * size) 0)
+      found_few = (
+        found_short nodes v stamps ws b.marks s b.stamped ws_each,
+        omega (arith, gather_short (v + 1) (set stamps v (v + 1)) ws, length-map (part_of size v ptr cols) (λ c. c / size), columns_length w s, span_rises w s),
+      )
+
+      -- ---- as a node's entries are told
+      module _ (b' : ℕ) (cs : List ℕ) (vs : List Float) (eb : b' ≡ size) (ec : cs ≡ part_of size v ptr cols) (ev : vs ≡ part_of size v ptr vals) where
+        pub found_is : (l : List ℕ) → l ≡ gather (v + 1) (set stamps v (v + 1)) (nodes_in b' cs) → l ≡ g
+        found_is l e = rw (eb, ec) at e
+
+        pub weighted_as : strong ≡ true → (l : List ℕ) → l ≡ g → (sums₁ strengths₁ : List Float) → sums₁ ≡ weighed b' (paired cs vs) (cleared l sums) → strengths₁ ≡ measured v l sums₁ norms strengths → Weighted strong a size nodes v g sums₁ strengths₁
+        weighted_as t l e sums₁ strengths₁ p q = weighted g found_in t sums₁ strengths₁ (rw (eb, ec, ev, e) at p) (rw e at q)
+
+      module _ {sums₁ strengths₁ : List Float} (f : Weighted strong a size nodes v g sums₁ strengths₁) where
+        pub weak : Weak (before strengths₁)
+        weak = weak_before strengths₁ f.plains
+
+        sorted_as : (kind : Bool) → strong ≡ kind → sort_by (before strengths₁) g ≡ list_of kind a size nodes v
+        unfolding list_of
+        sorted_as true t =
+            let e : sort_by ltb g ≡ neighbours_of a size nodes v = found_ascending nodes v stamps ws b.marks s b.stamped ws_each ltb (λ x y. refl) ∙ neighbours_are w s in
+            let each : Each (λ u. get_or strengths₁ u zeroᶠ ≡ strength a size v u) (neighbours_of a size nodes v) = rw e at (each_sort (λ u. get_or strengths₁ u zeroᶠ ≡ strength a size v u) ltb g (f.each t)) in
+            found_sorted nodes v stamps ws b.marks s b.stamped ws_each (before strengths₁) weak (before_apart strengths₁ f.plains)
+            ∙ ap (sort_by (before strengths₁)) (neighbours_are w s)
+            ∙ sym (strong_is a size nodes v strengths₁ each)
+        sorted_as false t = found_ascending nodes v stamps ws b.marks s b.stamped ws_each (before strengths₁) (even_before strengths₁ (f.even t)) ∙ neighbours_are w s
+
+        done : (count : ℕ) (names stamps₁ : List ℕ) → take count names ≡ sort_by (before strengths₁) g → count ≡ length g → stamps₁ ≡ marked (v + 1) (set stamps v (v + 1)) ws
+            → Listed strong a size nodes v count names stamps₁ sums₁ norms strengths₁
+        done count names stamps₁ p q r =
+            let is : sort_by (before strengths₁) g ≡ list_of strong a size nodes v = sorted_as strong refl in
+            let e : marked (v + 1) (set stamps v (v + 1)) ws ≡ stamps₁ = sym r in
+            record {
+              next = record {
+                stamped = after stamps₁ e;
+                marks = ap length r ∙ length_marked (v + 1) (set stamps v (v + 1)) ws ∙ simp length-set b.marks;
+                summed = f.summed;
+                normed = b.normed;
+                compared = f.compared;
+                plain_sums = f.plain_sums;
+                plains = f.plains;
+                norms_are = b.norms_are;
+                even = f.even;
+              };
+              list = p ∙ is;
+              long = q ∙ sym (length_sort (before strengths₁) g) ∙ ap length is;
+              most = omega (arith, found_few.1, q);
+            }
+          where
+            after : (l : List ℕ) → marked (v + 1) (set stamps v (v + 1)) ws ≡ l → Below (v + 1 + 1) l
+            after l e =
+                let below : Below (v + 1 + 1) (marked (v + 1) (set stamps v (v + 1)) ws) = λ k i. let z = stamps_below nodes v stamps ws b.marks s b.stamped ws_each k i in omega arith in
+                rw e at below
+
+        pub listed : (b' : ℕ) (cs l y rest stamps₁ : List ℕ) (count : ℕ) → b' ≡ size → cs ≡ part_of size v ptr cols → l ≡ g → count ≡ length (gather (v + 1) (set stamps v (v + 1)) (nodes_in b' cs))
+            → stamps₁ ≡ marked (v + 1) (set stamps v (v + 1)) (nodes_in b' cs) → y ≡ sort_by (before strengths₁) l → Listed strong a size nodes v count (y ++ rest) stamps₁ sums₁ norms strengths₁
+        listed b' cs l y rest stamps₁ count eb ec e q r p =
+            let p' : y ≡ sort_by (before strengths₁) g = rw e at p in
+            let q' : count ≡ length g = rw (eb, ec) at q in
+            let r' : stamps₁ ≡ marked (v + 1) (set stamps v (v + 1)) ws = rw (eb, ec) at r in
+            let n : length y ≡ count = ap length p' ∙ length_sort (before strengths₁) g ∙ sym q' in
+            done count (y ++ rest) stamps₁ (take_at y rest count n ∙ p') q' r'

@@ -1,29 +1,28 @@
--- The diagonal norms, one node after the other.
-use mathlib.Core.Path.{◌≡◌, refl, ap, sym, ◌∙◌}
-use mathlib.Core.Bool.{Bool, true, false}
+-- The diagonal norms, one node after the other, and the work lists before the first node.
+use mathlib.Core.Path.{◌≡◌, refl, ap, ◌∙◌}
+use mathlib.Core.Bool.{Bool, true}
 use mathlib.Core.List.{List, [], ◌∷◌}
-use Prim.Native.Nat.{ℕ, ◌+◌, ◌*◌, ◌/◌, ◌≤◌, ◌<◌}
+use Prim.Native.Nat.{ℕ, zero, suc, ◌+◌, ◌*◌, ◌/◌, ◌<◌}
 use native.Mathlib.Omega.{arith}
 use borrow.Author.Tests.{eqb-true, eqb-false}
 use lib.Dec.{eqb}
-use lib.ListN.{length, get_or, set, take, replicate, length-set, length-replicate}
-use lib.Seq.{get_or-take, get_or-set_same, get_or-set_other}
+use lib.ListN.{length, get_or, set, take, drop, replicate, length-replicate}
+use lib.Seq.{get_or-drop, get_or-set_same, get_or-set_other}
 use lib.Ieee.{Float, nan}
 use Rattle.definitions.specs.Lists.{keep}
 use Rattle.definitions.specs.Numbers.{rootᶠ, total, zeroᶠ}
-use Rattle.definitions.specs.Matrix.{Matrix, Entry, csr, stored, values_where}
+use Rattle.definitions.specs.Matrix.{Matrix, Entry, csr, values_where}
 use Rattle.definitions.specs.Neighbours.{norm_towards}
-use Rattle.adjacency.specs.WellFormed.{WellFormed, Spans}
+use Rattle.laws.proofs.Lists.{Each, none, more, each_head, each_tail}
+use Rattle.adjacency.specs.Collect.{paired}
+use Rattle.adjacency.specs.WellFormed.{WellFormed, part_of}
 use Rattle.adjacency.specs.Lists.{Between}
 use Rattle.adjacency.specs.Norms.{Normed}
-use Rattle.laws.proofs.Lists.{Each, none, more, each_head, each_tail}
-use Rattle.adjacency.specs.Strengths.{plain, AllPlain, squares_in}
+use Rattle.adjacency.specs.Strengths.{plain, squares_in}
 use Rattle.adjacency.proofs.Laws.{by_case}
 use Rattle.adjacency.proofs.Measures.{Finite}
 use Rattle.adjacency.proofs.Nodes.{squares_are}
-use Rattle.adjacency.proofs.Parts.{blank_at}
-use Rattle.adjacency.proofs.Plain.{plain_square, plain_total, plain_root, plain_zero, plain_set}
-use Rattle.adjacency.proofs.Rows.{span_finite}
+use Rattle.adjacency.proofs.Plain.{plain_square, plain_zero}
 use Rattle.adjacency.proofs.Weighing.{squares_yes, squares_no}
 
 pub plain_squares : (size v : ℕ) (es : List Entry) → Finite es → Each (λ x. plain x ≡ true) (squares_in size v es)
@@ -33,71 +32,52 @@ plain_squares size v (e ∷ es) f = by_case (eqb (e.col / size) v)
     (λ t. rw (squares_yes size v e es t) (more (plain_square e.value (each_head f)) (plain_squares size v es (each_tail f))))
     (λ t. rw (squares_no size v e es t) (plain_squares size v es (each_tail f)))
 
-pub record Norming (a : Matrix) (size nodes : ℕ) (l₀ l : List Float) (v : ℕ) : Type 0 where
-  pub upto : v ≤ nodes
-  pub same : length l ≡ length l₀
-  pub sofar : Normed a size nodes v l
+-- the norm of node v's own block
+pub norm_is : {strong : Bool} {nodes size : ℕ} {ptr cols : List ℕ} {vals : List Float} (w : WellFormed strong nodes size ptr cols vals) {v : ℕ} (s : v < nodes)
+    → (b : ℕ) (cs : List ℕ) (vs : List Float) → b ≡ size → cs ≡ part_of size v ptr cols → vs ≡ part_of size v ptr vals
+    → rootᶠ (total (squares_in b v (paired cs vs))) ≡ norm_towards (csr (nodes * size) (nodes * size) ptr cols vals) size v v
+unfolding norm_towards
+norm_is w {v} s b cs vs e p q = rw (e, p, q, squares_are w s v)
 
-module _ {nodes size : ℕ} {ptr cols : List ℕ} {vals : List Float} (w : WellFormed true nodes size ptr cols vals) where
-  abbrev a : Matrix
-  a = csr (nodes * size) (nodes * size) ptr cols vals
-
-  module _ {v from to : ℕ} (s : Spans nodes size v ptr from to) where
-    pub norm_is : (u : ℕ) → rootᶠ (total (squares_in size u (stored cols vals from to))) ≡ norm_towards a size v u
-    unfolding norm_towards
-    norm_is u = rw (squares_are w s u)
-
-    pub plain_norm : (u : ℕ) → plain (norm_towards a size v u) ≡ true
-    unfolding total
-    plain_norm u = rw (← norm_is u) (plain_root (total (squares_in size u (stored cols vals from to))) (plain_total (squares_in size u (stored cols vals from to)) zeroᶠ plain_zero (plain_squares size u (stored cols vals from to) (span_finite w s refl))))
-
-  -- every node has its span
-  pub plain_own : (v : ℕ) → v < nodes → plain (norm_towards a size v v) ≡ true
-  plain_own v h = let s : Spans nodes size v ptr (get_or ptr (v * size) 0) (get_or ptr ((v + 1) * size) 0) = record { node = h; first = refl; last = refl } in plain_norm s v
-
-  pub norming_first : (l : List Float) → AllPlain l → Norming a size nodes l l 0
-  norming_first l p = record { upto = omega arith; same = refl; sofar = record { norms = λ u h. absurd (omega arith); plains = p } }
-
-  pub norming_more : {l₀ l : List Float} {v : ℕ} (at : ℕ) (x : Float) → Norming a size nodes l₀ l v → v < nodes → 3 * nodes ≤ length l₀ → at ≡ nodes + v → x ≡ norm_towards a size v v → Norming a size nodes l₀ (set l at x) (v + 1)
-  norming_more {l₀} {l} {v} at x n h long e q =
-      let i : at < length l = omega (arith, n.same) in
-      record {
-        upto = omega arith;
-        same = simp length-set n.same;
-        sofar = record {
-          norms = λ u k. by_case (eqb u v)
-              (λ f. let z : u ≡ v = eqb-true u v f in rw (z, ← e) (get_or-set_same l at x nan i ∙ q))
-              (λ f. let z = eqb-false u v f in get_or-set_other l at (nodes + u) x nan (λ y. z (omega (arith, y))) ∙ n.sofar.norms u (omega (arith, z)));
-          plains = plain_set l at x n.sofar.plains (rw q (plain_own v h));
-        };
-      }
+pub normed_more : (a : Matrix) (size v : ℕ) (l : List Float) (x : Float) → Normed a size v l → v < length l → x ≡ norm_towards a size v v → Normed a size (v + 1) (set l v x)
+normed_more a size v l x n h q u k = by_case (eqb u v)
+    (λ f. let z : u ≡ v = eqb-true u v f in rw z (get_or-set_same l v x nan h ∙ q))
+    (λ f. let z = eqb-false u v f in get_or-set_other l v u x nan z ∙ n u (omega (arith, z)))
 
 -- ---- the work lists before the first node
 
-no_stamp : (nodes m : ℕ) (ints : List ℕ) → take nodes ints ≡ replicate m 0 → (u : ℕ) → u < nodes → get_or ints u 0 < 0 + 1
-no_stamp nodes m ints e u i = let z : get_or ints u 0 ≡ 0 = sym (get_or-take nodes ints u 0 i) ∙ ap (λ l. get_or l u 0) e ∙ blank_at {A = ℕ} m u 0 in omega arith
+abbrev Blank : {A : Type 0} → A → List A → Type 0
+Blank z l = (i : ℕ) → get_or l i z ≡ z
 
-pub ready_even : (strong : Bool) (a : Matrix) (size nodes m n : ℕ) (ints : List ℕ) (floats : List Float) → take nodes ints ≡ replicate m 0 → floats ≡ replicate n zeroᶠ → 2 * nodes ≤ length ints → 3 * nodes ≤ n → strong ≡ false
-    → Between strong a size nodes 0 ints floats
-ready_even strong a size nodes m n ints floats e f h k s = record {
-  stamps = λ u i. no_stamp nodes m ints e u i;
-  room = h;
-  space = omega (arith, ap length f, length-replicate {A = Float} n zeroᶠ);
-  plains = λ i. rw (f, blank_at n i zeroᶠ) plain_zero;
-  norms = λ t. absurd (let z : ◌≡◌ {A = ℕ} 0 1 = cc in omega arith);
-  even = λ t u. rw (f, blank_at n (2 * nodes + u) zeroᶠ);
-}
+blank_all : {A : Type 0} (n : ℕ) (z : A) → Blank z (replicate n z)
+blank_all zero z i = refl
+blank_all (suc n) z zero = refl
+blank_all (suc n) z (suc i) = blank_all n z i
 
-pub ready_norms : (strong : Bool) (a : Matrix) (size nodes m : ℕ) (ints : List ℕ) (floats : List Float) → take nodes ints ≡ replicate m 0 → 2 * nodes ≤ length ints → 3 * nodes ≤ length floats → Normed a size nodes nodes floats → strong ≡ true
-    → Between strong a size nodes 0 ints floats
-ready_norms strong a size nodes m ints floats e h k n s = record {
-  stamps = λ u i. no_stamp nodes m ints e u i;
-  room = h;
-  space = k;
-  plains = n.plains;
-  norms = λ t. n.norms;
-  even = λ t. absurd (let z : ◌≡◌ {A = ℕ} 0 1 = cc in omega arith);
-}
+blank_take : {A : Type 0} (n : ℕ) (z : A) (l : List A) → Blank z l → Blank z (take n l)
+blank_take zero z l h i = refl
+blank_take (suc n) z [] h i = refl
+blank_take (suc n) z (x ∷ l) h zero = h zero
+blank_take (suc n) z (x ∷ l) h (suc i) = blank_take n z l (λ k. h (suc k)) i
 
-pub plain_blank : (n : ℕ) (l : List Float) → l ≡ replicate n zeroᶠ → AllPlain l
-plain_blank n l e i = rw (e, blank_at n i zeroᶠ) plain_zero
+blank_drop : {A : Type 0} (n : ℕ) (z : A) (l : List A) → Blank z l → Blank z (drop n l)
+blank_drop n z l h i = get_or-drop n l i z ∙ h (n + i)
+
+pub ready : (strong : Bool) (a : Matrix) (size nodes m n : ℕ) (stamps : List ℕ) (floats sums rest norms strengths : List Float) → stamps ≡ replicate m 0 → m ≡ nodes → floats ≡ replicate n zeroᶠ
+    → sums ≡ take nodes floats → rest ≡ drop nodes floats → strengths ≡ drop nodes rest → length sums ≡ nodes → length strengths ≡ nodes → length norms ≡ nodes
+    → (strong ≡ true → Normed a size nodes norms) → Between strong a size nodes 0 stamps sums norms strengths
+ready strong a size nodes m n stamps floats sums rest norms strengths e em f es er et p q r k =
+    let b : Blank zeroᶠ floats = λ i. ap (λ l. get_or l i zeroᶠ) f ∙ blank_all n zeroᶠ i in
+    let s : Blank zeroᶠ sums = rw es (blank_take nodes zeroᶠ floats b) in
+    let t : Blank zeroᶠ strengths = rw (et, er) (blank_drop nodes zeroᶠ (drop nodes floats) (blank_drop nodes zeroᶠ floats b)) in
+    record {
+      stamped = λ i h. let z : get_or stamps i 0 ≡ 0 = ap (λ l. get_or l i 0) e ∙ blank_all {A = ℕ} m 0 i in omega arith;
+      marks = ap length e ∙ length-replicate {A = ℕ} m 0 ∙ em;
+      summed = p;
+      normed = r;
+      compared = q;
+      plain_sums = λ i. rw (s i) plain_zero;
+      plains = λ i. rw (t i) plain_zero;
+      norms_are = k;
+      even = λ _. t;
+    }

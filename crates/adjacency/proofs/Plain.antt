@@ -8,8 +8,7 @@ use borrow.Author.Tests.{le-ltb, ne_eqb}
 use native.Mathlib.Omega.{arith}
 use lib.Dec.{eqb, ltb}
 use lib.IntN.{ℤ}
-use lib.ListN.{set, drop}
-use lib.Seq.{get_or-drop}
+use lib.ListN.{set}
 use lib.Ieee.{Float, nan, inf, fin, Format, binary64, prec, emax, low, size, nearest, odd, units, round, sum, add, mul, div, lt, up, down, of_bits}
 use lib.Ieee.Scale.{finite}
 use Rattle.definitions.specs.Root.{root, rounded, radicand, Located, locate_root}
@@ -120,9 +119,5 @@ plain_set (y ∷ l) (suc i) x a h (suc k) = plain_set l i x (λ j. a (suc j)) h 
 
 -- the sum of plain numbers
 pub plain_total : (xs : List Float) (s : Float) → plain s ≡ true → Each (λ x. plain x ≡ true) xs → plain (foldl (λ s x. s +ᶠ x) s xs) ≡ true
-unfolding foldl
 plain_total [] s h e = h
 plain_total (x ∷ xs) s h e = plain_total xs (s +ᶠ x) (plain_add s x h (each_head e)) (each_tail e)
-
-pub plain_drop : (n : ℕ) (l : List Float) → AllPlain l → AllPlain (drop n l)
-plain_drop n l a i = rw (get_or-drop n l i zeroᶠ) (a (n + i))

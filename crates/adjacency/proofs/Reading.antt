@@ -1,9 +1,6 @@
 -- What the checks of the matrix leave: its rows for every policy, and finite values where strengths are compared.
 use mathlib.Core.Path.{◌≡◌}
-use mathlib.Core.Bool.{Bool, true, false}
-use mathlib.Core.List.{List}
-use Prim.Native.Nat.{ℕ}
-use lib.Ieee.{Float}
+use mathlib.Core.Bool.{true}
 use Rattle.definitions.specs.Matrix.{Matrix, valid_of}
 use Rattle.definitions.specs.Refusal.{done}
 use Rattle.definitions.specs.declared.TwoLevelAggregation.{TwoLevelAggregation}
@@ -11,7 +8,6 @@ use Rattle.definitions.specs.declared.TwoLevelAggregation.TheVariants.{Contiguou
 use Rattle.csr32.specs.Calls.{Keeps}
 use Rattle.csr32.specs.Rows.{Rows, Real, structure_rows, rows_of, valid_structure, valid_real}
 use Rattle.csr32.specs.Valid.{structure_keeps, valid_keeps}
-use Rattle.adjacency.specs.WellFormed.{WellFormed}
 use Rattle.adjacency.specs.Within.{compares, read_of}
 
 pub read_rows : (g : TwoLevelAggregation) (a : Matrix) → read_of g a ≡ done tt → Rows a
@@ -38,16 +34,3 @@ unfolding read_of
 valid_read Contiguous a e = valid_structure a e
 valid_read Graph a e = valid_structure a e
 valid_read StrongGraph a e = e
-
--- the same facts once it is known whether strengths are compared
-module _ (nodes size : ℕ) (ptr cols : List ℕ) (vals : List Float) where
-  pub formed_as : (strong known : Bool) → strong ≡ known → WellFormed strong nodes size ptr cols vals → WellFormed known nodes size ptr cols vals
-  formed_as strong known e w = rw e at w
-
-  pub formed_graph : (g : TwoLevelAggregation) → g ≡ Graph → WellFormed (compares g) nodes size ptr cols vals → WellFormed false nodes size ptr cols vals
-  unfolding compares
-  formed_graph g e w = formed_as (compares g) false (rw e) w
-
-  pub formed_strong : (g : TwoLevelAggregation) → g ≡ StrongGraph → WellFormed (compares g) nodes size ptr cols vals → WellFormed true nodes size ptr cols vals
-  unfolding compares
-  formed_strong g e w = formed_as (compares g) true (rw e) w

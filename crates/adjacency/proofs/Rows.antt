@@ -8,16 +8,16 @@ use native.Mathlib.Numerals.{add-one}
 use native.Mathlib.Nat.{suc-mul, mul-le-mul_right}
 use lib.Dec.{eqb}
 use lib.ListN.{length, get_or, take, drop, take-append-drop}
-use lib.Seq.{slice, take-take, drop-append-le, length-slice, length-take-le}
+use lib.Seq.{slice, take-nil, take-take, drop-append-le, get_or-drop, get_or-take, length-slice, length-take-le}
 use lib.Ieee.{Float}
 use Rattle.definitions.specs.Lists.{any}
 use Rattle.definitions.specs.Matrix.{Entry, csr, stored, row_of, entries_of}
 use Rattle.definitions.specs.Links.{node_entries}
 use Rattle.definitions.specs.Neighbours.{neighbours_of}
 use Rattle.laws.proofs.Lists.{none, more}
-use Rattle.adjacency.specs.Collect.{nodes_in, others}
+use Rattle.adjacency.specs.Collect.{nodes_in, others, paired}
 use Rattle.csr32.specs.Rows.{Real}
-use Rattle.adjacency.specs.WellFormed.{WellFormed, Spans}
+use Rattle.adjacency.specs.WellFormed.{WellFormed, Named, part_of}
 use Rattle.adjacency.proofs.Ascending.{asc, up_to_asc, keep_same}
 use Rattle.adjacency.proofs.Weighing.{stored_cons, stored_none}
 use Rattle.adjacency.proofs.Measures.{Towards, Finite}
@@ -41,6 +41,15 @@ stored_join cols vals p q r a b c e =
     let k : r ≤ length vals = omega arith in
     zip_join (λ c v. record { col = c; value = v }) (slice p q cols) (slice q r cols) (slice p q vals) (slice q r vals) (length-slice p q cols i ∙ sym (length-slice p q vals j))
     ∙ rw (slice_join p q r cols a b c, slice_join p q r vals a b k)
+
+pub take_drop : {A : Type 0} (m n : ℕ) (l : List A) → take (n - m) (drop m l) ≡ drop m (take n l)
+take_drop zero n l = let e : n - zero ≡ n = omega arith in rw e
+take_drop (suc m) zero l = let e : zero - suc m ≡ zero = omega arith in rw e
+take_drop (suc m) (suc n) [] = take-nil (suc n - suc m)
+take_drop (suc m) (suc n) (x ∷ l) = let e : suc n - suc m ≡ n - m = omega arith in rw e (take_drop m n l)
+
+slice_at : (p q k : ℕ) (l : List ℕ) → p + k < q → get_or (slice p q l) k 0 ≡ get_or l (p + k) 0
+slice_at p q k l h = get_or-drop p (take q l) k 0 ∙ get_or-take q l (p + k) 0 h
 
 pub next_row : (v size : ℕ) → (v + 1) * size ≡ v * size + size
 next_row v size = rw (add-one v) (suc-mul v size)
@@ -85,36 +94,57 @@ module _ {strong : Bool} {nodes size : ℕ} {ptr cols : List ℕ} {vals : List F
       zip_cols (x ∷ xs) [] h = absurd (omega arith)
       zip_cols (x ∷ xs) (y ∷ ys) h = ap (λ l. x ∷ l) (zip_cols xs ys (omega (arith, h)))
 
-  module _ {v from to : ℕ} (s : Spans nodes size v ptr from to) where
-    e2 : to ≡ get_or ptr (v * size + size) 0
-    e2 = s.last ∙ ap (λ k. get_or ptr k 0) (next_row v size)
+  module _ {v : ℕ} (s : v < nodes) where
+    abbrev pub columns : List ℕ
+    columns = part_of size v ptr cols
+
+    abbrev pub numbers : List Float
+    numbers = part_of size v ptr vals
+
+    last : get_or ptr ((v + 1) * size) 0 ≡ get_or ptr (v * size + size) 0
+    last = ap (λ k. get_or ptr k 0) (next_row v size)
 
     fit : v * size + size ≤ nodes * size
-    fit = row_fits v nodes size s.node
+    fit = row_fits v nodes size s
 
-    pub span_rises : from ≤ to
-    span_rises = omega (arith, rise (v * size) size (v * size + size) refl fit, s.first, e2)
+    pub span_rises : get_or ptr (v * size) 0 ≤ get_or ptr ((v + 1) * size) 0
+    span_rises = omega (arith, rise (v * size) size (v * size + size) refl fit, last)
 
-    pub span_within : to ≤ length cols
-    span_within = omega (arith, w.within (v * size + size) fit, e2)
+    pub span_within : get_or ptr ((v + 1) * size) 0 ≤ length cols
+    span_within = omega (arith, w.within (v * size + size) fit, last)
+
+    pub columns_length : length columns ≡ get_or ptr ((v + 1) * size) 0 - get_or ptr (v * size) 0
+    columns_length = length-slice (get_or ptr (v * size) 0) (get_or ptr ((v + 1) * size) 0) cols span_within
 
     -- the entries of node v
-    pub entries_are : node_entries (csr (nodes * size) (nodes * size) ptr cols vals) size v ≡ stored cols vals from to
+    pub entries_are : node_entries (csr (nodes * size) (nodes * size) ptr cols vals) size v ≡ paired columns numbers
     unfolding node_entries entries_of
     entries_are =
         ap (flat_map (λ i. row_of ptr cols vals (v * size + i))) (up_to_asc size)
         ∙ rows_stored (v * size) zero size (v * size) (v * size + size) (omega arith) refl fit
-        ∙ rw (s.first, e2)
+        ∙ rw last
 
-    pub span_towards : Towards nodes size (stored cols vals from to)
-    span_towards = towards from (to - from) to (omega (arith, span_rises)) span_within
+    pub span_towards : Towards nodes size (paired columns numbers)
+    span_towards = towards (get_or ptr (v * size) 0) (get_or ptr ((v + 1) * size) 0 - get_or ptr (v * size) 0) (get_or ptr ((v + 1) * size) 0) (omega (arith, span_rises)) span_within
 
-    pub span_finite : strong ≡ true → Finite (stored cols vals from to)
-    span_finite e = finites (w.real e) from (to - from) to (omega (arith, span_rises)) span_within
+    pub span_finite : strong ≡ true → Finite (paired columns numbers)
+    span_finite e = finites (w.real e) (get_or ptr (v * size) 0) (get_or ptr ((v + 1) * size) 0 - get_or ptr (v * size) 0) (get_or ptr ((v + 1) * size) 0) (omega (arith, span_rises)) span_within
 
     -- Graph's neighbours are those that its columns name
-    pub neighbours_are : others nodes v (nodes_in size from to cols) ≡ neighbours_of (csr (nodes * size) (nodes * size) ptr cols vals) size nodes v
+    pub neighbours_are : others nodes v (nodes_in size columns) ≡ neighbours_of (csr (nodes * size) (nodes * size) ptr cols vals) size nodes v
     unfolding neighbours_of others
     neighbours_are =
-        rw (up_to_asc nodes, entries_are) (keep_same (λ u. not (eqb u v) && any (λ x. eqb x u) (nodes_in size from to cols)) (λ u. not (eqb u v) && any (λ e. eqb (e.col / size) u) (stored cols vals from to)) zero nodes
-        (λ u x y. rw (any_map u (stored cols vals from to), cols_of from (to - from) to (omega (arith, span_rises)) span_within)))
+        rw (up_to_asc nodes, entries_are) (keep_same (λ u. not (eqb u v) && any (λ x. eqb x u) (nodes_in size columns)) (λ u. not (eqb u v) && any (λ e. eqb (e.col / size) u) (paired columns numbers)) zero nodes
+        (λ u x y. rw (any_map u (paired columns numbers), cols_of (get_or ptr (v * size) 0) (get_or ptr ((v + 1) * size) 0 - get_or ptr (v * size) 0) (get_or ptr ((v + 1) * size) 0) (omega (arith, span_rises)) span_within)))
+
+    -- what is known of them
+    pub span_named : Named nodes size columns numbers
+    span_named =
+        let n = columns_length in
+        let at : (k : ℕ) → k < length columns → get_or columns k 0 ≡ get_or cols (get_or ptr (v * size) 0 + k) 0 = λ k h. slice_at (get_or ptr (v * size) 0) (get_or ptr ((v + 1) * size) 0) k cols (omega (arith, n)) in
+        record {
+          some = w.some;
+          both = length-slice (get_or ptr (v * size) 0) (get_or ptr ((v + 1) * size) 0) vals (omega (arith, span_within, w.both)) ∙ sym n;
+          inside = λ k h. rw (at k h) (w.inside (get_or ptr (v * size) 0 + k) (omega (arith, n, span_within)));
+          low = λ k h. rw (at k h) (w.low (get_or ptr (v * size) 0 + k) (omega (arith, n, span_within)));
+        }

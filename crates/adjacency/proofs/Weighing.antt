@@ -3,38 +3,29 @@ use mathlib.Core.Path.{◌≡◌, refl, ap, sym, ◌∙◌}
 use mathlib.Core.Bool.{true, false}
 use mathlib.Core.List.{List, [], ◌∷◌, foldl, zip_with}
 use Prim.Native.Nat.{ℕ, ◌+◌, ◌≤◌, ◌<◌, ◌/◌}
-use native.Mathlib.Omega.{arith}
 use native.Mathlib.Numerals.{add-one}
 use borrow.Author.Tests.{eq-eqb, ne_eqb}
 use lib.Dec.{eqb}
-use lib.ListN.{length, get_or, set, drop, length-set, drop_of_length-le}
+use lib.ListN.{length, get_or, set, drop, drop_of_length-le}
 use lib.Seq.{slice-cons, drop-cons}
 use lib.Ieee.{Float, nan}
 use Rattle.definitions.specs.Lists.{keep}
 use Rattle.definitions.specs.Numbers.{◌+ᶠ◌, squared, total, zeroᶠ}
 use Rattle.definitions.specs.Matrix.{Entry, values_where, stored}
 use Rattle.laws.proofs.Kept.{keep_yes, keep_no}
+use Rattle.adjacency.specs.Collect.{paired}
 use Rattle.adjacency.specs.Strengths.{cleared, weighed, squares_in}
 use Rattle.adjacency.proofs.Steps.{slice_none, get_d_any}
 
 -- ---- clearing
 
-pub record Clearing (list : List ℕ) (l₀ l : List Float) (k : ℕ) : Type 0 where
-  pub upto : k ≤ length list
-  pub same : length l ≡ length l₀
-  pub goes : cleared (drop k list) l ≡ cleared list l₀
-
-pub clear_more : {list : List ℕ} {l₀ l : List Float} {k : ℕ} (w : ℕ) → Clearing list l₀ l k → k < length list → w ≡ get_or list k 0 → Clearing list l₀ (set l w zeroᶠ) (k + 1)
+pub clear_more : (list : List ℕ) (l₀ l : List Float) (k : ℕ) → cleared (drop k list) l ≡ cleared list l₀ → k < length list → cleared (drop (k + 1) list) (set l (get_or list k 0) zeroᶠ) ≡ cleared list l₀
 unfolding cleared
-clear_more {list} {l₀} {l} {k} w v h e = record {
-  upto = omega arith;
-  same = simp length-set v.same;
-  goes = rw (add-one k, e) (ap (λ t. cleared t l) (sym (drop-cons list k 0 h)) ∙ v.goes);
-}
+clear_more list l₀ l k e h = rw (add-one k) (ap (λ t. cleared t l) (sym (drop-cons list k 0 h)) ∙ e)
 
-pub clear_done : {list : List ℕ} {l₀ l : List Float} {k : ℕ} → Clearing list l₀ l k → length list ≤ k → l ≡ cleared list l₀
+pub clear_done : (list : List ℕ) (l₀ l : List Float) (k : ℕ) → cleared (drop k list) l ≡ cleared list l₀ → length list ≤ k → l ≡ cleared list l₀
 unfolding cleared
-clear_done {list} {l₀} {l} {k} v h = rw (drop_of_length-le list h) at v.goes
+clear_done list l₀ l k e h = rw (drop_of_length-le list h) at e
 
 -- ---- the entries stored from k on
 
@@ -47,37 +38,38 @@ pub stored_none : (cols : List ℕ) (vals : List Float) (k to : ℕ) → to ≤ 
 unfolding zip_with
 stored_none cols vals k to h = rw (slice_none k to cols h)
 
+-- ---- the entries from k on
+
+pub paired_cons : (cols : List ℕ) (vals : List Float) (k : ℕ) → k < length cols → k < length vals
+    → paired (drop k cols) (drop k vals) ≡ record { col = get_or cols k 0; value = get_or vals k nan } ∷ paired (drop (k + 1) cols) (drop (k + 1) vals)
+unfolding zip_with
+paired_cons cols vals k h i = rw (add-one k, drop-cons cols k 0 h, drop-cons vals k nan i)
+
+pub paired_none : (cols : List ℕ) (vals : List Float) (k : ℕ) → length cols ≤ k → paired (drop k cols) (drop k vals) ≡ []
+unfolding zip_with
+paired_none cols vals k h = rw (drop_of_length-le cols h)
+
 -- ---- weighing
 
 weighed_on : (size : ℕ) (e : Entry) (es : List Entry) (l : List Float) → weighed size (e ∷ es) l ≡ weighed size es (set l (e.col / size) (get_or l (e.col / size) nan +ᶠ squared e.value))
 unfolding weighed
 weighed_on size e es l = refl
 
-pub record Weighing (cols : List ℕ) (vals l₀ : List Float) (from to size : ℕ) (l : List Float) (k : ℕ) : Type 0 where
-  pub upto : k ≤ to
-  pub same : length l ≡ length l₀
-  pub goes : weighed size (stored cols vals k to) l ≡ weighed size (stored cols vals from to) l₀
+module _ (cols : List ℕ) (vals : List Float) (size : ℕ) where
+  abbrev pub Weighed : List Float → List Float → ℕ → Type 0
+  Weighed l₀ l k = weighed size (paired (drop k cols) (drop k vals)) l ≡ weighed size (paired cols vals) l₀
 
-pub weigh_more : {cols : List ℕ} {vals l₀ : List Float} {from to size : ℕ} {l : List Float} {k : ℕ} (w : ℕ) (d : Float) → Weighing cols vals l₀ from to size l k → k < to → to ≤ length cols → to ≤ length vals → w ≡ get_or cols k 0 / size → w < length l
-    → Weighing cols vals l₀ from to size (set l w (get_or l w d +ᶠ squared (get_or vals k d))) (k + 1)
-weigh_more {cols} {vals} {l₀} {from} {to} {size} {l} {k} w d v h a b e i =
-    let x : Entry = record { col = get_or cols k 0; value = get_or vals k nan } in
-    let j : k < length vals = omega arith in
-    record {
-      upto = omega arith;
-      same = simp length-set v.same;
-      goes = rw (get_d_any l w d nan i, get_d_any vals k d nan j) (sym (weighed_on size x (stored cols vals (k + 1) to) l ∙ rw e) ∙ ap (λ t. weighed size t l) (sym (stored_cons cols vals k to h a b)) ∙ v.goes);
-    }
+  pub weigh_more : (l₀ l : List Float) (k w : ℕ) (x d : Float) → Weighed l₀ l k → k < length cols → k < length vals → w ≡ get_or cols k 0 / size → w < length l → x ≡ get_or vals k nan
+      → Weighed l₀ (set l w (get_or l w d +ᶠ squared x)) (k + 1)
+  weigh_more l₀ l k w x d v h i e n q =
+      let y : Entry = record { col = get_or cols k 0; value = get_or vals k nan } in
+      rw (q, get_d_any l w d nan n) (sym (weighed_on size y (paired (drop (k + 1) cols) (drop (k + 1) vals)) l ∙ rw e) ∙ ap (λ t. weighed size t l) (sym (paired_cons cols vals k h i)) ∙ v)
 
-pub weigh_done : {cols : List ℕ} {vals l₀ : List Float} {from to size : ℕ} {l : List Float} {k : ℕ} → Weighing cols vals l₀ from to size l k → to ≤ k → l ≡ weighed size (stored cols vals from to) l₀
-unfolding weighed
-weigh_done {cols} {vals} {l₀} {from} {to} {size} {l} {k} v h = rw (stored_none cols vals k to h) at v.goes
+  pub weigh_done : (l₀ l : List Float) (k : ℕ) → Weighed l₀ l k → length cols ≤ k → l ≡ weighed size (paired cols vals) l₀
+  unfolding weighed
+  weigh_done l₀ l k v h = rw (paired_none cols vals k h) at v
 
--- ---- the sum towards one node
-
-pub record Own (cols : List ℕ) (vals : List Float) (from to size v : ℕ) (sum : Float) (k : ℕ) : Type 0 where
-  pub upto : k ≤ to
-  pub goes : foldl (λ s x. s +ᶠ x) sum (squares_in size v (stored cols vals k to)) ≡ total (squares_in size v (stored cols vals from to))
+-- ---- a node's own squares
 
 pub squares_yes : (size v : ℕ) (e : Entry) (es : List Entry) → eqb (e.col / size) v ≡ true → squares_in size v (e ∷ es) ≡ squared e.value ∷ squares_in size v es
 unfolding squares_in values_where
@@ -87,29 +79,26 @@ pub squares_no : (size v : ℕ) (e : Entry) (es : List Entry) → eqb (e.col / s
 unfolding squares_in values_where
 squares_no size v e es h = rw (keep_no (λ (x : Entry). eqb (x.col / size) v) e es h)
 
-pub own_first : (cols : List ℕ) (vals : List Float) (from to size v : ℕ) → from ≤ to → Own cols vals from to size v zeroᶠ from
-unfolding total
-own_first cols vals from to size v h = record { upto = h; goes = refl }
+module _ (cols : List ℕ) (vals : List Float) (size v : ℕ) where
+  -- the sum so far, with the squares that are left
+  abbrev pub Own : Float → ℕ → Type 0
+  Own sum k = foldl (λ s x. s +ᶠ x) sum (squares_in size v (paired (drop k cols) (drop k vals))) ≡ total (squares_in size v (paired cols vals))
 
-module _ {cols : List ℕ} {vals : List Float} {from to size v : ℕ} {sum : Float} {k : ℕ} (o : Own cols vals from to size v sum k) (h : k < to) (a : to ≤ length cols) (b : to ≤ length vals) where
-  pub own_takes : (d : Float) → get_or cols k 0 / size ≡ v → Own cols vals from to size v (sum +ᶠ squared (get_or vals k d)) (k + 1)
-  unfolding foldl
-  own_takes d e =
-      let x : Entry = record { col = get_or cols k 0; value = get_or vals k nan } in
-      let j : k < length vals = omega arith in
-      record {
-        upto = omega arith;
-        goes = rw (get_d_any vals k d nan j) (ap (foldl (λ s x. s +ᶠ x) sum) (sym (ap (squares_in size v) (stored_cons cols vals k to h a b) ∙ squares_yes size v x (stored cols vals (k + 1) to) (eq-eqb (x.col / size) v e))) ∙ o.goes);
-      }
+  pub own_first : Own zeroᶠ 0
+  unfolding total
+  own_first = refl
 
-  pub own_skips : (get_or cols k 0 / size ≡ v → ⊥) → Own cols vals from to size v sum (k + 1)
-  own_skips e =
-      let x : Entry = record { col = get_or cols k 0; value = get_or vals k nan } in
-      record {
-        upto = omega arith;
-        goes = ap (foldl (λ s x. s +ᶠ x) sum) (sym (ap (squares_in size v) (stored_cons cols vals k to h a b) ∙ squares_no size v x (stored cols vals (k + 1) to) (ne_eqb (x.col / size) v e))) ∙ o.goes;
-      }
+  module _ (sum : Float) (k : ℕ) (o : Own sum k) (h : k < length cols) (i : k < length vals) where
+    pub own_takes : (x : Float) → x ≡ get_or vals k nan → get_or cols k 0 / size ≡ v → Own (sum +ᶠ squared x) (k + 1)
+    own_takes x q e =
+        let y : Entry = record { col = get_or cols k 0; value = get_or vals k nan } in
+        rw q (ap (foldl (λ s x. s +ᶠ x) sum) (sym (ap (squares_in size v) (paired_cons cols vals k h i) ∙ squares_yes size v y (paired (drop (k + 1) cols) (drop (k + 1) vals)) (eq-eqb (y.col / size) v e))) ∙ o)
 
-pub own_done : {cols : List ℕ} {vals : List Float} {from to size v : ℕ} {sum : Float} {k : ℕ} → Own cols vals from to size v sum k → to ≤ k → sum ≡ total (squares_in size v (stored cols vals from to))
-unfolding foldl squares_in values_where keep
-own_done {cols} {vals} {from} {to} {size} {v} {sum} {k} o h = rw (stored_none cols vals k to h) at o.goes
+    pub own_skips : (get_or cols k 0 / size ≡ v → ⊥) → Own sum (k + 1)
+    own_skips e =
+        let y : Entry = record { col = get_or cols k 0; value = get_or vals k nan } in
+        ap (foldl (λ s x. s +ᶠ x) sum) (sym (ap (squares_in size v) (paired_cons cols vals k h i) ∙ squares_no size v y (paired (drop (k + 1) cols) (drop (k + 1) vals)) (ne_eqb (y.col / size) v e))) ∙ o
+
+  pub own_done : (sum : Float) (k : ℕ) → Own sum k → length cols ≤ k → sum ≡ total (squares_in size v (paired cols vals))
+  unfolding squares_in values_where keep
+  own_done sum k o h = rw (paired_none cols vals k h) at o

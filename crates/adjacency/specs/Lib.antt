@@ -4,6 +4,7 @@ pub mod Collect
 pub mod Strengths
 pub mod WellFormed
 pub mod Lists
+pub mod Blocks
 pub mod Norms
 pub mod Lined
 pub mod Flat

@@ -1,5 +1,5 @@
--- The strengths of a node's links, as the loops make them in one list of floats: the sums of squares from 0 on, the diagonal norms from `nodes` on, the strengths from 2 · nodes on.
-use Rattle.std.specs.Prelude.{◌≡◌, Bool, true, false, not, List, [], ◌∷◌, map, ℕ, ◌+◌, ◌*◌, ◌/◌, eqb, get_or, set, Float}
+-- The strengths of a node's links, as the loops make them from the sums of squares and the diagonal norms.
+use Rattle.std.specs.Prelude.{◌≡◌, Bool, true, false, not, List, [], ◌∷◌, map, ℕ, ◌/◌, eqb, get_or, set, Float}
 use Rattle.std.specs.Float.{nan, inf, fin}
 use Rattle.definitions.specs.Numbers.{◌+ᶠ◌, ◌*ᶠ◌, ◌/ᶠ◌, rootᶠ, zeroᶠ, squared}
 use Rattle.definitions.specs.Matrix.{Entry, values_where}
@@ -31,6 +31,6 @@ weighed size (e ∷ es) l = weighed size es (set l (e.col / size) (get_or l (e.c
 unfoldable pub strong_of : Float → Float → Float → Float
 strong_of sum p q = let d = rootᶠ (p *ᶠ q) in elim (divides d) [ true ↦ rootᶠ sum /ᶠ d | false ↦ rootᶠ sum ]
 
-unfoldable pub measured : ℕ → ℕ → List ℕ → List Float → List Float
-measured nodes v [] l = l
-measured nodes v (w ∷ ws) l = measured nodes v ws (set l (2 * nodes + w) (strong_of (get_or l w nan) (get_or l (nodes + v) nan) (get_or l (nodes + w) nan)))
+unfoldable pub measured : ℕ → List ℕ → List Float → List Float → List Float → List Float
+measured v [] sums norms l = l
+measured v (w ∷ ws) sums norms l = measured v ws sums norms (set l w (strong_of (get_or sums w nan) (get_or norms v nan) (get_or norms w nan)))

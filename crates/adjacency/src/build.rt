@@ -2,131 +2,64 @@
 ghost use Rattle.std.specs.Prelude.{◌≡◌, ◌++◌, ◌+◌, ◌*◌, ◌≤◌, length, replicate};
 ghost use Rattle.definitions.specs.Numbers.{zeroᶠ};
 ghost use Rattle.definitions.specs.Lists.{padded};
-ghost use Rattle.definitions.specs.Matrix.{csr};
 ghost use Rattle.definitions.specs.Neighbours.{flat_neighbours};
+ghost use Rattle.adjacency.specs.Blocks.{matrix, lists_of};
 ghost use Rattle.adjacency.specs.Flat.{flat_of};
-ghost use Rattle.adjacency.specs.WellFormed.{WellFormed};
 ghost use Rattle.adjacency.specs.Within.{compares};
-ghost use Rattle.adjacency.specs.Lists.{Between, list_of};
 
+use super::blocks::Blocks;
 use super::graph::all_lists;
-use super::norms::norms;
+use super::norms::fill_norms;
 use definitions::TwoLevelAggregation;
 
-// Clears the stamps and the floats, and makes the diagonal norms if strengths are wanted.
-fn ready(
-    strong: bool,
-    row_ptr: &[u32],
-    col_idx: &[u32],
-    values: &[f64],
-    size: u32,
-    nodes: usize,
-    work: &mut [u32],
-    floats: &mut [f64],
-    table: &root::StartTable,
-)
-    requires well_formed { WellFormed strong nodes size row_ptr.now col_idx.now values.now }
-    requires nodes_in_bounds { (2 * nodes ≤ length work.old) × (3 * nodes ≤ length floats.old) }
-    ensures { let a = csr (nodes * size) (nodes * size) row_ptr.now col_idx.now values.now in
-        Between strong a size nodes 0 work.new floats.new }
-{
-    numbers::zero_ints(&mut work[..nodes]);
-    numbers::zero_floats(floats);
-    if strong {
-        norms(row_ptr, col_idx, values, size, nodes, floats, table);
-    }
-}
-
-// Builds the lists, by strength if that is wanted, and clears what stands before and behind them.
+// The lists, by strength if that is wanted, from the start of `lists` on, and zeros behind them.
 fn linked(
-    strong: bool,
-    row_ptr: &[u32],
-    col_idx: &[u32],
-    values: &[f64],
-    size: u32,
-    nodes: usize,
-    base: usize,
-    work: &mut [u32],
+    a: &Blocks<'_>,
+    stamps: &mut [u32],
+    room: &mut [u32],
+    lists: &mut [u32],
     floats: &mut [f64],
-    table: &root::StartTable,
 )
-    requires well_formed { WellFormed strong nodes size row_ptr.now col_idx.now values.now }
-    requires nodes_bound { (2 * nodes ≤ base) × ((base + nodes + 1 + length col_idx.now ≤ length work.old) × (3 * nodes ≤ length floats.old)) }
-    ensures { let a = csr (nodes * size) (nodes * size) row_ptr.now col_idx.now values.now in
-        work.new ≡ padded 0 (length work.old) (replicate base 0 ++ flat_of (list_of strong a size nodes) nodes) }
+    requires ints_bound { (length stamps.old ≡ a.now.nodes) × (a.now.nodes ≤ length room.old) × (a.now.nodes + 1 + length a.now.col_idx.now ≤ length lists.old) }
+    requires floats_bound { length floats.old ≡ 3 * a.now.nodes }
+    ensures { lists.new ≡ padded 0 (length lists.old) (flat_of (lists_of a.now) a.now.nodes) }
 {
-    ready(
-        strong, row_ptr, col_idx, values, size, nodes, work, floats, table,
-    );
-    let end = all_lists(
-        strong, row_ptr, col_idx, values, size, nodes, base, work, floats, table,
-    );
-    numbers::zero_ints(&mut work[base + end..]);
-    numbers::zero_ints(&mut work[..base]);
-}
-
-// Fills the work list by policy.
-fn fill(
-    aggregation: TwoLevelAggregation,
-    row_ptr: &[u32],
-    col_idx: &[u32],
-    values: &[f64],
-    size: u32,
-    nodes: usize,
-    base: usize,
-    work: &mut [u32],
-    floats: &mut [f64],
-    table: &root::StartTable,
-)
-    requires well_formed { WellFormed (compares aggregation) nodes size row_ptr.now col_idx.now values.now }
-    requires nodes_bound { (2 * nodes ≤ base) × ((base + nodes + 1 + length col_idx.now ≤ length work.old) × (3 * nodes ≤ length floats.old)) }
-    ensures { let a = csr (nodes * size) (nodes * size) row_ptr.now col_idx.now values.now in
-        work.new ≡ padded 0 (length work.old) (replicate base 0 ++ flat_neighbours aggregation a size nodes) }
-{
-    match aggregation {
-        TwoLevelAggregation::Contiguous => numbers::zero_ints(work),
-        TwoLevelAggregation::Graph => linked(
-            false, row_ptr, col_idx, values, size, nodes, base, work, floats, table,
-        ),
-        TwoLevelAggregation::StrongGraph => linked(
-            true, row_ptr, col_idx, values, size, nodes, base, work, floats, table,
-        ),
+    stamps.fill(0);
+    floats.fill(0.0);
+    let (offsets, names) = lists.split_at_mut(a.nodes + 1);
+    let (sums, rest) = floats.split_at_mut(a.nodes);
+    let (norms, strengths) = rest.split_at_mut(a.nodes);
+    let table = root::table();
+    if a.strong {
+        fill_norms(a, norms, &table);
     }
+    let end = all_lists(
+        a, stamps, room, offsets, names, sums, norms, strengths, &table,
+    );
+    names[end..].fill(0);
 }
 
-// Fills the work list, with one table for all roots, and clears the floats, of which the front is used.
+// Fills the work list by policy. What stands before base serves as stamps and as room for sorting, and is cleared after, like the floats.
 pub(crate) fn build(
     aggregation: TwoLevelAggregation,
-    row_ptr: &[u32],
-    col_idx: &[u32],
-    values: &[f64],
-    block_size: usize,
-    nodes: usize,
+    a: &Blocks<'_>,
     base: usize,
     work_ints: &mut [u32],
     work_floats: &mut [f64],
 )
-    requires well_formed { WellFormed (compares aggregation) nodes block_size row_ptr.now col_idx.now values.now }
-    requires nodes_bound { (2 * nodes ≤ base) × ((base + nodes + 1 + length col_idx.now ≤ length work_ints.old) × (3 * nodes ≤ length work_floats.old)) }
-    requires block_size_bound { block_size ≤ 8 }
-    ensures work_ints_after { let a = csr (nodes * block_size) (nodes * block_size) row_ptr.now col_idx.now values.now in
-        work_ints.new ≡ padded 0 (length work_ints.old) (replicate base 0 ++ flat_neighbours aggregation a block_size nodes) }
+    requires strong { a.now.strong ≡ compares aggregation }
+    requires nodes_bound { (2 * a.now.nodes ≤ base) × (base + a.now.nodes + 1 + length a.now.col_idx.now ≤ length work_ints.old) × (3 * a.now.nodes ≤ length work_floats.old) }
+    ensures work_ints_after { work_ints.new ≡ padded 0 (length work_ints.old) (replicate base 0 ++ flat_neighbours aggregation (matrix a.now) a.now.size a.now.nodes) }
     ensures work_floats_after { work_floats.new ≡ replicate (length work_floats.old) zeroᶠ }
 {
-    let size = block_size as u32;
-    let floats = 3 * nodes;
-    let table = root::table();
-    fill(
-        aggregation,
-        row_ptr,
-        col_idx,
-        values,
-        size,
-        nodes,
-        base,
-        work_ints,
-        &mut work_floats[..floats],
-        &table,
-    );
-    numbers::zero_floats(work_floats);
+    match aggregation {
+        TwoLevelAggregation::Contiguous => work_ints.fill(0),
+        TwoLevelAggregation::Graph | TwoLevelAggregation::StrongGraph => {
+            let (front, lists) = work_ints.split_at_mut(base);
+            let (stamps, room) = front.split_at_mut(a.nodes);
+            linked(a, stamps, room, lists, &mut work_floats[..3 * a.nodes]);
+            front.fill(0);
+        }
+    }
+    work_floats.fill(0.0);
 }

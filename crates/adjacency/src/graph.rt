@@ -1,50 +1,43 @@
 // The lists of all nodes, end to end.
-ghost use Rattle.std.specs.Prelude.{◌≡◌, ◌+◌, ◌*◌, ◌^◌, ◌<◌, ◌≤◌, length, set, drop};
-ghost use Rattle.definitions.specs.Matrix.{csr};
-ghost use Rattle.adjacency.specs.WellFormed.{WellFormed};
+ghost use Rattle.std.specs.Prelude.{◌≡◌, ◌+◌, ◌<◌, ◌≤◌, length};
+ghost use Rattle.adjacency.specs.Blocks.{matrix, lists_of};
 ghost use Rattle.adjacency.specs.Lined.{Lined};
-ghost use Rattle.adjacency.specs.Lists.{Between, list_of};
+ghost use Rattle.adjacency.specs.Lists.{Between};
 
+use super::blocks::Blocks;
 use super::node::node_list;
-use numbers::wide;
 
-fn put(work: &mut [u32], i: usize, x: usize)
-    requires { (i < length work.old) × (x < 2 ^ 32) }
-    ensures { work.new ≡ set work.old i x }
-{
-    work[i] = x as u32;
-}
-
-// Puts the offsets at work[base..], the lists behind them, and returns their end, counted from base.
+// Puts the lists at names, and where each starts at offsets, and returns their end. The work lists come one by one: a struct of them would be taken apart at each step.
 pub(crate) fn all_lists(
-    strong: bool,
-    row_ptr: &[u32],
-    col_idx: &[u32],
-    values: &[f64],
-    size: u32,
-    nodes: usize,
-    base: usize,
-    work: &mut [u32],
-    floats: &mut [f64],
+    a: &Blocks<'_>,
+    stamps: &mut [u32],
+    room: &mut [u32],
+    offsets: &mut [u32],
+    names: &mut [u32],
+    sums: &mut [f64],
+    norms: &[f64],
+    strengths: &mut [f64],
     table: &root::StartTable,
 ) -> usize
-    requires well_formed { WellFormed strong nodes size row_ptr.now col_idx.now values.now }
-    requires between { Between strong (csr (nodes * size) (nodes * size) row_ptr.now col_idx.now values.now) size nodes 0 work.old floats.old }
-    requires nodes_bound { (2 * nodes ≤ base) × (base + nodes + 1 + length col_idx.now ≤ length work.old) }
-    ensures { let a = csr (nodes * size) (nodes * size) row_ptr.now col_idx.now values.now in
-        Lined (list_of strong a size nodes) nodes nodes result (drop base work.new) }
+    requires between { Between a.now.strong (matrix a.now) a.now.size a.now.nodes 0 stamps.old sums.old norms.now strengths.old }
+    requires lengths { (a.now.nodes ≤ length room.old) × (length offsets.old ≡ a.now.nodes + 1) × (length a.now.col_idx.now ≤ length names.old) }
+    ensures { Lined (lists_of a.now) a.now.nodes result offsets.new names.new }
 {
-    let first = nodes + 1;
-    put(work, base, 0);
-    let mut at = first;
-    let mut v: u32 = 0;
-    while wide(v) < nodes {
-        let count = node_list(
-            strong, row_ptr, col_idx, values, size, v, nodes, base, work, floats, at, table,
+    offsets[0] = 0;
+    let mut end = 0;
+    for v in 0..a.nodes {
+        end += node_list(
+            a,
+            v,
+            stamps,
+            room,
+            &mut names[end..],
+            sums,
+            norms,
+            strengths,
+            table,
         );
-        at += count;
-        v += 1;
-        put(work, base + wide(v), at - first);
+        offsets[v + 1] = end as u32;
     }
-    at
+    end
 }

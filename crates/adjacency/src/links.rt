@@ -1,56 +1,40 @@
 // The nodes that a node's entries name.
-ghost use Rattle.std.specs.Prelude.{◌≡◌, ◌++◌, ◌+◌, ◌-◌, ◌/◌, ◌<◌, ◌≤◌, length, get_or, take, drop};
-ghost use Rattle.adjacency.specs.Collect.{gather, marked, nodes_in, Inside, Low, reciprocal_of};
+ghost use Rattle.std.specs.Prelude.{◌≡◌, ◌*◌, ◌/◌, ◌^◌, ◌<◌, ◌≤◌, length, take};
+ghost use Rattle.adjacency.specs.Collect.{gather, marked, nodes_in, reciprocal_of};
 
-use numbers::wide;
+use super::entries::Entries;
 
 // 2^32 / size, rounded up: a product with it tells a column's node without a division.
 pub(crate) fn reciprocal_of(size: u32) -> usize
     requires { 0 < size }
     ensures { result ≡ reciprocal_of size }
 {
-    wide(0xffff_ffff / size) + 1
+    (0xffff_ffff / size) as usize + 1
 }
 
-pub(crate) fn node_of(col_idx: &[u32], k: usize, size: u32, reciprocal: usize) -> u32
-    requires { (k < length col_idx.now) × ((0 < size) × (Low size col_idx.now × (reciprocal ≡ reciprocal_of size))) }
-    ensures { result ≡ get_or col_idx.now k 0 / size }
+pub(crate) fn node_of(column: u32, size: u32, reciprocal: usize) -> usize
+    requires { (0 < size) × (column * size < 2 ^ 32) × (reciprocal ≡ reciprocal_of size) }
+    ensures { result ≡ column / size }
 {
-    ((wide(col_idx[k]) * reciprocal) >> 32) as u32
+    (column as usize * reciprocal) >> 32
 }
 
-// Puts the nodes that col_idx[from..to] names and that don't bear the stamp at work[base + at..], each once, stamps them, and returns their end.
-pub(crate) fn collect(
-    col_idx: &[u32],
-    from: usize,
-    to: usize,
-    size: u32,
-    stamp: u32,
-    nodes: usize,
-    base: usize,
-    work: &mut [u32],
-    at: usize,
-) -> usize
-    requires from_le_to { (from ≤ to) × ((to ≤ length col_idx.now) × ((0 < size) × (Low size col_idx.now × (base + at + (to - from) ≤ length work.old)))) }
-    requires nodes_le_base { nodes ≤ base }
-    requires inside { Inside nodes size col_idx.now }
-    ensures value { result ≡ at + length (gather stamp (take nodes work.old) (nodes_in size from to col_idx.now)) }
-    ensures work_after { let names = nodes_in size from to col_idx.now in
-        take result (drop base work.new) ≡ take at (drop base work.old) ++ gather stamp (take nodes work.old) names }
-    ensures work_after_2 { take nodes work.new ≡ marked stamp (take nodes work.old) (nodes_in size from to col_idx.now) }
+// Puts the nodes that the entries name and that don't bear the stamp at the front of names, each once, stamps them, and returns how many.
+pub(crate) fn collect(e: &Entries<'_>, stamp: u32, stamps: &mut [u32], names: &mut [u32]) -> usize
+    requires { (length stamps.old ≡ e.now.nodes) × (e.now.nodes < 2 ^ 32) × (length e.now.col_idx.now ≤ length names.old) }
+    ensures value { result ≡ length (gather stamp stamps.old (nodes_in e.now.size e.now.col_idx.now)) }
+    ensures names_after { take result names.new ≡ gather stamp stamps.old (nodes_in e.now.size e.now.col_idx.now) }
+    ensures stamps_after { stamps.new ≡ marked stamp stamps.old (nodes_in e.now.size e.now.col_idx.now) }
 {
-    let reciprocal = reciprocal_of(size);
-    let mut end = at;
-    let mut k = from;
-    while k < to {
-        let w = node_of(col_idx, k, size, reciprocal);
-        let i = wide(w);
-        if work[i] != stamp {
-            work[i] = stamp;
-            work[base + end] = w;
-            end += 1;
+    let reciprocal = reciprocal_of(e.size);
+    let mut count = 0;
+    for column in e.col_idx {
+        let w = node_of(*column, e.size, reciprocal);
+        if stamps[w] != stamp {
+            stamps[w] = stamp;
+            names[count] = w as u32;
+            count += 1;
         }
-        k += 1;
     }
-    end
+    count
 }

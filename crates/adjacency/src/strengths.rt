@@ -1,12 +1,11 @@
-// The strengths of a node's links. The list of floats holds the sums of squares from 0 on, the diagonal norms from `nodes` on, the strengths from 2 * nodes on.
-ghost use Rattle.std.specs.Prelude.{◌≡◌, ◌*◌, ◌<◌, ◌≤◌, length};
-ghost use Rattle.adjacency.specs.Collect.{Inside, Low};
-ghost use Rattle.adjacency.specs.Lists.{weights};
+// The strengths of a node's links.
+ghost use Rattle.std.specs.Prelude.{◌≡◌, ◌<◌, ◌≤◌, length};
 ghost use Rattle.laws.specs.Bounds.{Below};
-ghost use Rattle.adjacency.specs.Strengths.{strong_of, measured};
+ghost use Rattle.adjacency.specs.Collect.{paired};
+ghost use Rattle.adjacency.specs.Strengths.{cleared, weighed, strong_of, measured};
 
+use super::entries::Entries;
 use super::sums::{clear, weigh};
-use numbers::wide;
 use root::root_by;
 
 // From the sum of squares towards a node, and both nodes' diagonal norms: undivided where the divisor is zero or not finite.
@@ -15,58 +14,32 @@ fn strength(sum: f64, p: f64, q: f64, table: &root::StartTable) -> f64
 {
     let norm = root_by(table, sum);
     let d = root_by(table, p * q);
-    if numbers::finite(d) {
-        if 0.0 < d {
-            return norm / d;
-        }
-    }
-    norm
-}
-
-// The strengths of node v towards the listed nodes.
-fn measure(list: &[u32], v: usize, nodes: usize, floats: &mut [f64], table: &root::StartTable)
-    requires v_lt_nodes { (v < nodes) × (3 * nodes ≤ length floats.old) }
-    requires below { Below nodes list.now }
-    ensures { floats.new ≡ measured nodes v list.now floats.old }
-{
-    let own = nodes + v;
-    let mut k: usize = 0;
-    while k < list.len() {
-        let w = wide(list[k]);
-        let other = nodes + w;
-        let sum = floats[w];
-        let p = floats[own];
-        let q = floats[other];
-        let x = strength(sum, p, q, table);
-        let at = nodes + other;
-        floats[at] = x;
-        k += 1;
+    if numbers::finite(d) && 0.0 < d {
+        norm / d
+    } else {
+        norm
     }
 }
 
-// The strengths of node v, whose entries are those from `from` up to `to`, if they are wanted.
-pub(crate) fn strengths(
-    wanted: bool,
-    col_idx: &[u32],
-    values: &[f64],
-    from: usize,
-    to: usize,
-    size: u32,
-    v: u32,
-    nodes: usize,
+// The strengths of node v, whose entries are e, towards the listed nodes.
+pub(crate) fn measure(
+    e: &Entries<'_>,
+    v: usize,
     list: &[u32],
-    floats: &mut [f64],
+    sums: &mut [f64],
+    norms: &[f64],
+    strengths: &mut [f64],
     table: &root::StartTable,
 )
-    requires from_le_to { (from ≤ to) × ((to ≤ length col_idx.now) × ((to ≤ length values.now) × ((0 < size) × Low size col_idx.now))) }
-    requires v_lt_nodes { (v < nodes) × (3 * nodes ≤ length floats.old) }
-    requires inside { Inside nodes size col_idx.now }
-    requires below { Below nodes list.now }
-    ensures { floats.new ≡ weights wanted nodes size v from to col_idx.now values.now list.now floats.old }
+    requires lengths { (length sums.old ≡ e.now.nodes) × (length norms.now ≡ e.now.nodes) × (length strengths.old ≡ e.now.nodes) }
+    requires below { (v < e.now.nodes) × Below e.now.nodes list.now }
+    ensures sums_after { sums.new ≡ weighed e.now.size (paired e.now.col_idx.now e.now.values.now) (cleared list.now sums.old) }
+    ensures strengths_after { strengths.new ≡ measured v list.now sums.new norms.now strengths.old }
 {
-    if wanted {
-        clear(list, floats);
-        weigh(col_idx, values, from, to, size, floats);
-        measure(list, wide(v), nodes, floats, table);
+    clear(list, sums);
+    weigh(e, sums);
+    for w in list {
+        let w = *w as usize;
+        strengths[w] = strength(sums[w], norms[v], norms[w], table);
     }
 }

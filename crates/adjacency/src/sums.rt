@@ -1,65 +1,44 @@
-// Sums of squares towards nodes. The list of floats holds the sum towards node w at w.
-ghost use Rattle.std.specs.Prelude.{◌≡◌, ◌<◌, ◌≤◌, length};
-ghost use Rattle.definitions.specs.Matrix.{stored};
+// Sums of squares towards nodes. The list of sums holds the sum towards node w at w.
+ghost use Rattle.std.specs.Prelude.{◌≡◌, length};
 ghost use Rattle.definitions.specs.Numbers.{total};
-ghost use Rattle.adjacency.specs.Collect.{Inside, Low};
 ghost use Rattle.laws.specs.Bounds.{Below};
+ghost use Rattle.adjacency.specs.Collect.{paired};
 ghost use Rattle.adjacency.specs.Strengths.{cleared, weighed, squares_in};
 
+use super::entries::Entries;
 use super::links::{node_of, reciprocal_of};
-use numbers::wide;
 
 // Sets the sums of the listed nodes to zero.
 pub(crate) fn clear(list: &[u32], sums: &mut [f64])
     requires { Below (length sums.old) list.now }
     ensures { sums.new ≡ cleared list.now sums.old }
 {
-    let mut k: usize = 0;
-    while k < list.len() {
-        let w = wide(list[k]);
-        sums[w] = 0.0;
-        k += 1;
+    for w in list {
+        sums[*w as usize] = 0.0;
     }
 }
 
-// Adds the squares of values[from..to] to the sums of the nodes that they stand towards.
-pub(crate) fn weigh(
-    col_idx: &[u32],
-    values: &[f64],
-    from: usize,
-    to: usize,
-    size: u32,
-    sums: &mut [f64],
-)
-    requires from_le_to { (from ≤ to) × ((to ≤ length col_idx.now) × ((to ≤ length values.now) × ((0 < size) × Low size col_idx.now))) }
-    requires inside { Inside (length sums.old) size col_idx.now }
-    ensures { sums.new ≡ weighed size (stored col_idx.now values.now from to) sums.old }
+// Adds the squares of the values to the sums of the nodes that they stand towards.
+pub(crate) fn weigh(e: &Entries<'_>, sums: &mut [f64])
+    requires { length sums.old ≡ e.now.nodes }
+    ensures { sums.new ≡ weighed e.now.size (paired e.now.col_idx.now e.now.values.now) sums.old }
 {
-    let reciprocal = reciprocal_of(size);
-    let mut k = from;
-    while k < to {
-        let w = wide(node_of(col_idx, k, size, reciprocal));
-        let x = values[k];
-        let old = sums[w];
-        sums[w] = old + x * x;
-        k += 1;
+    let reciprocal = reciprocal_of(e.size);
+    for (column, x) in e.col_idx.iter().zip(e.values) {
+        sums[node_of(*column, e.size, reciprocal)] += *x * *x;
     }
 }
 
-// The sum of the squares of those of values[from..to] that stand towards node v.
-pub(crate) fn own(col_idx: &[u32], values: &[f64], from: usize, to: usize, size: u32, v: u32) -> f64
-    requires { (from ≤ to) × ((to ≤ length col_idx.now) × ((to ≤ length values.now) × ((0 < size) × Low size col_idx.now))) }
-    ensures { result ≡ total (squares_in size v (stored col_idx.now values.now from to)) }
+// The sum of the squares of those values that stand towards node v.
+pub(crate) fn own(e: &Entries<'_>, v: usize) -> f64
+    ensures { result ≡ total (squares_in e.now.size v (paired e.now.col_idx.now e.now.values.now)) }
 {
-    let reciprocal = reciprocal_of(size);
+    let reciprocal = reciprocal_of(e.size);
     let mut sum = 0.0;
-    let mut k = from;
-    while k < to {
-        if node_of(col_idx, k, size, reciprocal) == v {
-            let x = values[k];
-            sum += x * x;
+    for (column, x) in e.col_idx.iter().zip(e.values) {
+        if node_of(*column, e.size, reciprocal) == v {
+            sum += *x * *x;
         }
-        k += 1;
     }
     sum
 }

@@ -1,0 +1,11 @@
+-- The matrix that the definitions speak of, and the list of each node.
+use Rattle.std.specs.Prelude.{List, ℕ, ◌*◌}
+use Rattle.definitions.specs.Matrix.{Matrix, csr}
+use Rattle.adjacency.specs.Lists.{list_of}
+use Rattle.adjacency.specs.declared.blocks.Blocks.{Blocks}
+
+abbrev pub matrix : Blocks → Matrix
+matrix a = csr (a.nodes * a.size) (a.nodes * a.size) a.row_ptr.now a.col_idx.now a.values.now
+
+abbrev pub lists_of : Blocks → ℕ → List ℕ
+lists_of a v = list_of a.strong (matrix a) a.size a.nodes v
