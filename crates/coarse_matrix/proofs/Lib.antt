@@ -1,5 +1,5 @@
 pub mod Squares
-pub mod Checks
+pub mod Causes
 pub mod Marking
 pub mod Weighing
 pub mod Product

@@ -1,10 +1,9 @@
 -- Scattering into a square matrix.
-use Prim.Native.Nat.{ℕ, suc, ◌+◌, ◌-◌, ◌*◌, ◌<◌, ◌≤◌}
+use Prim.Native.Nat.{ℕ, suc, ◌+◌, ◌*◌, ◌<◌, ◌≤◌}
 use mathlib.Core.Path.{◌≡◌, refl, ap, sym, ◌∙◌}
 use mathlib.Core.Bool.{Bool, true, false}
 use mathlib.Core.List.{List, [], ◌∷◌, ◌++◌, flat_map, zip_with}
 use native.Mathlib.Omega.{arith}
-use native.Mathlib.Nat.{mul-le-mul_right}
 use native.Mathlib.Numerals.{add-one}
 use lib.Dec.{eqb}
 use lib.ListN.{length, get_or, take, drop, replicate, length-append, length-drop, length-replicate, get_or-replicate}
@@ -93,19 +92,18 @@ module _ (n c : ℕ) (ptr idx : List ℕ) (vals : List Float) (column : ℕ → 
       in_row r = each_stored (λ k. column k < c) idx vals (get_or ptr r 0) (get_or ptr (suc r) 0) within
 
   -- averaged, with zeros after it
-  pub constant_law : (w z l u v : List Float) → c ≤ 2_048 → c * c ≤ length w → z ≡ replicate (length w) zeroᶠ → l ≡ scattered (row_puts column c (row_of ptr idx vals)) n (take (c * c - 0) z)
-      → u ≡ l ++ drop (c * c - 0) z → v ≡ result_left zeroᶠ (average_call c u) u → v ≡ padded zeroᶠ (length w) (averaged_square c (square c (constant_entry (csr n n ptr idx vals) column)))
+  pub constant_law : (w z l u v : List Float) → c ≤ 2_048 → c * c ≤ length w → z ≡ replicate (length w) zeroᶠ → l ≡ scattered (row_puts column c (row_of ptr idx vals)) n (take (c * c) z)
+      → u ≡ l ++ drop (c * c) z → v ≡ result_left zeroᶠ (average_call c u) u → v ≡ padded zeroᶠ (length w) (averaged_square c (square c (constant_entry (csr n n ptr idx vals) column)))
   unfolding constant_entry
   constant_law w z l u v h k ez el eu ev =
-      let q : c * c - 0 ≡ c * c = omega arith in
-      let tz : take (c * c - 0) z ≡ replicate (c * c) zeroᶠ = rw (q, ez) (take_zeros (c * c) (length w) zeroᶠ k) in
+      let tz : take (c * c) z ≡ replicate (c * c) zeroᶠ = rw ez (take_zeros (c * c) (length w) zeroᶠ k) in
       let el' : l ≡ scattered (row_puts column c (row_of ptr idx vals)) n (replicate (c * c) zeroᶠ) = el ∙ rw tz in
       let nl : length l ≡ c * c = ap length el' ∙ length_scattered (row_puts column c (row_of ptr idx vals)) (replicate (c * c) zeroᶠ) n ∙ length-replicate (c * c) zeroᶠ in
       let all : take (c * c) l ≡ l = take_all (c * c) l (omega arith) in
       let is : l ≡ square c (constant_entry (csr n n ptr idx vals) column) = sym all ∙ rw el' (square_law (row_puts column c (row_of ptr idx vals)) n c (c * c) (constant_entry (csr n n ptr idx vals) column) (omega arith) (λ i j p g. ap total (constant_terms_lem i j g))) in
       let nz : length z ≡ length w = ap length ez ∙ length-replicate (length w) zeroᶠ in
-      let nu : length u ≡ length w = rw eu (rw (length-append l (drop (c * c - 0) z), nl, length-drop (c * c - 0) z) (omega arith)) in
-      let tu : take (c * c) u ≡ l = rw eu (take_at l (drop (c * c - 0) z) (c * c) nl) in
+      let nu : length u ≡ length w = rw eu (rw (length-append l (drop (c * c) z), nl, length-drop (c * c) z) (omega arith)) in
+      let tu : take (c * c) u ≡ l = rw eu (take_at l (drop (c * c) z) (c * c) nl) in
       ev ∙ average_fits c u h (omega arith) ∙ rw (tu, is, nu)
 
 -- ---- steps of loops over stored entries
@@ -128,9 +126,6 @@ module _ (idx : List ℕ) (vals : List Float) (g : ℕ → ℕ) (to : ℕ) where
   entry_step from k at w l₀ l m h p q inv ew ea em = rw (em, ea, ew) (sym (span_step k l h p q) ∙ inv)
 
 -- ---- steps of the loop over rows
-
-pub row_fits : (x c : ℕ) → x < c → x * c + c ≤ c * c
-row_fits x c h = omega (arith, mul-le-mul_right c h)
 
 pub row_stored : {n w m : ℕ} {ptr idx : List ℕ} (i from to : ℕ) → Compressed n w ptr idx m → i < n → from ≡ get_or ptr i 0 → to ≡ get_or ptr (i + 1) 0 → (from ≤ to) × (to ≤ m)
 row_stored i from to h l ef et =

@@ -6,7 +6,7 @@ use mathlib.Core.List.{List, [], ◌∷◌, ◌++◌}
 use native.Mathlib.Numerals.{add-one}
 use native.Mathlib.Omega.{arith}
 use lib.ListN.{length, get_or, take, length-append}
-use lib.Seq.{take-suc, take-length}
+use lib.Seq.{take-suc}
 use lib.Ieee.{Float, nan, ne}
 use Rattle.definitions.specs.Numbers.{zeroᶠ, nonzeros}
 use Rattle.laws.proofs.Kept.{keep_nil, keep_yes, keep_no, keep_append, keep_length}
@@ -32,6 +32,3 @@ module _ (m : List Float) (k : ℕ) {n : ℕ} (h : k < length m) (e : n ≡ nonz
   unfolding nonzeros
   nonzeros_same t =
       rw (e, next, keep_append (λ x. ne x zeroᶠ) (take k m) (get_or m k nan ∷ []), length-append, keep_no (λ x. ne x zeroᶠ) (get_or m k nan) [] t, keep_nil (λ x. ne x zeroᶠ)) (omega arith)
-
-pub nonzeros_all : (m : List Float) (k : ℕ) {n : ℕ} → k ≡ length m → n ≡ nonzeros (take k m) → n ≡ nonzeros m
-nonzeros_all m k e es = rw (e, take-length m) at es

@@ -1,5 +1,5 @@
 -- The calls on the coarse matrix: each with its checks in order, over the lengths of the lists lent.
-use Rattle.std.specs.Prelude.{ℕ, ◌+◌, ◌*◌, ◌/◌, ◌%◌, ◌<◌, ◌≤◌, ◌≡◌, Bool, false, not, ◌&&◌, List, leb, eqb, length, get_or, Float}
+use Rattle.std.specs.Prelude.{ℕ, ◌+◌, ◌*◌, ◌/◌, ◌%◌, Bool, not, ◌&&◌, List, leb, eqb, length, get_or, Float}
 use Rattle.definitions.specs.Lists.{square, any, falls}
 use Rattle.definitions.specs.Refusal.{Outcome, done, Checked, require, ◌>>=◌}
 use Rattle.definitions.specs.Matrix.{Matrix, max_rows, structure_of, row_of}
@@ -8,7 +8,6 @@ use Rattle.definitions.specs.Transfer.{coarse_column}
 use Rattle.definitions.specs.Coarse.{constant_entry, galerkin_entry, averaged_square}
 use Rattle.definitions.specs.declared.Refusal.TheVariants.{TooLarge, NotSquare, BlockSize, NotMultiple, CoarseTooLarge, CoarseListTooShort, SetupMisfit}
 use Rattle.definitions.specs.Setup.{max_coarse}
-use Rattle.laws.specs.Bounds.{Compressed}
 
 -- ---- the basis that is constant over a group
 
@@ -33,16 +32,6 @@ unfoldable pub constant_coarse_call : Matrix → ℕ → List ℕ → ℕ → �
 constant_coarse_call a size ids groups lent =
     constant_checked a size ids groups lent >>= (λ _. done (averaged_square (groups * size) (square (groups * size) (constant_entry a (coarse_column size ids)))))
 
--- what those checks leave
-pub record ConstantFacts (rows cols size : ℕ) (ids : List ℕ) (groups lent : ℕ) : Type 0 where
-  pub same : rows ≡ cols
-  pub some : 0 < size
-  pub whole : rows % size ≡ 0
-  pub small : groups * size ≤ max_coarse
-  pub nodes : length ids ≡ rows / size
-  pub below : any (λ g. leb groups g) ids ≡ false
-  pub room : groups * size * (groups * size) ≤ lent
-
 -- ---- the smoothed basis
 
 -- compressed rows with columns below c; their numbers may be any
@@ -65,11 +54,3 @@ galerkin_checked a c ptr idx count ints floats = structure_of a >>= (λ _. galer
 unfoldable pub galerkin_coarse_call : Matrix → ℕ → List ℕ → List ℕ → List Float → ℕ → ℕ → Outcome (List Float)
 galerkin_coarse_call a c ptr idx weights ints floats =
     galerkin_checked a c ptr idx (length weights) ints floats >>= (λ _. done (averaged_square c (square c (galerkin_entry a (row_of ptr idx weights)))))
-
--- what those checks leave
-pub record GalerkinFacts (rows cols c : ℕ) (ptr idx : List ℕ) (count ints floats : ℕ) : Type 0 where
-  pub same : rows ≡ cols
-  pub small : c ≤ max_coarse
-  pub walk : Compressed rows c ptr idx count
-  pub ints_room : 2 * c ≤ ints
-  pub floats_room : c * c + c ≤ floats

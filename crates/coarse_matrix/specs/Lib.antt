@@ -1,3 +1,4 @@
 pub mod Scatter
 pub mod Calls
 pub mod Galerkin
+pub mod Accepted

@@ -1,102 +1,52 @@
 // The coarse matrix of the basis that is constant over a group.
-ghost use Rattle.std.specs.Prelude.{◌≡◌, ◌+◌, ◌*◌, ◌/◌, ◌<◌, ◌≤◌, ◌^◌, length};
-ghost use Rattle.definitions.specs.Lists.{square, padded};
+ghost use Rattle.std.specs.Prelude.{◌≡◌, ◌+◌, ◌*◌, ◌<◌, ◌≤◌, length, get_or};
+ghost use Rattle.definitions.specs.Lists.{square as square_of, padded};
 ghost use Rattle.definitions.specs.Numbers.{zeroᶠ};
 ghost use Rattle.definitions.specs.Transfer.{coarse_column};
-ghost use Rattle.definitions.specs.Matrix.{row_of, csr, stored};
+ghost use Rattle.definitions.specs.Matrix.{row_of, stored};
 ghost use Rattle.definitions.specs.Coarse.{constant_entry, averaged_square};
-ghost use Rattle.laws.specs.Bounds.{Grouped, Compressed, Below};
-ghost use Rattle.laws.specs.Scatter.{put, bump, scattered, scatter};
+ghost use Rattle.csr32.specs.Seen.{square};
+ghost use Rattle.laws.specs.Scatter.{scattered, scatter};
 ghost use Rattle.coarse_matrix.specs.Scatter.{moved, row_puts};
 
+use crate::grouped::GroupedMatrix;
 use averaging::average;
-use numbers::{wide, zero_floats};
 
-// The coarse column of a row.
-fn coarse_of(ids: &[u32], size: usize, row: usize) -> usize
-    requires { (0 < size) × (row / size < length ids.now) × (coarse_column size ids.now row < 2 ^ 32) }
-    ensures { result ≡ coarse_column size ids.now row }
+// The entries of row r, added into the row of a matrix that begins at base: each at base + the coarse column of its column.
+fn add_entries(m: &GroupedMatrix<'_>, r: usize, base: usize, coarse: &mut [f64])
+    requires { (r < m.now.a.rows) × (base + m.now.groups.coarse ≤ length coarse.old) }
+    ensures { let a = m.now.a in
+        let entries = stored a.col_idx.now a.values.now (get_or a.row_ptr.now r 0) (get_or a.row_ptr.now (r + 1) 0) in
+        coarse.new ≡ scatter (moved (λ k. base + coarse_column m.now.groups.size m.now.groups.ids.now k) entries) coarse.old }
 {
-    let node = numbers::quotient(row, size);
-    wide(ids[node]) * size + (row - node * size)
-}
-
-pub(crate) fn add_at(l: &mut [f64], at: usize, x: f64)
-    requires { at < length l.old }
-    ensures { l.new ≡ bump l.old (put at x) }
-{
-    l[at] += x;
-}
-
-// The entries from..to, added into the row of a matrix that begins at base: each at base + the coarse column of its column.
-fn add_entries(
-    idx: &[u32],
-    vals: &[f64],
-    ids: &[u32],
-    size: usize,
-    cols: usize,
-    c: usize,
-    from: usize,
-    to: usize,
-    base: usize,
-    coarse: &mut [f64],
-)
-    requires from_le_to { (from ≤ to) × (to ≤ length vals.now) × (length idx.now ≡ length vals.now) × (base + c ≤ length coarse.old) }
-    requires below { Below cols idx.now }
-    requires grouped { Grouped size ids.now cols c }
-    ensures { coarse.new ≡ scatter (moved (λ k. base + coarse_column size ids.now k) (stored idx.now vals.now from to)) coarse.old }
-{
+    let from = m.a.row_ptr[r] as usize;
+    let to = m.a.row_ptr[r + 1] as usize;
     for k in from..to {
-        let at = base + coarse_of(ids, size, wide(idx[k]));
-        add_at(coarse, at, vals[k]);
+        let at = base + m.groups.column_of(m.a.col_idx[k] as usize);
+        coarse[at] += m.a.values[k];
     }
 }
 
-// The same for each row, into a matrix of c columns.
-fn add_matrix(
-    ptr: &[u32],
-    idx: &[u32],
-    vals: &[f64],
-    ids: &[u32],
-    size: usize,
-    n: usize,
-    c: usize,
-    coarse: &mut [f64],
-)
-    requires compressed { Compressed n n ptr.now idx.now (length vals.now) }
-    requires grouped { Grouped size ids.now n c }
-    requires c_in_bounds { c * c ≤ length coarse.old }
-    ensures { let row = row_of ptr.now idx.now vals.now in
-        coarse.new ≡ scattered (row_puts (coarse_column size ids.now) c row) n coarse.old }
+// The same for each row.
+fn add_matrix(m: &GroupedMatrix<'_>, coarse: &mut [f64])
+    requires { m.now.groups.coarse * m.now.groups.coarse ≤ length coarse.old }
+    ensures { let row = row_of m.now.a.row_ptr.now m.now.a.col_idx.now m.now.a.values.now in
+        coarse.new ≡ scattered (row_puts (coarse_column m.now.groups.size m.now.groups.ids.now) m.now.groups.coarse row) m.now.a.rows coarse.old }
 {
-    for r in 0..n {
-        let at = coarse_of(ids, size, r);
-        let from = wide(ptr[r]);
-        let to = wide(ptr[r + 1]);
-        add_entries(idx, vals, ids, size, n, c, from, to, at * c, coarse);
+    for r in 0..m.a.rows {
+        let at = m.groups.column_of(r);
+        add_entries(m, r, at * m.groups.coarse, coarse);
     }
 }
 
 // The coarse matrix, averaged, with zeros after it.
-pub(crate) fn constant_into(
-    ptr: &[u32],
-    idx: &[u32],
-    vals: &[f64],
-    ids: &[u32],
-    size: usize,
-    n: usize,
-    c: usize,
-    coarse: &mut [f64],
-)
-    requires compressed { Compressed n n ptr.now idx.now (length vals.now) }
-    requires grouped { Grouped size ids.now n c }
-    requires c_in_bounds { c * c ≤ length coarse.old }
-    ensures { let a = csr n n ptr.now idx.now vals.now in
-        coarse.new ≡ padded zeroᶠ (length coarse.old) (averaged_square c (square c (constant_entry a (coarse_column size ids.now)))) }
+pub(crate) fn constant_into(m: &GroupedMatrix<'_>, coarse: &mut [f64])
+    requires { m.now.groups.coarse * m.now.groups.coarse ≤ length coarse.old }
+    ensures { let c = m.now.groups.coarse in
+        coarse.new ≡ padded zeroᶠ (length coarse.old) (averaged_square c (square_of c (constant_entry (square m.now.a) (coarse_column m.now.groups.size m.now.groups.ids.now)))) }
 {
-    zero_floats(coarse);
-    let from = 0;
-    let square = c * c;
-    add_matrix(ptr, idx, vals, ids, size, n, c, &mut coarse[from..square]);
-    average(c, coarse);
+    let c = m.groups.coarse;
+    coarse.fill(0.0);
+    add_matrix(m, &mut coarse[..c * c]);
+    let _ = average(c, coarse);
 }

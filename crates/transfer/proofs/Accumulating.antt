@@ -2,20 +2,23 @@
 use Prim.Native.Nat.{ℕ, ◌+◌, ◌<◌, ◌≤◌}
 use mathlib.Core.Path.{◌≡◌, refl, ap, sym, ◌∙◌}
 use mathlib.Core.Bool.{Bool, true, false, cond}
-use mathlib.Core.List.{List, [], ◌∷◌, map, foldl, zip_with}
+use mathlib.Core.List.{List, [], ◌∷◌, ◌++◌, map, foldl, zip_with}
 use native.Mathlib.Omega.{arith}
 use native.Mathlib.Numerals.{add-one}
 use lib.Dec.{eqb}
-use lib.ListN.{length, get_or, set, length-set}
-use lib.Seq.{slice, slice-cons, slice_empty, length-slice, get_or-set_same, get_or-set_other}
+use lib.ListN.{length, get_or, set, take, drop, length-set}
+use lib.Seq.{length-take-le, take-take, slice, slice-cons, slice_empty, length-slice, get_or-set_same, get_or-set_other}
 use lib.Ieee.{Float, nan}
 use borrow.Author.Tests.{eq-eqb, ne_eqb, eqb-true, eqb-false}
 use Rattle.definitions.specs.Lists.{any}
 use Rattle.definitions.specs.Numbers.{◌-ᶠ◌, ◌*ᶠ◌, zeroᶠ, oneᶠ, reduced}
 use Rattle.definitions.specs.Matrix.{Entry, values_where, stored}
 use Rattle.csr32.proofs.Stored.{where_hit, where_miss, where_none}
-use Rattle.transfer.specs.Touched.{Rising, insert_once, insert_all, named}
-use Rattle.transfer.specs.Weights.{lower, smoothing, fresh, accumulated, RowWeights}
+use Rattle.transfer.specs.Touched.{Rising, insert_once, named}
+use Rattle.transfer.proofs.Steps.{insert_all}
+use Rattle.transfer.specs.Weights.{RowWeights}
+use Rattle.transfer.proofs.Steps.{lower, smoothing, fresh, accumulated}
+use Rattle.transfer.proofs.Inserting.{new_many}
 use Rattle.transfer.proofs.Weighing.{minus, lower_hit, lower_miss, taken}
 use Rattle.transfer.proofs.Ascending.{has, has_insert, rising_insert, insert_old, insert_more}
 
@@ -126,3 +129,25 @@ module _ (idx : List ℕ) (vals : List Float) (column : ℕ → ℕ) (damping in
   pub onward_done : (t : List ℕ) (w : List Float) → onward to t w ≡ w
   unfolding accumulated zip_with
   onward_done t w = rw (slice_empty to idx)
+
+-- ---- one entry's column among the first n of t, and its weight
+
+pub record Joined (x n : ℕ) (t : List ℕ) (w : List Float) (n' : ℕ) (t' : List ℕ) (w' : List Float) : Type 0 where
+  pub front : take n' t' ≡ insert_once x (take n t)
+  pub many : n' ≡ length (insert_once x (take n t))
+  pub clear : w' ≡ fresh n n' x w
+
+module _ (x n : ℕ) (t : List ℕ) (w : List Float) (n' : ℕ) (t' : List ℕ) (w' : List Float) (h : n ≤ length t) where
+  pub joined_old : insert_once x (take n t) ≡ take n t → n' ≡ n → t' ≡ t → w' ≡ w → Joined x n t w n' t' w'
+  joined_old e en et ew = record {
+    front = rw (en, et, e);
+    many = rw (en, e) (sym (length-take-le n t h));
+    clear = ew ∙ sym (fresh_old n n' x w en);
+  }
+
+  pub joined_new : (p : ℕ) → p ≤ n → insert_once x (take n t) ≡ take p (take n t) ++ (x ∷ drop p (take n t)) → take (n + 1) t' ≡ take p t ++ (x ∷ slice p n t) → n' ≡ n + 1 → w' ≡ set w x zeroᶠ → Joined x n t w n' t' w'
+  joined_new p hp e et en ew = record {
+    front = rw (en, et, e, take-take p n t hp);
+    many = rw (en, new_many x (take n t) p e, length-take-le n t h);
+    clear = ew ∙ sym (fresh_new n n' x w (λ q. omega (arith, en)));
+  }

@@ -1,7 +1,8 @@
+mod Steps
+mod Slices
 mod Inserting
 mod Passes
 mod Spreading
-mod Copying
 mod Ascending
 mod Visiting
 mod Weighing

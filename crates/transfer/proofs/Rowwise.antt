@@ -17,10 +17,10 @@ use Rattle.csr32.specs.Rows.{Rows}
 use Rattle.definitions.specs.Transfer.{coarse_column, tentative, smoothing_terms, weight_at, transfer_row}
 use Rattle.laws.proofs.Kept.{keep_yes, keep_no, keep_nil, keep_length}
 use Rattle.laws.specs.Bounds.{Grouped, Below}
-use Rattle.transfer.specs.Touched.{named, Visited, Gathered}
-use Rattle.transfer.specs.Weights.{RowWeights, counts, Parted}
+use Rattle.transfer.specs.Touched.{named, Visited}
+use Rattle.transfer.specs.Weights.{RowWeights, counts, Weighed}
 use Rattle.transfer.proofs.Spreading.{asc, up_to_asc, also}
-use Rattle.transfer.proofs.Visiting.{also_all, named_misses, named_count, named_below, asc_below}
+use Rattle.transfer.proofs.Visiting.{also_all, named_misses, named_count, named_below}
 use Rattle.transfer.proofs.Weighing.{where_unnamed}
 
 -- ---- keeping twice, over columns below c
@@ -155,15 +155,9 @@ module _ (a : Matrix) (d : List Float) (damping : Float) (size : ℕ) (ids : Lis
           seen j h p true e = weight_is j h e
           seen j h p false e = let z = sym p ∙ unstays j (v.misses j e) in cc
 
-      -- the row in its two lists
-      pub parted : (t' : List ℕ) (m : ℕ) → Gathered t' m (keep (counts w) (take r t)) → m ≤ length t' → Parted c (transfer_row a d damping size ids c i) t' w m
-      parted t' m g q = record {
-        columns = g.front ∙ kept_columns ∙ sym row_columns;
-        many = g.many ∙ ap length kept_columns ∙ sym row_length;
-        room = q;
-        inside = rw (g.front ∙ kept_columns, up_to_asc) (asc_below stays c c 0 (omega arith));
-        values = rw row_columns kept_weights ∙ sym row_values;
-      }
+      -- the row, as it is stored
+      pub kept : (keep (counts w) (take r t) ≡ map (λ (e : Entry). e.col) (transfer_row a d damping size ids c i)) × (map (λ j. get_or w j nan) (keep (counts w) (take r t)) ≡ map (λ (e : Entry). e.value) (transfer_row a d damping size ids c i))
+      kept = (kept_columns ∙ sym row_columns, ap (map (λ j. get_or w j nan)) kept_columns ∙ kept_weights ∙ sym row_values)
 
 -- ---- a row of compressed rows
 
@@ -176,16 +170,16 @@ module _ (rows : ℕ) (ptr idx : List ℕ) (vals : List Float) (h : Rows (csr ro
   entries_are = rw (ef, et, add-one)
 
   module _ (d : List Float) (damping : Float) (size : ℕ) (ids : List ℕ) (c own : ℕ) (eo : own ≡ coarse_column size ids i) where
-    pub row_done : (t₁ t₂ : List ℕ) (n m : ℕ) (w₁ : List Float) → Visited (own ∷ named (coarse_column size ids) (slice from to idx)) c t₁ n → length w₁ ≡ c
-        → RowWeights (coarse_column size ids) damping (oneᶠ /ᶠ get_or d i nan) own (stored idx vals from to) (take n t₁) w₁ → Gathered t₂ m (keep (counts w₁) (take n t₁)) → m ≤ length t₂
-        → Parted c (transfer_row (csr rows rows ptr idx vals) d damping size ids c i) t₂ w₁ m
-    row_done t₁ t₂ n m w₁ v lw ew g q =
-        parted (csr rows rows ptr idx vals) d damping size ids c i from to entries_are t₁ n (rw eo at v) w₁ lw (rw eo at ew) t₂ m g q
-
     pub row_fits : Grouped size ids rows c → length (transfer_row (csr rows rows ptr idx vals) d damping size ids c i) ≤ suc (to - from)
     row_fits g =
         row_bound (csr rows rows ptr idx vals) d damping size ids c i from to entries_are (g.within i l)
         (named_below (coarse_column size ids) rows c from to idx h.within g.within (omega (arith, span, h.same))) span.0 (omega (arith, span, h.same))
+
+-- what is stored of the columns visited is the row
+pub row_kept : (a : Matrix) (d : List Float) (damping : Float) (size : ℕ) (ids : List ℕ) (c i : ℕ) (t : List ℕ) (w : List Float) (n : ℕ) → Weighed a d damping size ids c i t w n → length w ≡ c
+    → (keep (counts w) (take n t) ≡ map (λ (e : Entry). e.col) (transfer_row a d damping size ids c i)) × (map (λ j. get_or w j nan) (keep (counts w) (take n t)) ≡ map (λ (e : Entry). e.value) (transfer_row a d damping size ids c i))
+unfolding entries_of row_of
+row_kept a d damping size ids c i t w n v l = kept a d damping size ids c i (get_or a.row_ptr i 0) (get_or a.row_ptr (i + 1) 0) (rw add-one) t n v.visited w l v.weights
 
 -- the weights of the rows up to i are at most i and the entries of these rows
 pub room_law : (rows : ℕ) (ptr idx : List ℕ) (vals : List Float) → Rows (csr rows rows ptr idx vals) → (i at : ℕ) → i < rows → at ≤ i + get_or ptr i 0
@@ -195,3 +189,10 @@ room_law rows ptr idx vals h i at l q d damping size ids c g n en =
     let f = row_fits rows ptr idx vals h i (get_or ptr i 0) (get_or ptr (i + 1) 0) l refl refl d damping size ids c (coarse_column size ids i) refl g in
     let s = span rows ptr idx vals h i (get_or ptr i 0) (get_or ptr (i + 1) 0) l refl refl in
     (omega (arith, f, s, en), omega (arith, f, s, en))
+
+pub row_room : (rows : ℕ) (ptr idx : List ℕ) (vals : List Float) → Rows (csr rows rows ptr idx vals) → (i at : ℕ) → i < rows → at ≤ i + get_or ptr i 0
+    → (d : List Float) (damping : Float) (size : ℕ) (ids : List ℕ) (c : ℕ) → Grouped size ids rows c → (t : List ℕ) (w : List Float) (n : ℕ) → Weighed (csr rows rows ptr idx vals) d damping size ids c i t w n → length w ≡ c
+    → (at + length (keep (counts w) (take n t)) ≤ i + 1 + get_or ptr (i + 1) 0) × (at + length (keep (counts w) (take n t)) ≤ rows + length vals)
+row_room rows ptr idx vals h i at l q d damping size ids c g t w n v lw =
+    let k = row_kept (csr rows rows ptr idx vals) d damping size ids c i t w n v lw in
+    room_law rows ptr idx vals h i at l q d damping size ids c g (length (keep (counts w) (take n t))) (ap length k.0 ∙ length-map (transfer_row (csr rows rows ptr idx vals) d damping size ids c i) (λ (e : Entry). e.col))

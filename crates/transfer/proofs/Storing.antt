@@ -1,68 +1,56 @@
--- The rows one behind the other: columns behind the pointers, weights from the start of their list.
-use Prim.Native.Nat.{ℕ, zero, suc, ◌+◌, ◌-◌, ◌<◌, ◌≤◌}
+-- The rows one behind the other.
+use Prim.Native.Nat.{ℕ, zero, suc, ◌+◌, ◌<◌, ◌≤◌}
 use mathlib.Core.Path.{◌≡◌, refl, ap, sym, ◌∙◌}
-use mathlib.Core.List.{List, [], ◌∷◌, ◌++◌, map, flat_map, map-append}
+use mathlib.Core.List.{List, [], ◌∷◌, ◌++◌, map, flat_map, map-append, append_assoc, append-nil}
 use native.Mathlib.Omega.{arith}
 use native.Mathlib.Numerals.{add-one}
-use lib.ListN.{length, get_or, set, take, drop, length-append, length-take, length-drop, get_or-append, length-map}
-use lib.Seq.{length-take-le, take-take, drop_at, take-append-le, drop-append-le, take-suc-set, drop-set-lt, take-add}
+use lib.ListN.{length, get_or, set, take, drop, length-append, length-map, take-append-drop}
+use lib.Seq.{take-suc, take-length, take-suc-set}
 use lib.Ieee.{Float, nan}
-use Rattle.definitions.specs.Lists.{tab, between, pointers_from, joined_lists}
+use Rattle.definitions.specs.Lists.{tab, keep, pointers_from, joined_lists}
+use Rattle.laws.proofs.Kept.{keep_append, keep_yes, keep_no, keep_nil}
+use mathlib.Core.Bool.{Bool, true, false}
 use Rattle.definitions.specs.Matrix.{Entry}
 use Rattle.laws.proofs.Lists.{tab_cong}
 use Rattle.laws.proofs.Growing.{tab_snoc, flat_map_snoc}
-use Rattle.laws.specs.Bounds.{Below}
-use Rattle.transfer.specs.Weights.{Parted, Put, Built}
+use Rattle.transfer.specs.Weights.{counts, Stored, Built}
 
--- ---- parts
+-- ---- a row, column by column
 
-pub part_slice : {A : Type 0} (a e : ℕ) (w : List A) → between a e w ≡ drop a (take e w)
-part_slice zero e w = let z : e - 0 ≡ e = omega arith in rw z
-part_slice (suc a) zero w = let z : 0 - suc a ≡ 0 = omega arith in rw z
-part_slice (suc a) (suc e) [] = none (suc e - suc a)
-  where
-    none : {A : Type 0} (n : ℕ) → ◌≡◌ {A = List A} (take n []) []
-    none zero = refl
-    none (suc n) = refl
-part_slice (suc a) (suc e) (x ∷ w) = let z : suc e - suc a ≡ e - a = omega arith in rw z (part_slice a e w)
+module _ (f : ℕ → Bool) (t : List ℕ) (k : ℕ) (l : k < length t) where
+  kept_hit : f (get_or t k 0) ≡ true → keep f (take (k + 1) t) ≡ keep f (take k t) ++ (get_or t k 0 ∷ [])
+  kept_hit h = rw (add-one k, take-suc t k 0 l, keep_append f (take k t) (get_or t k 0 ∷ []), keep_yes f (get_or t k 0) [] h, keep_nil f)
 
--- a list with its middle put anew
-module _ {A : Type 0} (first : ℕ) (l t post : List A) (h : first ≤ length l) where
-  pub mid_front : (n : ℕ) → n ≤ first → take n (take first l ++ (t ++ post)) ≡ take n l
-  mid_front n q = take-append-le n (take first l) (t ++ post) (rw (length-take-le first l h) q) ∙ take-take n first l q
+  kept_miss : f (get_or t k 0) ≡ false → keep f (take (k + 1) t) ≡ keep f (take k t)
+  kept_miss h = rw (add-one k, take-suc t k 0 l, keep_append f (take k t) (get_or t k 0 ∷ []), keep_no f (get_or t k 0) [] h, keep_nil f, append-nil)
 
-  pub mid_drop : drop first (take first l ++ (t ++ post)) ≡ t ++ post
-  mid_drop = drop_at (take first l) (t ++ post) first (length-take-le first l h)
+  pub kept_room : f (get_or t k 0) ≡ true → length (keep f (take k t)) < length (keep f t)
+  kept_room h =
+      let whole : keep f t ≡ keep f (take (k + 1) t) ++ keep f (drop (k + 1) t) = ap (keep f) (sym (take-append-drop (k + 1) t)) ∙ keep_append f (take (k + 1) t) (drop (k + 1) t) in
+      rw (whole, kept_hit h) (omega (arith, length-append (keep f (take k t) ++ (get_or t k 0 ∷ [])) (keep f (drop (k + 1) t)), length-append (keep f (take k t)) (get_or t k 0 ∷ [])))
 
-  pub mid_part : (n : ℕ) → n ≤ length t → between first (first + n) (take first l ++ (t ++ post)) ≡ take n t
-  mid_part n q = let z : first + n - first ≡ n = omega arith in rw (z, mid_drop) (take-append-le n t post q)
-
-pub read_front : (c : ℕ) (w post : List Float) (js : List ℕ) → c ≤ length w → Below c js → map (λ j. get_or (w ++ post) j nan) js ≡ map (λ j. get_or w j nan) js
-read_front c w post [] l b = refl
-read_front c w post (j ∷ js) l b =
-    let h : j < length w = omega (arith, b zero (omega arith)) in
-    rw (get_or-append w post nan j h, read_front c w post js l (λ k q. b (suc k) (omega arith)))
-
--- ---- one row more
-
-module _ (c : ℕ) (row : List Entry) (first base cols at n : ℕ) (l₀ t pt l₂ : List ℕ) (f₀ w pf f₂ : List Float) (p : Parted c row t w n) (lt : length t ≡ c) (lw : length w ≡ c) (hl : first ≤ length l₀) (hf : base ≤ length f₀) (hc : cols + at ≤ first) (ha : at ≤ base)
-    (el : take (cols + at + n) l₂ ≡ take (cols + at) (take first l₀ ++ (t ++ pt)) ++ between first (first + n) (take first l₀ ++ (t ++ pt)))
-    (ef : take (at + length (between first (first + n) (take first l₀ ++ (t ++ pt)))) f₂ ≡ take at (take base f₀ ++ (w ++ pf)) ++ map (λ j. get_or (drop base (take base f₀ ++ (w ++ pf))) j nan) (between first (first + n) (take first l₀ ++ (t ++ pt)))) where
-  columns_are : between first (first + n) (take first l₀ ++ (t ++ pt)) ≡ map (λ (e : Entry). e.col) row
-  columns_are = mid_part first l₀ t pt hl n p.room ∙ p.columns
-
-  pub row_put : Put cols row at l₀ l₂ f₀ f₂ (at + n)
-  row_put = record {
-    columns = let z : cols + (at + n) ≡ cols + at + n = omega arith in rw z (el ∙ rw (mid_front first l₀ t pt hl (cols + at) hc, columns_are));
-    weights =
-        let m : length (between first (first + n) (take first l₀ ++ (t ++ pt))) ≡ n = ap length columns_are ∙ length-map row (λ (e : Entry). e.col) ∙ sym p.many in
-        let g = rw (m, columns_are, mid_front base f₀ w pf hf at ha, mid_drop base f₀ w pf hf) at ef in
-        g ∙ ap (λ q. take at f₀ ++ q) (read_front c w pf (map (λ (e : Entry). e.col) row) (omega arith) (rw p.columns at p.inside) ∙ p.values);
-    many = ap (λ k. at + k) p.many;
+module _ (w : List Float) (at : ℕ) (columns₀ : List ℕ) (weights₀ : List Float) where
+  pub stored_none : (t : List ℕ) → Stored (take 0 t) w at columns₀ columns₀ weights₀ weights₀ at
+  stored_none t = record {
+    columns_after = rw (keep_nil (counts w), append-nil);
+    weights_after = rw (keep_nil (counts w), append-nil);
+    many = rw (keep_nil (counts w)) (omega arith);
   }
 
-pub length_part : {A : Type 0} (a k : ℕ) (w : List A) → a + k ≤ length w → length (between a (a + k) w) ≡ k
-length_part a k w h = length-take (a + k - a) (drop a w) ∙ rw (length-drop a w) (omega arith)
+  module _ (t : List ℕ) (k : ℕ) (l : k < length t) (columns : List ℕ) (weights : List Float) (r : ℕ) (s : Stored (take k t) w at columns₀ columns weights₀ weights r) where
+    pub stored_hit : counts w (get_or t k 0) ≡ true → r < length columns → r < length weights
+        → Stored (take (k + 1) t) w at columns₀ (set columns r (get_or t k 0)) weights₀ (set weights r (get_or w (get_or t k 0) nan)) (r + 1)
+    stored_hit h hc hw = record {
+      columns_after = rw (kept_hit (counts w) t k l h, add-one r, take-suc-set columns r (get_or t k 0) hc, s.columns_after, append_assoc (take at columns₀) (keep (counts w) (take k t)) (get_or t k 0 ∷ []));
+      weights_after = rw (kept_hit (counts w) t k l h, add-one r, take-suc-set weights r (get_or w (get_or t k 0) nan) hw, s.weights_after, map-append (λ j. get_or w j nan) (keep (counts w) (take k t)) (get_or t k 0 ∷ []), append_assoc (take at weights₀) (map (λ j. get_or w j nan) (keep (counts w) (take k t))) (get_or w (get_or t k 0) nan ∷ []));
+      many = rw (kept_hit (counts w) t k l h) (omega (arith, s.many, length-append (keep (counts w) (take k t)) (get_or t k 0 ∷ [])));
+    }
+
+    pub stored_miss : counts w (get_or t k 0) ≡ false → Stored (take (k + 1) t) w at columns₀ columns weights₀ weights r
+    stored_miss h = let e = kept_miss (counts w) t k l h in record { columns_after = rw e s.columns_after; weights_after = rw e s.weights_after; many = rw e s.many }
+
+    pub stored_room : counts w (get_or t k 0) ≡ true → r < at + length (keep (counts w) t)
+    stored_room h = omega (arith, s.many, kept_room (counts w) t k l h)
 
 -- ---- all rows
 
@@ -105,54 +93,35 @@ pub pointers_law : (f : ℕ → List Entry) (n : ℕ) → tab (λ k. length (bef
 pointers_law f n = rw (add-one n) (tab_cong (λ k. length (before f k)) (λ k. 0 + length (before f k)) (suc n) (λ k _. omega arith) ∙ pointers_tab f n 0)
 
 -- what stands in the lists when i rows are put
-pub record Rowed (f : ℕ → List Entry) (cols i at : ℕ) (ints : List ℕ) (floats : List Float) : Type 0 where
+pub record Rowed (f : ℕ → List Entry) (i at : ℕ) (pointers columns : List ℕ) (weights : List Float) : Type 0 where
   pub many : at ≡ length (before f i)
-  pub pointers : take (i + 1) ints ≡ tab (λ k. length (before f k)) (i + 1)
-  pub columns : between cols (cols + at) ints ≡ map (λ (e : Entry). e.col) (before f i)
-  pub weights : take at floats ≡ map (λ (e : Entry). e.value) (before f i)
+  pub starts : take (i + 1) pointers ≡ tab (λ k. length (before f k)) (i + 1)
+  pub names : take at columns ≡ map (λ (e : Entry). e.col) (before f i)
+  pub numbers : take at weights ≡ map (λ (e : Entry). e.value) (before f i)
 
-pub rowed_none : (f : ℕ → List Entry) (cols : ℕ) (ints : List ℕ) (floats : List Float) → 0 < length ints → Rowed f cols 0 0 (set ints 0 0) floats
+pub rowed_none : (f : ℕ → List Entry) (pointers columns : List ℕ) (weights : List Float) → 0 < length pointers → Rowed f 0 0 (set pointers 0 0) columns weights
 unfolding tab flat_map
-rowed_none f cols [] floats h = absurd (omega arith)
-rowed_none f cols (x ∷ ints) floats h = record {
-  many = refl;
-  pointers = refl;
-  columns = let z : cols + 0 - cols ≡ 0 = omega arith in rw z;
-  weights = refl;
-}
+rowed_none f [] columns weights h = absurd (omega arith)
+rowed_none f (x ∷ pointers) columns weights h = record { many = refl; starts = refl; names = refl; numbers = refl }
 
-module _ (f : ℕ → List Entry) (cols i at r : ℕ) (ints₀ ints : List ℕ) (floats₀ floats : List Float) (q : Rowed f cols i at ints₀ floats₀) (p : Put cols (f i) at ints₀ ints floats₀ floats r)
-    (h : i + 1 < cols) (room : cols + at ≤ length ints₀) (hr : i + 1 < length ints) where
-  pub rowed_more : Rowed f cols (i + 1) r (set ints (i + 1) r) floats
+module _ (f : ℕ → List Entry) (i at r : ℕ) (pointers columns₀ columns : List ℕ) (weights₀ weights : List Float) (q : Rowed f i at pointers columns₀ weights₀)
+    (t : List ℕ) (w : List Float) (s : Stored t w at columns₀ columns weights₀ weights r) (ec : keep (counts w) t ≡ map (λ (e : Entry). e.col) (f i)) (ew : map (λ j. get_or w j nan) (keep (counts w) t) ≡ map (λ (e : Entry). e.value) (f i)) (h : i + 1 < length pointers) where
+  ends : r ≡ length (before f (i + 1))
+  ends = s.many ∙ ap (λ l. at + length l) ec ∙ ap (λ k. at + k) (length-map (f i) (λ (e : Entry). e.col)) ∙ sym (ap length (before_more f i) ∙ length-append (before f i) (f i) ∙ ap (λ k. k + length (f i)) (sym q.many))
+
+  pub rowed_more : Rowed f (i + 1) r (set pointers (i + 1) r) columns weights
   rowed_more = record {
-    many = p.many ∙ sym (ap length (before_more f i) ∙ length-append (before f i) (f i) ∙ ap (λ k. k + length (f i)) (sym q.many));
-    pointers =
-        rw (add-one (i + 1)) (take-suc-set ints (i + 1) r hr ∙ rw (tab_snoc (λ k. length (before f k)) (i + 1), front, ends));
-    columns =
-        ap (λ l. take (cols + r - cols) l) (drop-set-lt cols ints (i + 1) r h)
-        ∙ part_slice cols (cols + r) ints ∙ ap (λ l. drop cols l) p.columns ∙ drop-append-le cols (take (cols + at) ints₀) (map (λ (e : Entry). e.col) (f i)) (rw (length-take-le (cols + at) ints₀ room) (omega arith))
-        ∙ ap (λ l. l ++ map (λ (e : Entry). e.col) (f i)) (sym (part_slice cols (cols + at) ints₀) ∙ q.columns)
-        ∙ sym (ap (map (λ (e : Entry). e.col)) (before_more f i) ∙ map-append (λ (e : Entry). e.col) (before f i) (f i));
-    weights =
-        p.weights ∙ ap (λ l. l ++ map (λ (e : Entry). e.value) (f i)) q.weights
-        ∙ sym (ap (map (λ (e : Entry). e.value)) (before_more f i) ∙ map-append (λ (e : Entry). e.value) (before f i) (f i));
+    many = ends;
+    starts = rw (add-one (i + 1)) (take-suc-set pointers (i + 1) r h ∙ rw (tab_snoc (λ k. length (before f k)) (i + 1), q.starts, ends));
+    names = s.columns_after ∙ rw (ec, q.names, before_more f i, map-append (λ (e : Entry). e.col) (before f i) (f i));
+    numbers = s.weights_after ∙ rw (ew, q.numbers, before_more f i, map-append (λ (e : Entry). e.value) (before f i) (f i));
   }
-    where
-      front : take (i + 1) ints ≡ tab (λ k. length (before f k)) (i + 1)
-      front =
-          sym (take-take (i + 1) (cols + r) ints (omega arith)) ∙ ap (λ l. take (i + 1) l) p.columns
-          ∙ take-append-le (i + 1) (take (cols + at) ints₀) (map (λ (e : Entry). e.col) (f i)) (rw (length-take-le (cols + at) ints₀ room) (omega arith))
-          ∙ take-take (i + 1) (cols + at) ints₀ (omega arith) ∙ q.pointers
 
-      ends : r ≡ length (before f (i + 1))
-      ends = p.many ∙ sym (ap length (before_more f i) ∙ length-append (before f i) (f i) ∙ ap (λ k. k + length (f i)) (sym q.many))
-
-pub rowed_all : (f : ℕ → List Entry) (n at : ℕ) (ints : List ℕ) (floats : List Float) → Rowed f (n + 1) n at ints floats → n + 1 + at ≤ length ints → at ≤ length floats → Built (tab f n) ints floats (n + 1) at
-rowed_all f n at ints floats q h g = record {
-  columns =
-      take-add (n + 1) at ints
-      ∙ rw (q.pointers, pointers_law f n) (ap (λ l. pointers_from 0 (tab f n) ++ l) (let z : n + 1 + at - (n + 1) ≡ at = omega arith in rw z at q.columns));
-  weights = q.weights;
+pub rowed_all : (f : ℕ → List Entry) (n at : ℕ) (pointers columns : List ℕ) (weights : List Float) → Rowed f n at pointers columns weights → length pointers ≡ n + 1 → at ≤ length columns → at ≤ length weights → Built (tab f n) pointers columns weights at
+rowed_all f n at pointers columns weights q l hc hw = record {
+  starts = sym (rw (← l) (take-length pointers)) ∙ q.starts ∙ pointers_law f n;
+  names = q.names;
+  numbers = q.numbers;
   many = q.many;
-  room = (h, g);
+  room = (hc, hw);
 }

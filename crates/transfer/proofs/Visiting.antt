@@ -2,18 +2,20 @@
 use Prim.Native.Nat.{ℕ, zero, suc, ◌+◌, ◌<◌, ◌≤◌}
 use mathlib.Core.Path.{◌≡◌, refl, ap, sym, ◌∙◌}
 use mathlib.Core.Bool.{Bool, true, false}
-use mathlib.Core.List.{List, [], ◌∷◌}
+use mathlib.Core.List.{List, [], ◌∷◌, ◌++◌}
 use native.Mathlib.Omega.{arith}
 use lib.Dec.{ltb, eqb}
-use lib.ListN.{length, get_or, set, take, length-set}
+use lib.ListN.{length, get_or, set, take, drop, length-set}
 use lib.Seq.{slice, take-length, get_or-take, get_or-drop, length-slice}
 use borrow.Author.Tests.{eqb-false, ne_eqb}
-use Rattle.definitions.specs.Lists.{up_to, keep, any}
+use Rattle.definitions.specs.Lists.{tab, up_to, keep, any}
+use Rattle.laws.proofs.Growing.{tab_all}
 use Rattle.laws.proofs.Kept.{keep_yes, keep_no, keep_nil}
 use Rattle.laws.proofs.Tests.{both_false}
 use Rattle.laws.specs.Bounds.{Below}
-use Rattle.transfer.specs.Touched.{insert_once, insert_all, named, Spread, Gathered, Visited}
-use Rattle.transfer.proofs.Spreading.{also, asc, insert_law, up_to_asc, spread_length}
+use Rattle.transfer.specs.Touched.{insert_once, named, Visited}
+use Rattle.transfer.proofs.Steps.{insert_all, Spread, Gathered}
+use Rattle.transfer.proofs.Spreading.{also, asc, insert_law, up_to_asc}
 
 -- tests with the columns of a list added
 abbrev pub also_all : List ℕ → (ℕ → Bool) → ℕ → Bool
@@ -76,6 +78,10 @@ visited_all names c t e l = record {
   misses = λ j q. cc;
 }
 
+pub all_columns : (k c : ℕ) (t t₀ : List ℕ) → k ≡ length t₀ → length t₀ ≡ c → t ≡ tab (λ i. i) k ++ drop k t₀ → t ≡ up_to c
+unfolding up_to
+all_columns k c t t₀ e l h = rw (← l) (tab_all (λ i. i) k t t₀ e h)
+
 -- the coarse columns of a matrix's columns
 map_below : (column : ℕ → ℕ) (c : ℕ) (xs : List ℕ) → ((k : ℕ) → k < length xs → column (get_or xs k 0) < c) → Below c (named column xs)
 map_below column c [] h k q = absurd (omega arith)
@@ -93,11 +99,6 @@ take_one (x ∷ t) own h = refl
 
 pub start_spread : (t : List ℕ) (own : ℕ) → own < length t → Spread (take 1 (set t 0 own)) (length (set t 0 own))
 start_spread t own h = rw (length-set t 0 own, take_one t own (omega arith)) (single_spread own (length t) h)
-
-pub gathered_room : (own c : ℕ) (names t : List ℕ) (r : ℕ) → own < c → Below c names → Gathered t r (insert_all names (own ∷ [])) → r ≤ c
-gathered_room own c names t r h b g =
-    let e = ap (insert_all names) (single own c h) ∙ insert_all_lem (also own (λ _. false)) c names b in
-    rw (g.many, e) (spread_length (keep (also_all names (also own (λ _. false))) (up_to c)) c (record { test = also_all names (also own (λ _. false)); is = refl }))
 
 -- how many they can be
 insert_length : (x : ℕ) (l : List ℕ) → length (insert_once x l) ≤ suc (length l)

@@ -4,7 +4,7 @@ use mathlib.Core.Path.{◌≡◌, refl, ap, sym, ◌∙◌}
 use mathlib.Core.Bool.{Bool, true, false, cond, ◌||◌}
 use mathlib.Core.List.{List, [], ◌∷◌, map, foldl, zip_with}
 use lib.Dec.{eqb}
-use lib.ListN.{length, get_or, set, length-set}
+use lib.ListN.{length, get_or, set, replicate, length-set, length-replicate, get_or-replicate}
 use lib.Seq.{get_or-set_same, get_or-set_other}
 use lib.Ieee.{Float, nan}
 use borrow.Author.Tests.{eqb-true, eqb-false}
@@ -13,35 +13,8 @@ use Rattle.definitions.specs.Numbers.{◌-ᶠ◌, ◌*ᶠ◌, zeroᶠ, oneᶠ, r
 use Rattle.definitions.specs.Matrix.{Entry, values_where}
 use Rattle.csr32.proofs.Stored.{where_hit, where_miss, where_none}
 use Rattle.transfer.specs.Touched.{named}
-use Rattle.transfer.specs.Weights.{zero_at, lower, lowered, smoothing, weighed, RowWeights}
-
--- ---- zeroes
-
-length_zero : (js : List ℕ) (w : List Float) → length (zero_at js w) ≡ length w
-unfolding zero_at
-length_zero [] w = refl
-length_zero (x ∷ js) w = length_zero js (set w x zeroᶠ) ∙ length-set w x zeroᶠ
-
-set_zero : (w : List Float) (x j : ℕ) → j < length w → get_or w j nan ≡ zeroᶠ → get_or (set w x zeroᶠ) j nan ≡ zeroᶠ
-set_zero w x j h e = step (eqb x j) refl
-  where
-    step : (b : Bool) → eqb x j ≡ b → get_or (set w x zeroᶠ) j nan ≡ zeroᶠ
-    step true q = rw (eqb-true x j q) (get_or-set_same w j zeroᶠ nan h)
-    step false q = get_or-set_other w x j zeroᶠ nan (λ r. eqb-false x j q (sym r)) ∙ e
-
-zero_stays : (js : List ℕ) (w : List Float) (j : ℕ) → j < length w → get_or w j nan ≡ zeroᶠ → get_or (zero_at js w) j nan ≡ zeroᶠ
-unfolding zero_at
-zero_stays [] w j h e = e
-zero_stays (x ∷ js) w j h e = zero_stays js (set w x zeroᶠ) j (rw (length-set w x zeroᶠ) h) (set_zero w x j h e)
-
-zero_there : (js : List ℕ) (w : List Float) (j : ℕ) → j < length w → any (λ x. eqb x j) js ≡ true → get_or (zero_at js w) j nan ≡ zeroᶠ
-unfolding zero_at any
-zero_there [] w j h e = cc
-zero_there (x ∷ js) w j h e = step (eqb x j) refl e (zero_there js (set w x zeroᶠ) j (rw (length-set w x zeroᶠ) h))
-  where
-    step : (b : Bool) → eqb x j ≡ b → (eqb x j || any (λ x. eqb x j) js) ≡ true → (any (λ x. eqb x j) js ≡ true → get_or (zero_at js (set w x zeroᶠ)) j nan ≡ zeroᶠ) → get_or (zero_at js (set w x zeroᶠ)) j nan ≡ zeroᶠ
-    step true q e ih = zero_stays js (set w x zeroᶠ) j (rw (length-set w x zeroᶠ) h) (rw (eqb-true x j q) (get_or-set_same w j zeroᶠ nan h))
-    step false q e ih = ih (rw q at e)
+use Rattle.transfer.specs.Weights.{RowWeights}
+use Rattle.transfer.proofs.Steps.{lower, lowered, smoothing}
 
 -- ---- what is taken off
 
@@ -76,23 +49,23 @@ module _ (column : ℕ → ℕ) (damping inv : Float) (j : ℕ) where
       step true q ih = where_hit (λ k. eqb k j) m (smoothing column damping inv es) q ∙ rw (ih, where_hit (λ k. eqb (column k) j) e es q)
       step false q ih = where_miss (λ k. eqb k j) m (smoothing column damping inv es) q ∙ rw (ih, where_miss (λ k. eqb (column k) j) e es q)
 
--- the weight at a column that is visited
-weighed_at : (column : ℕ → ℕ) (damping inv : Float) (own : ℕ) (es : List Entry) (t : List ℕ) (w : List Float) (j : ℕ) → j < length w → any (λ x. eqb x j) t ≡ true
-    → get_or (weighed column damping inv own es t w) j nan ≡ reduced (cond (eqb j own) oneᶠ zeroᶠ) (map (λ v. damping *ᶠ v *ᶠ inv) (values_where (λ k. eqb (column k) j) es))
-unfolding weighed reduced
-weighed_at column damping inv own es t w j h a =
-    lowered_at (smoothing column damping inv es) (set (zero_at t w) own oneᶠ) j (rw (length-set (zero_at t w) own oneᶠ) l)
+-- the weight at any column
+weighed_at : (column : ℕ → ℕ) (damping inv : Float) (own : ℕ) (es : List Entry) (c j : ℕ) → j < c
+    → get_or (lowered (smoothing column damping inv es) (set (replicate c zeroᶠ) own oneᶠ)) j nan ≡ reduced (cond (eqb j own) oneᶠ zeroᶠ) (map (λ v. damping *ᶠ v *ᶠ inv) (values_where (λ k. eqb (column k) j) es))
+unfolding reduced
+weighed_at column damping inv own es c j h =
+    lowered_at (smoothing column damping inv es) (set (replicate c zeroᶠ) own oneᶠ) j (rw (length-set (replicate c zeroᶠ) own oneᶠ) l)
     ∙ rw (taken column damping inv j es, start (eqb j own) refl)
   where
-    l : j < length (zero_at t w)
-    l = rw (length_zero t w) h
+    l : j < length (replicate c zeroᶠ)
+    l = rw (length-replicate c zeroᶠ) h
 
-    start : (b : Bool) → eqb j own ≡ b → get_or (set (zero_at t w) own oneᶠ) j nan ≡ cond (eqb j own) oneᶠ zeroᶠ
-    start true q = let e = eqb-true j own q in rw q (rw (← e) (get_or-set_same (zero_at t w) j oneᶠ nan l))
-    start false q = rw q (get_or-set_other (zero_at t w) own j oneᶠ nan (eqb-false j own q) ∙ zero_there t w j h a)
+    start : (b : Bool) → eqb j own ≡ b → get_or (set (replicate c zeroᶠ) own oneᶠ) j nan ≡ cond (eqb j own) oneᶠ zeroᶠ
+    start true q = let e = eqb-true j own q in rw q (rw (← e) (get_or-set_same (replicate c zeroᶠ) j oneᶠ nan l))
+    start false q = rw q (get_or-set_other (replicate c zeroᶠ) own j oneᶠ nan (eqb-false j own q) ∙ get_or-replicate c j zeroᶠ nan h)
 
-pub weighed_row : (column : ℕ → ℕ) (damping inv : Float) (own : ℕ) (es : List Entry) (t : List ℕ) (w w' : List Float) → w' ≡ weighed column damping inv own es t w → length w' ≡ length w → RowWeights column damping inv own es t w'
-weighed_row column damping inv own es t w w' e l j h a = ap (λ x. get_or x j nan) e ∙ weighed_at column damping inv own es t w j (rw l at h) a
+pub weighed_row : (column : ℕ → ℕ) (damping inv : Float) (own : ℕ) (es : List Entry) (c : ℕ) (t : List ℕ) (w : List Float) → w ≡ lowered (smoothing column damping inv es) (set (replicate c zeroᶠ) own oneᶠ) → length w ≡ c → RowWeights column damping inv own es t w
+weighed_row column damping inv own es c t w e l j h a = ap (λ x. get_or x j nan) e ∙ weighed_at column damping inv own es c j (rw l at h)
 
 -- the weight at a column that the row does not name
 pub where_unnamed : (column : ℕ → ℕ) (j : ℕ) (idx : List ℕ) (vals : List Float) → any (λ x. eqb x j) (named column idx) ≡ false

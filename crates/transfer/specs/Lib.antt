@@ -2,3 +2,4 @@
 pub mod Touched
 pub mod Weights
 pub mod Call
+pub mod Accepted

@@ -1,77 +1,93 @@
-// The checks of the call that follow those of the matrix.
-ghost use Rattle.std.specs.Prelude.{◌≡◌, ◌≤◌};
+// The checks of the call, in their order.
+ghost use Rattle.std.specs.Prelude.{◌≡◌, ◌≤◌, length};
 ghost use Rattle.definitions.specs.Block.{max_block};
 ghost use Rattle.definitions.specs.Matrix.{max_rows, max_entries};
 ghost use Rattle.definitions.specs.Answers.{answer_of};
-ghost use Rattle.transfer.specs.Call.{shape_checked, groups_checked};
+ghost use Rattle.csr32.specs.Seen.{lent};
+ghost use Rattle.transfer.specs.Call.{shape_checked, groups_checked, transfer_checked};
 
-use definitions::{Answer, MAX_BLOCK, MAX_COARSE, Refusal};
+use csr32::Csr;
+use definitions::{MAX_BLOCK, MAX_COARSE, MAX_ROWS, Refusal};
 
-pub(crate) fn shape(
-    rows: usize,
-    cols: usize,
-    entries: usize,
-    size: usize,
-    ints: usize,
-    floats: usize,
-) -> Answer
-    requires { (rows ≤ max_rows) × (entries ≤ max_entries) }
-    ensures { result ≡ answer_of (shape_checked rows cols entries size ints floats) }
+fn shape(a: &Csr<'_>, size: usize, ints: usize, floats: usize) -> Result<(), Refusal>
+    requires { (a.now.rows ≤ max_rows) × (length a.now.values.now ≤ max_entries) }
+    ensures { result ≡ answer_of (shape_checked a.now.rows a.now.cols (length a.now.values.now) size ints floats) }
 {
-    if cols != rows {
-        return Answer::Refused(Refusal::NotSquare);
+    let (rows, entries) = (a.rows, a.values.len());
+    if a.cols != rows {
+        return Err(Refusal::NotSquare);
     }
     if size < 1 {
-        return Answer::Refused(Refusal::BlockSize);
+        return Err(Refusal::BlockSize);
     }
     if MAX_BLOCK < size {
-        return Answer::Refused(Refusal::BlockSize);
+        return Err(Refusal::BlockSize);
     }
     if rows % size != 0 {
-        return Answer::Refused(Refusal::NotMultiple);
+        return Err(Refusal::NotMultiple);
     }
     if ints < 2 * rows + entries + 1 {
-        return Answer::Refused(Refusal::ListTooShort);
+        return Err(Refusal::ListTooShort);
     }
     if floats < rows + entries {
-        return Answer::Refused(Refusal::ListTooShort);
+        return Err(Refusal::ListTooShort);
     }
-    Answer::Accepted
+    Ok(())
 }
 
-pub(crate) fn groups(
-    rows: usize,
-    entries: usize,
+fn groups(
+    a: &Csr<'_>,
     size: usize,
     ids: &[u32],
     count: usize,
     diagonal: usize,
     ints: usize,
     floats: usize,
-) -> Answer
-    requires { (rows ≤ max_rows) × (entries ≤ max_entries) × (1 ≤ size) × (size ≤ max_block) × (count ≤ max_rows) }
-    ensures { result ≡ answer_of (groups_checked rows entries size ids.now count diagonal ints floats) }
+) -> Result<(), Refusal>
+    requires { (a.now.rows ≤ max_rows) × (length a.now.values.now ≤ max_entries) × (1 ≤ size) × (size ≤ max_block) × (count ≤ max_rows) }
+    ensures { result ≡ answer_of (groups_checked a.now.rows (length a.now.values.now) size ids.now count diagonal ints floats) }
 {
+    let (rows, entries) = (a.rows, a.values.len());
     let c = count * size;
     if MAX_COARSE < c {
-        return Answer::Refused(Refusal::CoarseTooLarge(c as u64));
+        return Err(Refusal::CoarseTooLarge(c as u64));
     }
     if ints < 2 * rows + entries + 1 + 2 * c {
-        return Answer::Refused(Refusal::CoarseListTooShort(c as u64));
+        return Err(Refusal::CoarseListTooShort(c as u64));
     }
     if floats < rows + entries + c {
-        return Answer::Refused(Refusal::CoarseListTooShort(c as u64));
+        return Err(Refusal::CoarseListTooShort(c as u64));
     }
     if diagonal != rows {
         let expected = rows as u64;
         let actual = diagonal as u64;
-        return Answer::Refused(Refusal::WrongLength { expected, actual });
+        return Err(Refusal::WrongLength { expected, actual });
     }
     if ids.len() != rows / size {
-        return Answer::Refused(Refusal::SetupMisfit);
+        return Err(Refusal::SetupMisfit);
     }
     if numbers::reaches(ids, count) {
-        return Answer::Refused(Refusal::SetupMisfit);
+        return Err(Refusal::SetupMisfit);
     }
-    Answer::Accepted
+    Ok(())
+}
+
+// All of them: `diagonal`, `ints` and `floats` are the lengths of lists.
+pub(crate) fn check(
+    a: &Csr<'_>,
+    size: usize,
+    ids: &[u32],
+    count: usize,
+    diagonal: usize,
+    ints: usize,
+    floats: usize,
+) -> Result<(), Refusal>
+    ensures { result ≡ answer_of (transfer_checked (lent a.now) size ids.now count diagonal ints floats) }
+{
+    if MAX_ROWS < count {
+        return Err(Refusal::TooLarge);
+    }
+    a.structure()?;
+    shape(a, size, ints, floats)?;
+    groups(a, size, ids, count, diagonal, ints, floats)
 }

@@ -2,94 +2,98 @@
 #![tactic(auto)]
 
 mod checks;
+mod groups; // groups.rt: the coarse columns of a matrix's rows
 mod rows;
-mod short;
-mod stored;
+mod smoothing; // smoothing.rt: what the weights are made of
 mod touched;
 mod weights;
 
-ghost use Rattle.std.specs.Prelude.{◌≡◌, ◌+◌, ◌*◌, ◌≤◌, length};
-ghost use Rattle.definitions.specs.Matrix.{csr};
-ghost use Rattle.definitions.specs.Answers.{answer_of, transfer_answer};
+ghost use Rattle.std.specs.Prelude.{◌≡◌, ◌+◌, ◌*◌, ◌≤◌, length, MatchResult};
+ghost use Rattle.definitions.specs.Answers.{transfer_answer};
+ghost use Rattle.definitions.specs.Refusal.{refused, done};
 ghost use Rattle.definitions.specs.Transfer.{transfer_of};
-ghost use Rattle.csr32.specs.Rows.{Rows};
-ghost use Rattle.laws.specs.Bounds.{Grouped};
+ghost use Rattle.csr32.specs.Seen.{lent, square};
 ghost use Rattle.transfer.specs.Weights.{Left};
 ghost use Rattle.transfer.specs.Call.{transfer_checked, smoothed_transfer_call, transfer_ints, transfer_floats};
+ghost use Rattle.transfer.specs.Accepted.{Accepts};
 
-use causes::{leave_floats, leave_ints};
-use definitions::{Answer, MAX_ROWS, Refusal, TransferAnswer};
+use causes::leave;
+use csr32::{Csr, SquareCsr};
+use definitions::Refusal;
+use groups::Groups;
+use smoothing::Smoothing;
 
-// All checks of the call, in their order.
-fn check(
-    rows: usize,
-    cols: usize,
-    ptr: &[u32],
-    idx: &[u32],
-    vals: &[f64],
+// What an accepted call is about, by all checks in their order; `ints` and `floats` are the lengths of the lists lent.
+fn accepted<'a>(
+    a: &Csr<'a>,
     size: usize,
-    ids: &[u32],
+    ids: &'a [u32],
     groups: usize,
-    diagonal: usize,
+    diagonal: &'a [f64],
+    damping: f64,
     ints: usize,
     floats: usize,
-) -> Answer
-    ensures { result ≡ answer_of (transfer_checked (csr rows cols ptr.now idx.now vals.now) size ids.now groups diagonal ints floats) }
+) -> Result<Smoothing<'a>, Refusal>
+    ensures { let checked = transfer_checked (lent a.now) size ids.now groups (length diagonal.now) ints floats in
+        MatchResult result
+        (λ s. (checked ≡ done tt) × Accepts (lent a.now) size ids.now groups diagonal.now damping ints floats s)
+        (λ cause. checked ≡ refused cause) }
 {
-    if MAX_ROWS < groups {
-        return Answer::Refused(Refusal::TooLarge);
-    }
-    let structured = csr32::structure(rows, cols, ptr, idx, vals);
-    match structured {
-        Answer::Accepted => {
-            let shaped = checks::shape(rows, cols, vals.len(), size, ints, floats);
-            match shaped {
-                Answer::Accepted => {
-                    checks::groups(rows, vals.len(), size, ids, groups, diagonal, ints, floats)
-                }
-                Answer::Refused(cause) => Answer::Refused(cause),
-            }
-        }
-        Answer::Refused(cause) => Answer::Refused(cause),
-    }
+    checks::check(a, size, ids, groups, diagonal.len(), ints, floats)?;
+    let Csr {
+        rows,
+        row_ptr,
+        col_idx,
+        values,
+        ..
+    } = *a;
+    let a = SquareCsr {
+        rows,
+        row_ptr,
+        col_idx,
+        values,
+    };
+    let groups = Groups {
+        rows,
+        size,
+        ids,
+        coarse: groups * size,
+    };
+    Ok(Smoothing {
+        a,
+        groups,
+        diagonal,
+        damping,
+    })
 }
 
 // The transfer, with zeros behind it in both lists; returns how many weights it has.
-fn assemble(
-    rows: usize,
-    ptr: &[u32],
-    idx: &[u32],
-    vals: &[f64],
-    size: usize,
-    ids: &[u32],
-    diagonal: &[f64],
-    damping: f64,
-    c: usize,
-    ints: &mut [u32],
-    floats: &mut [f64],
-) -> usize
-    requires rows { Rows (csr rows rows ptr.now idx.now vals.now) }
-    requires grouped { Grouped size ids.now rows c }
-    requires diagonal_len { (length diagonal.now ≡ rows) × (rows + 1 + (rows + length vals.now) + c ≤ length ints.old) × (rows + length vals.now + c ≤ length floats.old) }
-    ensures { let a = csr rows rows ptr.now idx.now vals.now in
-        Left (transfer_of a diagonal.now damping size ids.now c) result ints.old ints.new floats.old floats.new }
+fn assemble(s: &Smoothing<'_>, ints: &mut [u32], floats: &mut [f64]) -> usize
+    requires { (s.now.a.rows + 1 + (s.now.a.rows + length s.now.a.values.now) + s.now.groups.coarse ≤ length ints.old)
+        × (s.now.a.rows + length s.now.a.values.now + s.now.groups.coarse ≤ length floats.old) }
+    ensures { Left (transfer_of (square s.now.a) s.now.diagonal.now s.now.damping s.now.groups.size s.now.groups.ids.now s.now.groups.coarse) result ints.old ints.new floats.old floats.new }
 {
+    let most = s.a.rows + s.a.values.len();
+    let c = s.groups.coarse;
+    let (pointers, behind) = ints.split_at_mut(s.a.rows + 1);
+    let (columns, touched) = behind.split_at_mut(most);
+    let (weights, sums) = floats.split_at_mut(most);
     let n = rows::build(
-        rows, ptr, idx, vals, size, ids, diagonal, damping, c, ints, floats,
+        s,
+        pointers,
+        columns,
+        weights,
+        &mut touched[..c],
+        &mut sums[..c],
     );
-    let used = rows + 1 + n;
-    numbers::zero_ints(&mut ints[used..]);
-    numbers::zero_floats(&mut floats[n..]);
+    ints[s.a.rows + 1 + n..].fill(0);
+    floats[n..].fill(0.0);
     n
 }
 
 // The smoothed transfer: pointers, then columns, at the front of one list, the weights at the front of the other, zeros behind them.
 pub fn smoothed_transfer(
-    rows: usize,
-    cols: usize,
-    row_ptr: &[u32],
-    col_idx: &[u32],
-    values: &[f64],
+    a: &Csr<'_>,
     block_size: usize,
     ids: &[u32],
     groups: usize,
@@ -97,36 +101,26 @@ pub fn smoothed_transfer(
     damping: f64,
     ints: &mut [u32],
     floats: &mut [f64],
-) -> TransferAnswer
-    ensures { let a = csr rows cols row_ptr.now col_idx.now values.now in
-        let call = smoothed_transfer_call a block_size ids.now groups diagonal.now damping (length ints.old) (length floats.old) in
+) -> Result<u64, Refusal>
+    ensures { let call = smoothed_transfer_call (lent a.now) block_size ids.now groups diagonal.now damping (length ints.old) (length floats.old) in
         (result ≡ transfer_answer call) × ((ints.new ≡ transfer_ints call ints.old) × (floats.new ≡ transfer_floats call floats.old)) }
 {
-    let checked = check(
-        rows,
-        cols,
-        row_ptr,
-        col_idx,
-        values,
+    let accepted = accepted(
+        a,
         block_size,
         ids,
         groups,
-        diagonal.len(),
+        diagonal,
+        damping,
         ints.len(),
         floats.len(),
     );
-    match checked {
-        Answer::Accepted => {
-            let c = groups * block_size;
-            let n = assemble(
-                rows, row_ptr, col_idx, values, block_size, ids, diagonal, damping, c, ints, floats,
-            );
-            TransferAnswer::Count(n as u64)
-        }
-        Answer::Refused(cause) => {
-            leave_ints(cause, ints);
-            leave_floats(cause, floats);
-            TransferAnswer::Refused(cause)
+    match accepted {
+        Ok(s) => Ok(assemble(&s, ints, floats) as u64),
+        Err(cause) => {
+            leave(cause, 0, ints);
+            leave(cause, 0.0, floats);
+            Err(cause)
         }
     }
 }

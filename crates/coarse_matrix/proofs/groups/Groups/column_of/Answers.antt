@@ -1,0 +1,32 @@
+-- The id of the row's node, times the block size, plus the component.
+use native.Mathlib.Omega.{arith}
+use mathlib.Core.Path.{refl}
+use Rattle.laws.proofs.CoarseColumns.{node_rows, column_is, column_from}
+use Rattle.coarse_matrix.proofs.groups.Groups.column_of.Goals as goal
+
+pub bounds-self-node : goal.bounds-self-node
+bounds-self-node c = let s = c.args.self.now in rw c.quotient-node.ensures (s.grouped.known c.args.row c.requires)
+
+pub overflow_mul-result : goal.overflow_mul-result
+overflow_mul-result c =
+    let s = c.args.self.now in
+    omega (arith, s.grouped.within c.args.row c.requires, s.grouped.small, column_from s.size s.ids.now c.args.row _ _ c.quotient-node.ensures refl)
+
+pub overflow_mul-result-2 : goal.overflow_mul-result-2
+overflow_mul-result-2 c = let s = c.args.self.now in omega (arith, node_rows s.size s.ids.now c.args.row _ _ c.quotient-node.ensures refl)
+
+pub overflow_sub-result : goal.overflow_sub-result
+overflow_sub-result c = let s = c.args.self.now in omega (arith, node_rows s.size s.ids.now c.args.row _ _ c.quotient-node.ensures refl)
+
+pub overflow_add-result : goal.overflow_add-result
+overflow_add-result c =
+    let s = c.args.self.now in
+    rw (column_is s.size s.ids.now c.args.row _ _ c.quotient-node.ensures refl) (omega (arith, s.grouped.within c.args.row c.requires, s.grouped.small))
+
+pub returns-clause-value : goal.returns-clause-value
+returns-clause-value c = let s = c.args.self.now in column_is s.size s.ids.now c.args.row _ _ c.quotient-node.ensures refl
+
+pub returns-clause-below : goal.returns-clause-below
+returns-clause-below c =
+    let s = c.args.self.now in
+    rw (column_is s.size s.ids.now c.args.row _ _ c.quotient-node.ensures refl) (s.grouped.within c.args.row c.requires)
