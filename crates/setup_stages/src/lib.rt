@@ -5,7 +5,7 @@ ghost use Rattle.std.specs.Prelude.{◌≡◌, length, take, ◌*◌};
 ghost use Rattle.definitions.specs.Numbers.{zeroᶠ, largest};
 ghost use Rattle.definitions.specs.Refusal.{result_left, work_left};
 ghost use Rattle.definitions.specs.Matrix.{csr};
-ghost use Rattle.definitions.specs.Answers.{answer_of, transfer_answer, factor_answer, answer_number, transfer_number, factor_number};
+ghost use Rattle.definitions.specs.Answers.{answer_of, transfer_answer, factor_answer, answer_number};
 ghost use Rattle.adjacency.specs.Within.{neighbours_within};
 ghost use Rattle.transfer.specs.Call.{smoothed_transfer_call, transfer_ints, transfer_floats};
 ghost use Rattle.coarse_matrix.specs.Calls.{constant_coarse_call, galerkin_coarse_call};
@@ -13,44 +13,19 @@ ghost use Rattle.coarse_factor.specs.Calls.{coarse_factor_call};
 ghost use Rattle.coarse_inverse.specs.Calls.{coarse_inverse_call};
 ghost use Rattle.setup_stages.specs.Policy.{lists_by};
 
-use causes::number_of;
-use definitions::{Answer, FactorAnswer, TransferAnswer, TwoLevelAggregation};
-
-fn number(answer: Answer) -> u64
-    ensures { result ≡ answer_number answer }
-{
-    match answer {
-        Answer::Accepted => 0,
-        Answer::Refused(cause) => number_of(cause),
-    }
-}
-
-fn transfer_number(answer: TransferAnswer) -> u64
-    ensures { result ≡ transfer_number answer }
-{
-    match answer {
-        TransferAnswer::Count(_) => 0,
-        TransferAnswer::Refused(cause) => number_of(cause),
-    }
-}
-
-fn factor_number(answer: FactorAnswer) -> u64
-    ensures { result ≡ factor_number answer }
-{
-    match answer {
-        FactorAnswer::Factored(_) => 0,
-        FactorAnswer::Refused(cause) => number_of(cause),
-    }
-}
+use causes::answer_number;
+use csr32::Csr;
+use definitions::TwoLevelAggregation;
 
 // Which lists a number asks for: 0 Graph's, else StrongGraph's.
+#[tactic(auto, unfolding(crate::specs::Policy::lists_by))]
 fn lists_by(strong: u64) -> TwoLevelAggregation
     ensures { result ≡ lists_by strong }
 {
-    if strong == 0 {
-        return TwoLevelAggregation::Graph;
+    match strong {
+        0 => TwoLevelAggregation::Graph,
+        _ => TwoLevelAggregation::StrongGraph,
     }
-    TwoLevelAggregation::StrongGraph
 }
 
 #[unsafe(no_mangle)]
@@ -70,20 +45,22 @@ pub extern "C" fn yelomawin_bench_neighbours(
         let call = neighbours_within (lists_by strong) a block_size base (length ints.old) (length floats.old) in
         (result ≡ answer_number (answer_of call)) × ((ints.new ≡ result_left 0 call ints.old) × (floats.new ≡ work_left zeroᶠ call floats.old)) }
 {
-    let which = lists_by(strong);
-    let a = adjacency::neighbours(
-        rows as usize,
-        cols as usize,
+    let a = Csr {
+        rows: rows as usize,
+        cols: cols as usize,
         row_ptr,
         col_idx,
         values,
+    };
+    let made = adjacency::neighbours(
+        &a,
         block_size as usize,
-        which,
+        lists_by(strong),
         base as usize,
         ints,
         floats,
     );
-    number(a)
+    answer_number(made)
 }
 
 #[unsafe(no_mangle)]
@@ -103,14 +80,17 @@ pub extern "C" fn yelomawin_bench_transfer(
 ) -> u64
     ensures { let a = csr rows cols row_ptr.now col_idx.now values.now in
         let call = smoothed_transfer_call a block_size ids.now groups diagonal.now damping (length ints.old) (length floats.old) in
-        (result ≡ transfer_number (transfer_answer call)) × ((ints.new ≡ transfer_ints call ints.old) × (floats.new ≡ transfer_floats call floats.old)) }
+        (result ≡ answer_number (transfer_answer call)) × ((ints.new ≡ transfer_ints call ints.old) × (floats.new ≡ transfer_floats call floats.old)) }
 {
-    let a = transfer::smoothed_transfer(
-        rows as usize,
-        cols as usize,
+    let a = Csr {
+        rows: rows as usize,
+        cols: cols as usize,
         row_ptr,
         col_idx,
         values,
+    };
+    let made = transfer::smoothed_transfer(
+        &a,
         block_size as usize,
         ids,
         groups as usize,
@@ -119,7 +99,7 @@ pub extern "C" fn yelomawin_bench_transfer(
         ints,
         floats,
     );
-    transfer_number(a)
+    answer_number(made)
 }
 
 #[unsafe(no_mangle)]
@@ -138,18 +118,21 @@ pub extern "C" fn yelomawin_bench_constant_coarse(
         let call = constant_coarse_call a block_size ids.now groups (length coarse.old) in
         (result ≡ answer_number (answer_of call)) × (coarse.new ≡ result_left zeroᶠ call coarse.old) }
 {
-    let a = coarse_matrix::constant_coarse(
-        rows as usize,
-        cols as usize,
+    let a = Csr {
+        rows: rows as usize,
+        cols: cols as usize,
         row_ptr,
         col_idx,
         values,
+    };
+    let made = coarse_matrix::constant_coarse(
+        &a,
         block_size as usize,
         ids,
         groups as usize,
         coarse,
     );
-    number(a)
+    answer_number(made)
 }
 
 #[unsafe(no_mangle)]
@@ -170,12 +153,15 @@ pub extern "C" fn yelomawin_bench_galerkin_coarse(
         let call = galerkin_coarse_call a c transfer_ptr.now transfer_idx.now weights.now (length ints.old) (length floats.old) in
         (result ≡ answer_number (answer_of call)) × ((ints.new ≡ work_left 0 call ints.old) × (floats.new ≡ result_left zeroᶠ call floats.old)) }
 {
-    let a = coarse_matrix::galerkin_coarse(
-        rows as usize,
-        cols as usize,
+    let a = Csr {
+        rows: rows as usize,
+        cols: cols as usize,
         row_ptr,
         col_idx,
         values,
+    };
+    let made = coarse_matrix::galerkin_coarse(
+        &a,
         c as usize,
         transfer_ptr,
         transfer_idx,
@@ -183,16 +169,16 @@ pub extern "C" fn yelomawin_bench_galerkin_coarse(
         ints,
         floats,
     );
-    number(a)
+    answer_number(made)
 }
 
 #[unsafe(no_mangle)]
 pub extern "C" fn yelomawin_bench_coarse_factor(c: u64, m: &[f64], lower: &mut [f64]) -> u64
-    ensures value { result ≡ factor_number (factor_answer (largest (take (c * c) m.now)) (coarse_factor_call c m.now (length lower.old))) }
+    ensures value { result ≡ answer_number (factor_answer (largest (take (c * c) m.now)) (coarse_factor_call c m.now (length lower.old))) }
     ensures lower_after { lower.new ≡ result_left zeroᶠ (coarse_factor_call c m.now (length lower.old)) lower.old }
 {
-    let a = coarse_factor::coarse_factor(c as usize, m, lower);
-    factor_number(a)
+    let made = coarse_factor::coarse_factor(c as usize, m, lower);
+    answer_number(made)
 }
 
 #[unsafe(no_mangle)]
@@ -200,6 +186,6 @@ pub extern "C" fn yelomawin_bench_coarse_inverse(c: u64, lower: &[f64], inverse:
     ensures value { result ≡ answer_number (answer_of (coarse_inverse_call c lower.now (length inverse.old))) }
     ensures inverse_after { inverse.new ≡ result_left zeroᶠ (coarse_inverse_call c lower.now (length inverse.old)) inverse.old }
 {
-    let a = coarse_inverse::coarse_inverse(c as usize, lower, inverse);
-    number(a)
+    let made = coarse_inverse::coarse_inverse(c as usize, lower, inverse);
+    answer_number(made)
 }

@@ -1,4 +1,5 @@
 -- The grouping by the nodes' lists: of its two stages only the first can refuse, by the causes of the matrix, and else the lists are where the second reads them.
+use Rattle.std.specs.Prelude.{Err, Ok, Result}
 use mathlib.Core.Path.{◌≡◌, ap, sym, ◌∙◌}
 use mathlib.Core.Bool.{true, false}
 use mathlib.Core.List.{List, [], ◌++◌, append_assoc}
@@ -21,10 +22,6 @@ use Rattle.definitions.specs.Places.{node_count}
 use Rattle.definitions.specs.Setup.{graph_of}
 use Rattle.definitions.specs.Answers.{answer_of, grouping_answer}
 use Rattle.definitions.specs.declared.Options.{Options}
-use Rattle.definitions.specs.declared.Answer.{Answer}
-use Rattle.definitions.specs.declared.Answer.TheVariants.{Accepted, Refused}
-use Rattle.definitions.specs.declared.GroupingAnswer.{GroupingAnswer}
-use Rattle.definitions.specs.declared.GroupingAnswer.TheVariants.{Refused as NoGroups}
 use Rattle.definitions.specs.declared.TwoLevelAggregation.{TwoLevelAggregation}
 use Rattle.definitions.specs.declared.Refusal.{Refusal}
 use Rattle.definitions.specs.declared.Refusal.TheVariants.{NotSquare, BlockSize, NotMultiple, ListTooShort}
@@ -60,12 +57,12 @@ module _ (a : Matrix) (o : Options) where
   -- ---- what is answered and left
 
   module _ (k : TwoLevelAggregation) (ids work : List ℕ) (floats : List Float) where
-    pub none_ends : n ≡ 0 → (r : GroupingAnswer) (ids' work' : List ℕ) (floats' : List Float) → Answered (read_then k a no_node) ids work floats r ids' work' floats'
+    pub none_ends : n ≡ 0 → (r : (Result ℕ Refusal)) (ids' work' : List ℕ) (floats' : List Float) → Answered (read_then k a no_node) ids work floats r ids' work' floats'
         → Answered (read_then k a (lists_of k a o)) ids work floats r ids' work' floats'
     unfolding graph_of require ◌>>=◌
     none_ends h r ids' work' floats' s = let b : ltb 0 n ≡ false = le-ltb 0 n (omega arith) in rw b s
 
-    grouped : 0 < n → (after ids' work' : List ℕ) (floats' : List Float) (r : GroupingAnswer) → 1 ≤ o.group → length after ≡ length work
+    grouped : 0 < n → (after ids' work' : List ℕ) (floats' : List Float) (r : (Result ℕ Refusal)) → 1 ≤ o.group → length after ≡ length work
         → within_call n o.group base after ≡ done (graph_grouping (λ v. get_or (neighbour_lists k a o.block n) v []) no_anchor n o.group)
         → Grouped n o.group base ids after r ids' work' → floats' ≡ replicate (length floats) zeroᶠ → Answered (lists_of k a o) ids work floats r ids' work' floats'
     unfolding graph_of require ◌>>=◌ grouping_answer ids_left result_left work_left
@@ -123,10 +120,10 @@ module _ (a : Matrix) (o : Options) where
       passes_valid : read_of k a ≡ done tt → within ≡ done flat
       passes_valid v = neighbours_pass (shape_of_lem a o y.shape) k v (length lent) floatRoom (omega (arith, lent_long)) y.floats
 
-      module _ (x : Answer) (ex : x ≡ answer_of within) where
+      module _ (x : (Result (Unit {0}) Refusal)) (ex : x ≡ answer_of within) where
         -- refused: by those, and all lists are as they were
-        pub unchanged : (r : Refusal) → x ≡ Refused r → (ids : List ℕ) (floats floats1 : List Float) → floats1 ≡ work_left zeroᶠ within floats
-            → Answered (read_then k a (lists_of k a o)) ids work floats (NoGroups r) ids after floats1
+        pub unchanged : (r : Refusal) → x ≡ Err r → (ids : List ℕ) (floats floats1 : List Float) → floats1 ≡ work_left zeroᶠ within floats
+            → Answered (read_then k a (lists_of k a o)) ids work floats (Err r) ids after floats1
         unfolding neighbours_within
         unchanged r e ids floats floats1 ef =
             let v : read_of k a ≡ refused r = refused_first _ (read_of k a) flat passes_valid r (sym ex ∙ e) in
@@ -136,7 +133,7 @@ module _ (a : Matrix) (o : Options) where
             let p : after ≡ work = ap (λ l. put_mid first (ending - first) work l) w ∙ put_same first (ending - first) work in
             rw (p, ef ∙ work_kept zeroᶠ floats r q within c) (invalid_kept ids work floats k a (lists_of k a o) r v)
 
-        module _ (e : x ≡ Accepted) where
+        module _ (e : x ≡ (Ok tt)) where
           valid : read_of k a ≡ done tt
           unfolding neighbours_within
           valid = accepted_first _ (read_of k a) (sym ex ∙ e)
@@ -183,7 +180,7 @@ module _ (a : Matrix) (o : Options) where
               grouping_passes n base lists list_count rest after stands o.group (few_nodes a o rows) (omega (arith, few, rows.few_entries)) shape.some shape.fewest some
               (lists_inside k a o.block n) (omega (arith, few))
 
-          pub grouped_answered : (ids : List ℕ) (floats floats1 : List Float) → floats1 ≡ work_left zeroᶠ within floats → (r : GroupingAnswer) (ids' work' : List ℕ) → Grouped n o.group base ids after r ids' work'
+          pub grouped_answered : (ids : List ℕ) (floats floats1 : List Float) → floats1 ≡ work_left zeroᶠ within floats → (r : (Result ℕ Refusal)) (ids' work' : List ℕ) → Grouped n o.group base ids after r ids' work'
               → Answered (read_then k a (lists_of k a o)) ids work floats r ids' work' floats1
           grouped_answered ids floats floats1 ef r ids' work' g =
               valid_answered ids work floats k a (lists_of k a o) valid _ _ _ _ (grouped k ids work floats some after ids' work' floats1 r shape.some after_long grouping_is g (floats_clear floats floats1 ef))

@@ -1,4 +1,5 @@
 -- The grouping call: where the sizes fit, the causes of the matrix and the policy asked for; else the first cause in order.
+use Rattle.std.specs.Prelude.{Err, Ok, Result}
 use mathlib.Core.Path.{◌≡◌, refl, ap, sym, ◌∙◌, subst}
 use mathlib.Core.Bool.{Bool, true, false}
 use mathlib.Core.List.{List}
@@ -15,10 +16,6 @@ use Rattle.definitions.specs.Places.{node_count}
 use Rattle.definitions.specs.Setup.{grouping_of}
 use Rattle.definitions.specs.Answers.{answer_of, grouping_answer}
 use Rattle.definitions.specs.declared.Options.{Options}
-use Rattle.definitions.specs.declared.Answer.{Answer}
-use Rattle.definitions.specs.declared.Answer.TheVariants.{Accepted, Refused}
-use Rattle.definitions.specs.declared.GroupingAnswer.{GroupingAnswer}
-use Rattle.definitions.specs.declared.GroupingAnswer.TheVariants.{Groups, Refused as NoGroups}
 use Rattle.definitions.specs.declared.TwoLevelAggregation.{TwoLevelAggregation}
 use Rattle.definitions.specs.declared.TwoLevelAggregation.TheVariants.{Contiguous, Graph, StrongGraph}
 use Rattle.definitions.specs.declared.Refusal.{Refusal}
@@ -30,13 +27,9 @@ use Rattle.adjacency.specs.Within.{read_of}
 use Rattle.adjacency.proofs.Reading.{read_rows}
 use Rattle.two_level_grouping.specs.Front.{shape_of, shape_least}
 use Rattle.two_level_grouping.specs.Calls.{has_room, small, passes, sizes_fit, asked, aggregate_call, ids_left, Answered, Ready, numbers_of, lists_of, read_then}
+use Rattle.two_level_grouping.proofs.Rooms.{passes_done}
 use Rattle.two_level_grouping.proofs.Asking.{asked_parts, asked_kept}
 use Rattle.two_level_grouping.proofs.Answering.{kept, valid_answered}
-
-passes_done : (o : Checked) → passes o ≡ true → o ≡ done tt
-unfolding passes
-passes_done (done tt) e = refl
-passes_done (refused r) e = cc
 
 -- a check between a first one and what follows is dropped where it passes
 drops : {B : Type 0} (o : Checked) (mid : Unit {0} → Checked) (next end : Unit {0} → Outcome B) → (mid tt >>= next) ≡ end tt → ((o >>= mid) >>= next) ≡ (o >>= end)
@@ -51,7 +44,7 @@ module _ (a : Matrix) (o : Options) where
   module _ (ids work : List ℕ) (floats : List Float) where
     -- ---- the groups by the nodes' numbers
 
-    module _ (y : Ready a o (length ids) (length work) (length floats)) (x : Answer) (ex : x ≡ answer_of (structure_of a)) (e : x ≡ Accepted) where
+    module _ (y : Ready a o (length ids) (length work) (length floats)) (x : (Result (Unit {0}) Refusal)) (ex : x ≡ answer_of (structure_of a)) (e : x ≡ (Ok tt)) where
       valid : structure_of a ≡ done tt
       valid = accepted_done (structure_of a) (sym ex ∙ e)
 
@@ -60,14 +53,14 @@ module _ (a : Matrix) (o : Options) where
 
       pub numbers_answered : (r : ℕ) (ids' work' : List ℕ) (floats' : List Float) → r ≡ (n + (o.group - 1)) / o.group
           → ids' ≡ padded 0 (length ids) (tab (λ v. v / o.group) n) → work' ≡ replicate (length work) 0 → floats' ≡ replicate (length floats) zeroᶠ
-          → Answered (read_then Contiguous a (numbers_of a o)) ids work floats (Groups r) ids' work' floats'
+          → Answered (read_then Contiguous a (numbers_of a o)) ids work floats (Ok r) ids' work' floats'
       unfolding read_of contiguous_grouping grouping_answer ids_left ◌>>=◌ result_left work_left
       numbers_answered r ids' work' floats' er e1 e2 e3 =
           valid_answered ids work floats Contiguous a (numbers_of a o) valid _ _ _ _ (record { answer = rw er; groups = e1; ints = e2; floats = e3 })
 
     -- ---- the policies
 
-    module _ (r : GroupingAnswer) (ids' work' : List ℕ) (floats' : List Float) where
+    module _ (r : (Result ℕ Refusal)) (ids' work' : List ℕ) (floats' : List Float) where
       abbrev Ends : TwoLevelAggregation → Outcome Grouping → Type 0
       Ends k g = Answered (read_then k a g) ids work floats r ids' work' floats'
 
@@ -117,19 +110,19 @@ module _ (a : Matrix) (o : Options) where
         unfolding aggregate_call asked
         left = drops (read_of o.aggregation a) _ _ _ (goes_on shape tt _ shaped ∙ goes_on _ tt _ (passed room ListTooShort fit.2))
 
-        pub went : (r : GroupingAnswer) (ids' work' : List ℕ) (floats' : List Float) → Answered (read_then o.aggregation a (grouping_of o.aggregation a o)) ids work floats r ids' work' floats'
+        pub went : (r : (Result ℕ Refusal)) (ids' work' : List ℕ) (floats' : List Float) → Answered (read_then o.aggregation a (grouping_of o.aggregation a o)) ids work floats r ids' work' floats'
             → Answered call ids work floats r ids' work' floats'
         went r ids' work' floats' s = subst (λ c. Answered c ids work floats r ids' work' floats') (sym left) s
 
       -- sizes that do not fit leave a first cause among 1 to 13
-      module _ (f : t ≡ false) (x : Answer) (ex : x ≡ answer_of (asked a o)) where
-        pub stopped : (r : Refusal) → x ≡ Refused r → Answered call ids work floats (NoGroups r) ids work floats
+      module _ (f : t ≡ false) (x : (Result (Unit {0}) Refusal)) (ex : x ≡ answer_of (asked a o)) where
+        pub stopped : (r : Refusal) → x ≡ Err r → Answered call ids work floats (Err r) ids work floats
         unfolding aggregate_call
         stopped r e =
             let q : asked a o ≡ refused r = refused_is (asked a o) r (sym ex ∙ e) in
             kept ids work floats call r (asked_kept a o r q) (stops (asked a o) r _ q)
 
-        pub short : x ≡ Accepted → Answered call ids work floats (NoGroups ListTooShort) ids work floats
+        pub short : x ≡ (Ok tt) → Answered call ids work floats (Err ListTooShort) ids work floats
         unfolding aggregate_call keeps_all cause_of sizes_fit passes
         short e =
             let d : asked a o ≡ done tt = accepted_done (asked a o) (sym ex ∙ e) in

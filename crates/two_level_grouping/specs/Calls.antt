@@ -1,5 +1,5 @@
 -- The grouping that setup makes, as a call of its own.
-use Rattle.std.specs.Prelude.{ℕ, ◌+◌, ◌*◌, ◌/◌, ◌≤◌, ◌≡◌, Bool, true, false, ◌&&◌, List, leb, length, replicate, Float}
+use Rattle.std.specs.Prelude.{ℕ, ◌+◌, ◌*◌, ◌/◌, ◌≤◌, ◌≡◌, Bool, true, false, ◌&&◌, List, leb, length, replicate, Float, Result}
 use Rattle.definitions.specs.Numbers.{zeroᶠ}
 use Rattle.definitions.specs.Refusal.{Outcome, refused, done, Checked, require, ◌>>=◌, result_left, work_left}
 use Rattle.definitions.specs.Matrix.{Matrix, max_rows, max_entries}
@@ -11,11 +11,11 @@ use Rattle.definitions.specs.Places.{node_count}
 use Rattle.definitions.specs.Setup.{grouping_of, graph_of}
 use Rattle.definitions.specs.declared.Options.{Options}
 use Rattle.definitions.specs.declared.TwoLevelAggregation.{TwoLevelAggregation}
-use Rattle.definitions.specs.declared.GroupingAnswer.{GroupingAnswer}
 use Rattle.definitions.specs.declared.Refusal.TheVariants.{ListTooShort, NoNode}
 use Rattle.adjacency.specs.Within.{read_of}
 use Rattle.aggregates.specs.Within.{within_call}
 use Rattle.two_level_grouping.specs.Front.{shape_of}
+use Rattle.definitions.specs.declared.Refusal.{Refusal}
 
 -- whether the lists are long enough: the groups go to the first, the neighbour lists and the grouping's room to the second, the strengths to the third
 unfoldable pub has_room : ℕ → ℕ → ℕ → ℕ → ℕ → Bool
@@ -50,13 +50,13 @@ unfoldable pub ids_left : Outcome Grouping → List ℕ → List ℕ
 ids_left call lent = result_left 0 (call >>= (λ g. done g.ids)) lent
 
 -- what the grouping of lists that stand from `base` on leaves of the list for the groups and of the work list
-pub record Grouped (nodes size base : ℕ) (lent work : List ℕ) (r : GroupingAnswer) (lent' work' : List ℕ) : Type 0 where
+pub record Grouped (nodes size base : ℕ) (lent work : List ℕ) (r : (Result ℕ Refusal)) (lent' work' : List ℕ) : Type 0 where
   pub answer : r ≡ grouping_answer (within_call nodes size base work)
   pub ids : (g : Grouping) → within_call nodes size base work ≡ done g → length g.ids ≡ nodes → lent' ≡ padded 0 (length lent) g.ids
   pub zeros : (g : Grouping) → within_call nodes size base work ≡ done g → length g.ids ≡ nodes → work' ≡ replicate (length work) 0
 
 -- what a grouping call answers and leaves: the groups with zeros after them, and work lists of zeros
-pub record Answered (call : Outcome Grouping) (lent work : List ℕ) (wide : List Float) (r : GroupingAnswer) (lent' work' : List ℕ) (wide' : List Float) : Type 0 where
+pub record Answered (call : Outcome Grouping) (lent work : List ℕ) (wide : List Float) (r : (Result ℕ Refusal)) (lent' work' : List ℕ) (wide' : List Float) : Type 0 where
   pub answer : r ≡ grouping_answer call
   pub groups : lent' ≡ ids_left call lent
   pub ints : work' ≡ work_left 0 call work

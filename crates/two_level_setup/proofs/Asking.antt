@@ -1,4 +1,5 @@
 -- Sizes before entries: what the test of sizes tells, and the fine level, of which the blocks ask 1 to 8.
+use Rattle.std.specs.Prelude.{Err, Ok, Result}
 use mathlib.Core.Path.{◌≡◌, refl, ap, sym, ◌∙◌}
 use mathlib.Core.Bool.{Bool, false}
 use mathlib.Core.List.{List}
@@ -15,10 +16,6 @@ use Rattle.definitions.specs.Setup.{Lent, front_of, lent_of}
 use Rattle.definitions.specs.Answers.{answer_of}
 use Rattle.definitions.specs.declared.Options.{Options}
 use Rattle.definitions.specs.declared.Setup.{Setup}
-use Rattle.definitions.specs.declared.Answer.{Answer}
-use Rattle.definitions.specs.declared.Answer.TheVariants.{Accepted, Refused}
-use Rattle.definitions.specs.declared.SetupAnswer.{SetupAnswer}
-use Rattle.definitions.specs.declared.SetupAnswer.TheVariants.{Built as BuiltSetup, Refused as NoSetup}
 use Rattle.definitions.specs.declared.Refusal.{Refusal}
 use Rattle.laws.proofs.Outcomes.{refused_not_done}
 use Rattle.csr32.specs.Calls.{accepted_done, refused_is, stops, keeps_refused, result_kept}
@@ -48,11 +45,11 @@ module _ (a : Matrix) (o : Options) (room : Lengths) where
   pub many_entries : max_entries < length a.values → SizesTold a o room false
   many_entries h = misfits (λ f. absurd (omega (arith, (front_rows a o (front_of_lem a o f)).few_entries)))
 
-  module _ (z : Answer) (ez : z ≡ answer_of (shape_of a.rows a.cols o.block o.group)) where
-    pub misshapen : (r : Refusal) → z ≡ Refused r → SizesTold a o room false
+  module _ (z : (Result (Unit {0}) Refusal)) (ez : z ≡ answer_of (shape_of a.rows a.cols o.block o.group)) where
+    pub misshapen : (r : Refusal) → z ≡ Err r → SizesTold a o room false
     misshapen r e = misfits (λ f. absurd (refused_not_done (sym (refused_is (shape_of a.rows a.cols o.block o.group) r (sym ez ∙ e)) ∙ (front_parts a o f).1)))
 
-    module _ (e : z ≡ Accepted) where
+    module _ (e : z ≡ (Ok tt)) where
       shaped : shape_of a.rows a.cols o.block o.group ≡ done tt
       shaped = accepted_done (shape_of a.rows a.cols o.block o.group) (sym ez ∙ e)
 
@@ -68,38 +65,38 @@ fit_with a o room s v = fit_of a o room (front_with a o v (shape_of_lem a o s.sh
 -- ---- a stage that asks 1 to 8 itself
 
 module _ (a : Matrix) (o : Outcome Parts) (x : Lent) where
-  pub judged_as : (r : SetupAnswer) (y : Lent) → valid_of a ≡ done tt → Leaves o r y → Judged a o x r y
+  pub judged_as : (r : (Result Setup Refusal)) (y : Lent) → valid_of a ≡ done tt → Leaves o r y → Judged a o x r y
   judged_as r y v l = record { valid = λ _. l; invalid = λ q k. absurd (refused_not_done (sym k ∙ v)) }
 
   -- it has built: they have passed
-  pub judged_valid : (r : SetupAnswer) (y : Lent) → Judged a o x r y → (s : Setup) → r ≡ BuiltSetup s → valid_of a ≡ done tt
+  pub judged_valid : (r : (Result Setup Refusal)) (y : Lent) → Judged a o x r y → (s : Setup) → r ≡ Ok s → valid_of a ≡ done tt
   judged_valid r y j s e = by_outcome (valid_of a) (λ v. v) (λ q k. absurd (let p = (j.invalid q k).0 in let z : ◌≡◌ {A = ℕ} 0 1 = cc in omega arith))
 
 -- ---- the blocks
 
 module _ (a : Matrix) (o : Options) (ints : List ℕ) (floats : List Float) (work_ints : List ℕ) (work_floats : List Float) (s : Sized a o (room_in ints floats work_ints work_floats))
-    (x : Answer) (ex : x ≡ answer_of (blocks_call a o.block (length floats))) where
+    (x : (Result (Unit {0}) Refusal)) (ex : x ≡ answer_of (blocks_call a o.block (length floats))) where
   stopped_first : (q : Refusal) → valid_of a ≡ refused q → blocks_call a o.block (length floats) ≡ refused q
   unfolding blocks_call
   stopped_first q k = stops (valid_of a) q _ k
 
-  pub blocks_judged : (r : Refusal) (floats1 : List Float) → x ≡ Refused r → floats1 ≡ blocks_left a o.block floats → Judged a (fine_of a o) (lent_of ints floats work_ints work_floats) (NoSetup r) (lent_of ints floats1 work_ints work_floats)
+  pub blocks_judged : (r : Refusal) (floats1 : List Float) → x ≡ Err r → floats1 ≡ blocks_left a o.block floats → Judged a (fine_of a o) (lent_of ints floats work_ints work_floats) (Err r) (lent_of ints floats1 work_ints work_floats)
   unfolding answer_of blocks_left
   blocks_judged r floats1 e ef = record {
     valid = λ v. blocks_refused a o ints floats work_ints work_floats (fit_with a o (room_in ints floats work_ints work_floats) s v) x ex r (lent_of ints floats1 work_ints work_floats) e;
     invalid = λ q k.
         let b = stopped_first q k in
-        let t : Refused r ≡ Refused q = sym e ∙ ex ∙ ap answer_of b in
+        let t : Err r ≡ Err q = sym e ∙ ex ∙ ap answer_of b in
         let f : floats1 ≡ floats = ef ∙ result_kept zeroᶠ floats q (keeps_refused (valid_of a) q (valid_keeps a) k) (blocks_call a o.block (length floats)) b in
         (cc, rw f);
   }
 
-  pub blocks_valid : x ≡ Accepted → valid_of a ≡ done tt
+  pub blocks_valid : x ≡ (Ok tt) → valid_of a ≡ done tt
   unfolding answer_of
-  blocks_valid e = by_outcome (valid_of a) (λ v. v) (λ q k. absurd (let t : Accepted ≡ Refused q = sym e ∙ ex ∙ ap answer_of (stopped_first q k) in let z : ◌≡◌ {A = ℕ} 0 1 = cc in omega arith))
+  blocks_valid e = by_outcome (valid_of a) (λ v. v) (λ q k. absurd (let t : (Ok tt) ≡ Err q = sym e ∙ ex ∙ ap answer_of (stopped_first q k) in let z : ◌≡◌ {A = ℕ} 0 1 = cc in omega arith))
 
-  pub blocks_fit : x ≡ Accepted → Fit a o (room_in ints floats work_ints work_floats)
+  pub blocks_fit : x ≡ (Ok tt) → Fit a o (room_in ints floats work_ints work_floats)
   blocks_fit e = fit_with a o (room_in ints floats work_ints work_floats) s (blocks_valid e)
 
-  pub blocks_as : x ≡ Accepted → (r : SetupAnswer) (y : Lent) → Leaves (fine_of a o) r y → Judged a (fine_of a o) (lent_of ints floats work_ints work_floats) r y
+  pub blocks_as : x ≡ (Ok tt) → (r : (Result Setup Refusal)) (y : Lent) → Leaves (fine_of a o) r y → Judged a (fine_of a o) (lent_of ints floats work_ints work_floats) r y
   blocks_as e r y l = judged_as a (fine_of a o) (lent_of ints floats work_ints work_floats) r y (blocks_valid e) l

@@ -1,4 +1,5 @@
 -- The transfer by the basis asked for: nothing to do, or damping factor and weights; and what is known behind it.
+use Rattle.std.specs.Prelude.{Err, Ok, Result}
 use mathlib.Core.Path.{◌≡◌, refl, ap, sym, ◌∙◌, subst}
 use mathlib.Core.List.{List, [], ◌++◌, append-nil}
 use Prim.Native.Nat.{ℕ, ◌+◌, ◌*◌, ◌≤◌}
@@ -17,9 +18,6 @@ use Rattle.definitions.specs.Setup.{Lent, Transfer, transfer_for, transfer_float
 use Rattle.definitions.specs.Answers.{estimate_answer}
 use Rattle.definitions.specs.declared.Setup.{Setup}
 use Rattle.definitions.specs.declared.Places.{Places}
-use Rattle.definitions.specs.declared.EstimateAnswer.{EstimateAnswer}
-use Rattle.definitions.specs.declared.EstimateAnswer.TheVariants.{Estimated, Refused as NoEstimate}
-use Rattle.definitions.specs.declared.SetupAnswer.TheVariants.{Built as BuiltSetup, Refused as NoSetup}
 use Rattle.definitions.specs.declared.TwoLevelBasis.TheVariants.{PiecewiseConstant, JacobiSmoothed}
 use Rattle.definitions.specs.declared.Refusal.{Refusal}
 use Rattle.laws.proofs.Outcomes.{bind_done, done_inj}
@@ -33,6 +31,7 @@ use Rattle.two_level_setup.proofs.Composition.{leaves_refused, leaves_done}
 use Rattle.two_level_setup.proofs.FineParts.{bounds, no_weights}
 use Rattle.two_level_setup.proofs.Damping.{diagonal_length}
 use Rattle.two_level_setup.proofs.Weights.{weighted}
+use Rattle.definitions.specs.declared.Estimated.{Estimated}
 
 -- ---- records that fit
 
@@ -63,21 +62,21 @@ ample_filled a s t room n damping w h e = subst (λ (x : Setup). Ample a x room)
   work_floats = w.work_floats;
 })
 
-pub stays_built : (a : Matrix) (room : Lengths) (s : Setup) → Ample a s room → StaysAmple a room (BuiltSetup s)
+pub stays_built : (a : Matrix) (room : Lengths) (s : Setup) → Ample a s room → StaysAmple a room (Ok s)
 stays_built a room s w t e = subst (λ (x : Setup). Ample a x room) (let q : s ≡ t = cc in q) w
 
-pub stays_refused : (a : Matrix) (room : Lengths) (r : Refusal) → StaysAmple a room (NoSetup r)
+pub stays_refused : (a : Matrix) (room : Lengths) (r : Refusal) → StaysAmple a room (Err r)
 stays_refused a room r t e = absurd (let z : ◌≡◌ {A = ℕ} 0 1 = cc in omega arith)
 
 -- ---- the basis that is constant over a group
 
-pub constant_simulates : (a : Matrix) (s : Setup) (x : Lent) → s.basis ≡ PiecewiseConstant → Simulates (Begun a) (transfer_stage a) s x (BuiltSetup s) x
+pub constant_simulates : (a : Matrix) (s : Setup) (x : Lent) → s.basis ≡ PiecewiseConstant → Simulates (Begun a) (transfer_stage a) s x (Ok s) x
 unfolding transfer_stage transfer_for transferred filled ◌>>=◌ transfer_floats
 constant_simulates a s x b p es bg h =
     let smooth : p.setup.basis ≡ PiecewiseConstant = ap (λ (t : Setup). t.basis) es ∙ b in
     let none : p.setup.transfers ≡ length (transfer_floats []) = sym bg.sound.transfers ∙ ap (λ l. length (transfer_floats l)) bg.weights in
     let k : transfer_stage a p ≡ done p = rw (smooth, bg.weights, bg.damping, none) in
-    subst (λ (t : Setup). Leaves (transfer_stage a p) (BuiltSetup t) x) es (leaves_done (transfer_stage a p) p x k h)
+    subst (λ (t : Setup). Leaves (transfer_stage a p) (Ok t) x) es (leaves_done (transfer_stage a p) p x k h)
 
 -- ---- the smoothed basis
 
@@ -122,24 +121,24 @@ transfer_weighed a p q bg e =
     })
 
 module _ (a : Matrix) (s : Setup) (ints : List ℕ) (floats : List Float) (work_ints : List ℕ) (work_floats : List Float) (b : s.basis ≡ JacobiSmoothed)
-    (x : EstimateAnswer) (floats1 workFloats1 : List Float) (dm : Damped a (a.rows * s.block) floats work_floats x floats1 workFloats1) where
+    (x : (Result Estimated Refusal)) (floats1 workFloats1 : List Float) (dm : Damped a (a.rows * s.block) floats work_floats x floats1 workFloats1) where
   abbrev estimated : Outcome Estimate
   estimated = diagonal_of a >>= (λ d. estimate_of a d)
 
   smooth_too : (p : Parts) → p.setup ≡ s → p.setup.basis ≡ JacobiSmoothed
   smooth_too p es = ap (λ (t : Setup). t.basis) es ∙ b
 
-  no_estimate : (p : Outcome Estimate) (r : Refusal) → NoEstimate r ≡ estimate_answer p → p ≡ refused r
+  no_estimate : (p : Outcome Estimate) (r : Refusal) → Err r ≡ estimate_answer p → p ≡ refused r
   unfolding estimate_answer
   no_estimate (done q) r e = cc
   no_estimate (refused q) r e = cc
 
-  has_estimate : (p : Outcome Estimate) (rho damping : Float) → Estimated rho damping ≡ estimate_answer p → (q : Estimate) × (p ≡ done q) × (q.damping ≡ damping)
+  has_estimate : (p : Outcome Estimate) (found : Estimated) → Ok found ≡ estimate_answer p → (q : Estimate) × (p ≡ done q) × (q.damping ≡ found.damping)
   unfolding estimate_answer
-  has_estimate (done q) rho damping e = (q, refl, cc)
-  has_estimate (refused q) rho damping e = (record { rho = rho; damping = damping }, cc, refl)
+  has_estimate (done q) found e = let g : found ≡ record { rho = q.rho; damping = q.damping } = cc in (q, refl, sym (ap (λ (t : Estimated). t.damping) g))
+  has_estimate (refused q) found e = cc
 
-  pub estimate_refused : (r : Refusal) (y : Lent) → x ≡ NoEstimate r → Simulates (Begun a) (transfer_stage a) s (lent_of ints floats work_ints work_floats) (NoSetup r) y
+  pub estimate_refused : (r : Refusal) (y : Lent) → x ≡ Err r → Simulates (Begun a) (transfer_stage a) s (lent_of ints floats work_ints work_floats) (Err r) y
   unfolding transfer_stage
   estimate_refused r y e p es bg h =
       let smooth = smooth_too p es in
@@ -147,12 +146,12 @@ module _ (a : Matrix) (s : Setup) (ints : List ℕ) (floats : List Float) (work_
       leaves_refused (transfer_stage a p) r y (stops (transfer_for p.setup.basis a p.setup.block p.ids p.setup.coarse) r (λ t. done (transferred p t))
       (smoothed_is a p smooth ∙ chain_stops (diagonal_of a) (λ d. estimate_of a d) (rows_for a p smooth) r k))
 
-  pub smoothed_built : (rho damping : Float) → x ≡ Estimated rho damping → length floats1 ≡ length floats → length workFloats1 ≡ length work_floats → (n : ℕ) (y : Lent) → WeightsStage a s damping (lent_of ints floats1 work_ints workFloats1) n y
-      → (t : Setup) → t ≡ filled s n damping s.scale s.complexity → Simulates (Begun a) (transfer_stage a) s (lent_of ints floats work_ints work_floats) (BuiltSetup t) y
+  pub smoothed_built : (found : Estimated) → x ≡ Ok found → length floats1 ≡ length floats → length workFloats1 ≡ length work_floats → (n : ℕ) (y : Lent) → WeightsStage a s found.damping (lent_of ints floats1 work_ints workFloats1) n y
+      → (t : Setup) → t ≡ filled s n found.damping s.scale s.complexity → Simulates (Begun a) (transfer_stage a) s (lent_of ints floats work_ints work_floats) (Ok t) y
   unfolding transfer_stage transferred
-  smoothed_built rho damping e lf lw n y ws t et p es bg h =
+  smoothed_built found e lf lw n y ws t et p es bg h =
       let smooth = smooth_too p es in
-      let q = has_estimate estimated rho damping (sym e ∙ dm.answer) in
+      let q = has_estimate estimated found (sym e ∙ dm.answer) in
       let b = bind_done (diagonal_of a) (λ d. estimate_of a d) q.0 q.1 in
       let d = b.0 in
       let before : floats ≡ padded zeroᶠ (length floats) p.factors
@@ -167,9 +166,9 @@ module _ (a : Matrix) (s : Setup) (ints : List ℕ) (floats : List Float) (work_
         work_floats = dm.clear d q.0 b.1 b.2 h.work_floats ∙ ap (λ m. replicate m zeroᶠ) (sym lw);
       } in
       let r = ws.rows p d es bg (diagonal_length a d b.1) hb in
-      let made : Transfer = record { damping = damping; weights = transfer_of a d damping s.block p.ids s.coarse } in
+      let made : Transfer = record { damping = found.damping; weights = transfer_of a d found.damping s.block p.ids s.coarse } in
       let same : rows_for a p smooth d q.0 ≡ made = rw (q.2, es) in
       let k : transfer_stage a p ≡ done (transferred p made) = goes_on (transfer_for p.setup.basis a p.setup.block p.ids p.setup.coarse) (rows_for a p smooth d q.0) (λ z. done (transferred p z))
       (smoothed_is a p smooth ∙ chain_ends (diagonal_of a) (λ z. estimate_of a z) (rows_for a p smooth) d q.0 b.1 b.2) ∙ ap (λ z. done (transferred p z)) same in
-      let answer : (transferred p made).setup ≡ t = sym (et ∙ ap (λ z. filled z n damping z.scale z.complexity) (sym es) ∙ ap (λ m. filled p.setup m damping p.setup.scale p.setup.complexity) r.0) in
-      subst (λ (z : Setup). Leaves (transfer_stage a p) (BuiltSetup z) y) answer (leaves_done (transfer_stage a p) (transferred p made) y k r.1)
+      let answer : (transferred p made).setup ≡ t = sym (et ∙ ap (λ z. filled z n found.damping z.scale z.complexity) (sym es) ∙ ap (λ m. filled p.setup m found.damping p.setup.scale p.setup.complexity) r.0) in
+      subst (λ (z : Setup). Leaves (transfer_stage a p) (Ok z) y) answer (leaves_done (transfer_stage a p) (transferred p made) y k r.1)

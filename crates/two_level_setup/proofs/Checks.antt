@@ -1,4 +1,5 @@
 -- All of setup: its checks, what is built, and the lists cleared after a refusal.
+use Rattle.std.specs.Prelude.{Err, Ok, Result}
 use mathlib.Core.Path.{◌≡◌, refl, ap, sym, ◌∙◌}
 use mathlib.Core.Bool.{Bool, true, false}
 use Prim.Native.Nat.{ℕ}
@@ -12,10 +13,6 @@ use Rattle.definitions.specs.Setup.{Lent, lengths_of, front_of, Built, setup_of,
 use Rattle.definitions.specs.Answers.{answer_of, setup_answer}
 use Rattle.definitions.specs.declared.Options.{Options}
 use Rattle.definitions.specs.declared.Setup.{Setup}
-use Rattle.definitions.specs.declared.Answer.{Answer}
-use Rattle.definitions.specs.declared.Answer.TheVariants.{Accepted, Refused}
-use Rattle.definitions.specs.declared.SetupAnswer.{SetupAnswer}
-use Rattle.definitions.specs.declared.SetupAnswer.TheVariants.{Built as BuiltSetup, Refused as NoSetup}
 use Rattle.definitions.specs.declared.Refusal.{Refusal}
 use Rattle.definitions.specs.declared.Refusal.TheVariants.{ListTooShort}
 use Rattle.csr32.specs.Calls.{accepted_done, refused_is, goes_on, stops, passed, failed, keeps_refused, result_kept, work_kept}
@@ -38,11 +35,11 @@ differ b e f = let z : ◌≡◌ {A = ℕ} 0 1 = cc in omega arith
 abbrev pub SameLengths : Lent → Lent → Type 0
 SameLengths x y = (length y.ints ≡ length x.ints) × (length y.floats ≡ length x.floats) × (length y.work_ints ≡ length x.work_ints) × (length y.work_floats ≡ length x.work_floats)
 
-module _ (a : Matrix) (o : Options) (x y : Lent) (r : SetupAnswer) (l : Leaves (build_of a o (lengths_of x)) r y) where
+module _ (a : Matrix) (o : Options) (x y : Lent) (r : (Result Setup Refusal)) (l : Leaves (build_of a o (lengths_of x)) r y) where
   abbrev built : Outcome Built
   built = built_for a o (lengths_of x)
 
-  cleared_built : (s : Setup) → r ≡ BuiltSetup s → SameLengths x y → (BuiltSetup s ≡ setup_answer built) × (y ≡ setup_left built x)
+  cleared_built : (s : Setup) → r ≡ Ok s → SameLengths x y → (Ok s ≡ setup_answer built) × (y ≡ setup_left built x)
   unfolding built_for built_of setup_answer setup_left result_left work_left ◌>>=◌
   cleared_built s e n =
       let q = parts-built (build_of a o (lengths_of x)) s (sym e ∙ l.answer) in
@@ -50,13 +47,13 @@ module _ (a : Matrix) (o : Options) (x y : Lent) (r : SetupAnswer) (l : Leaves (
       let k : built ≡ done (built_of q.0) = goes_on (build_of a o (lengths_of x)) q.0 (λ p. done (built_of p)) q.1 in
       (rw k (rw q.2), rw k (rw (h.ints, h.floats, h.work_ints, h.work_floats, n.0, n.1, n.2, n.3)))
 
-  stopped_at : (q : Refusal) → r ≡ NoSetup q → build_of a o (lengths_of x) ≡ refused q
+  stopped_at : (q : Refusal) → r ≡ Err q → build_of a o (lengths_of x) ≡ refused q
   stopped_at q e = parts-refused (build_of a o (lengths_of x)) q (sym e ∙ l.answer)
 
-  refused_clears : (q : Refusal) → r ≡ NoSetup q → keeps_all q ≡ false
+  refused_clears : (q : Refusal) → r ≡ Err q → keeps_all q ≡ false
   refused_clears q e = clears_refused (build_of a o (lengths_of x)) q (clears_all a o (lengths_of x)) (stopped_at q e)
 
-  cleared_refused : (q : Refusal) (z : Lent) → r ≡ NoSetup q → Zeroed y z → SameLengths x y → (NoSetup q ≡ setup_answer built) × (z ≡ setup_left built x)
+  cleared_refused : (q : Refusal) (z : Lent) → r ≡ Err q → Zeroed y z → SameLengths x y → (Err q ≡ setup_answer built) × (z ≡ setup_left built x)
   unfolding built_for setup_answer setup_left result_left work_left ◌>>=◌
   cleared_refused q z e c n =
       let k : keeps_all q ≡ false = refused_clears q e in
@@ -65,7 +62,7 @@ module _ (a : Matrix) (o : Options) (x y : Lent) (r : SetupAnswer) (l : Leaves (
 
 -- ---- a refusal that keeps all
 
-pub kept : (call : Outcome Built) (x : Lent) (r : Refusal) → keeps_all r ≡ true → call ≡ refused r → (NoSetup r ≡ setup_answer call) × (x ≡ setup_left call x)
+pub kept : (call : Outcome Built) (x : Lent) (r : Refusal) → keeps_all r ≡ true → call ≡ refused r → (Err r ≡ setup_answer call) × (x ≡ setup_left call x)
 unfolding setup_answer setup_left
 kept call x r k e = (
   rw e,
@@ -74,7 +71,7 @@ kept call x r k e = (
 
 -- ---- building where 1 to 8 are asked on the way
 
-module _ (a : Matrix) (o : Options) (x y : Lent) (r : SetupAnswer) (j : Judged a (build_of a o (lengths_of x)) x r y) where
+module _ (a : Matrix) (o : Options) (x y : Lent) (r : (Result Setup Refusal)) (j : Judged a (build_of a o (lengths_of x)) x r y) where
   abbrev call : Outcome Built
   call = judged_for a o (lengths_of x)
 
@@ -86,18 +83,18 @@ module _ (a : Matrix) (o : Options) (x y : Lent) (r : SetupAnswer) (j : Judged a
   unfolding judged_for
   fails q k = stops (valid_of a) q _ k
 
-  same_cause : (q t : Refusal) → r ≡ NoSetup q → valid_of a ≡ refused t → q ≡ t
+  same_cause : (q t : Refusal) → r ≡ Err q → valid_of a ≡ refused t → q ≡ t
   same_cause q t e k = let p = (j.invalid t k).0 in cc
 
-  pub judged_built : (s : Setup) → r ≡ BuiltSetup s → SameLengths x y → (BuiltSetup s ≡ setup_answer call) × (y ≡ setup_left call x)
+  pub judged_built : (s : Setup) → r ≡ Ok s → SameLengths x y → (Ok s ≡ setup_answer call) × (y ≡ setup_left call x)
   judged_built s e n = let v = judged_valid a (build_of a o (lengths_of x)) x r y j s e in rw (passes v) (cleared_built a o x y r (j.valid v) s e n)
 
-  pub judged_kept : (q : Refusal) → r ≡ NoSetup q → keeps_all q ≡ true → (NoSetup q ≡ setup_answer call) × (y ≡ setup_left call x)
+  pub judged_kept : (q : Refusal) → r ≡ Err q → keeps_all q ≡ true → (Err q ≡ setup_answer call) × (y ≡ setup_left call x)
   judged_kept q e k = by_outcome (valid_of a)
       (λ v. absurd (differ (keeps_all q) k (refused_clears a o x y r (j.valid v) q e)))
       (λ t w. rw (j.invalid t w).1 (kept call x q k (fails t w ∙ ap (λ u. refused u) (sym (same_cause q t e w)))))
 
-  pub judged_cleared : (q : Refusal) (z : Lent) → r ≡ NoSetup q → keeps_all q ≡ false → Zeroed y z → SameLengths x y → (NoSetup q ≡ setup_answer call) × (z ≡ setup_left call x)
+  pub judged_cleared : (q : Refusal) (z : Lent) → r ≡ Err q → keeps_all q ≡ false → Zeroed y z → SameLengths x y → (Err q ≡ setup_answer call) × (z ≡ setup_left call x)
   judged_cleared q z e k c n = by_outcome (valid_of a)
       (λ v. rw (passes v) (cleared_refused a o x y r (j.valid v) q z e c n))
       (λ t w. absurd (differ (keeps_all q) (ap keeps_all (same_cause q t e w) ∙ keeps_refused (valid_of a) t (valid_keeps a) w) k))
@@ -108,13 +105,13 @@ module _ (a : Matrix) (o : Options) (x : Lent) where
   abbrev whole : Outcome Built
   whole = setup_of a o (lengths_of x)
 
-  module _ (z : Answer) (ez : z ≡ answer_of (front_of a o)) where
-    pub stopped : (r : Refusal) → z ≡ Refused r → (NoSetup r ≡ setup_answer whole) × (x ≡ setup_left whole x)
+  module _ (z : (Result (Unit {0}) Refusal)) (ez : z ≡ answer_of (front_of a o)) where
+    pub stopped : (r : Refusal) → z ≡ Err r → (Err r ≡ setup_answer whole) × (x ≡ setup_left whole x)
     stopped r e =
         let f : front_of a o ≡ refused r = refused_is (front_of a o) r (sym ez ∙ e) in
         kept whole x r (front_kept a o r f) (setup_splits a o (lengths_of x) ∙ stops (front_of a o) r _ f)
 
-    pub short : z ≡ Accepted → (front_of a o ≡ done tt → covers (lengths_of x) (entry_needs a o) ≡ false) → (NoSetup ListTooShort ≡ setup_answer whole) × (x ≡ setup_left whole x)
+    pub short : z ≡ (Ok tt) → (front_of a o ≡ done tt → covers (lengths_of x) (entry_needs a o) ≡ false) → (Err ListTooShort ≡ setup_answer whole) × (x ≡ setup_left whole x)
     unfolding keeps_all cause_of
     short e f =
         let d = accepted_done (front_of a o) (sym ez ∙ e) in

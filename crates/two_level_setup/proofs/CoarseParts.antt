@@ -1,4 +1,5 @@
 -- The coarse part: the matrix in the front of the work floats, its factor in the front of the setup floats, and zeros behind both, before and after.
+use Rattle.std.specs.Prelude.{Result}
 use mathlib.Core.Path.{◌≡◌, refl, ap, sym, ◌∙◌, subst}
 use mathlib.Core.List.{List, ◌++◌, append-nil}
 use Prim.Native.Nat.{ℕ, ◌+◌, ◌-◌, ◌*◌, ◌≤◌}
@@ -13,7 +14,6 @@ use Rattle.definitions.specs.Matrix.{Matrix}
 use Rattle.definitions.specs.Coarse.{averaged_square, averaged, entry_in, coarse_factor, coarse_part}
 use Rattle.definitions.specs.Setup.{coarse_entry, transfer_floats, lent_of}
 use Rattle.definitions.specs.declared.Setup.{Setup}
-use Rattle.definitions.specs.declared.SetupAnswer.{SetupAnswer}
 use Rattle.laws.proofs.Lists.{length_square}
 use Rattle.laws.proofs.Outcomes.{bind_done, done_inj}
 use Rattle.two_level_setup.specs.Stages.{Parts, parts_answer, filled, matrix_of, measured, stored, coarse_stage}
@@ -21,6 +21,7 @@ use Rattle.two_level_setup.specs.Fit.{Ample, MatrixFit}
 use Rattle.two_level_setup.specs.Promises.{room_in, Holds, Simulates, Weighed, MatrixStage, Factored, factored_answer}
 use Rattle.two_level_setup.proofs.Padding.{padded_all, padded_join}
 use Rattle.two_level_setup.proofs.Lending.{taken_zeros, put_zeros, front_padded, put_front}
+use Rattle.definitions.specs.declared.Refusal.{Refusal}
 
 square_long : (n : ℕ) (l : List Float) → length (averaged_square n l) ≡ n * n
 unfolding averaged_square
@@ -100,7 +101,7 @@ module _ (a : Matrix) (s : Setup) (ints : List ℕ) (floats : List Float) (work_
   pub factor_fits : (c ≤ 2048) × (start + c * c ≤ length (take stop floats)) × (c * c ≤ length (take part work))
   factor_fits = (w.small, rw stop_front (omega arith), rw work_front (omega arith))
 
-  module _ (r : SetupAnswer) (floats1 back : List Float) (lf : length floats1 ≡ length (take stop floats)) (lb : length back ≡ length (take part work)) where
+  module _ (r : (Result Setup Refusal)) (floats1 back : List Float) (lf : length floats1 ≡ length (take stop floats)) (lb : length back ≡ length (take part work)) where
     pub coarse_left : MatrixStage a s ints floats (take few work_ints) (take part work_floats) backInts made → Factored (measured entries s (take (c * c) (take part work))) start (take stop floats) (take part work) r floats1 back
         → Simulates (Weighed a) (coarse_stage a) s (lent_of ints floats work_ints work_floats) r (lent_of ints (floats1 ++ drop stop floats) (backInts ++ drop few work_ints) (back ++ drop part work))
     unfolding coarse_stage stored measured filled

@@ -2,15 +2,14 @@
 use mathlib.Core.Path.{◌≡◌, refl, ap, sym, ◌∙◌, subst, fun_ext}
 use mathlib.Core.Bool.{Bool, true, false}
 use mathlib.Core.List.{List, ◌∷◌, ◌++◌, map, flat_map}
-use Prim.Native.Nat.{ℕ, suc, ◌+◌, ◌-◌, ◌*◌, ◌/◌, ◌%◌, ◌≤◌, ◌<◌}
+use Prim.Native.Nat.{ℕ, suc, ◌+◌, ◌*◌, ◌/◌, ◌%◌, ◌≤◌, ◌<◌}
 use native.Mathlib.Omega.{arith}
 use native.Mathlib.Nat.{div-add-mod', div-lt_iff_lt-mul, mod-lt, mul-le-mul_right, le-mul_of_pos_right, mul_comm, mul-add-div, mul-add-mod_self_left, div-eq_of_lt, mod-eq_of_lt, add-zero, mul-le-mul, add-mul, lt_of_mul-lt-mul_right}
 use lib.Dec.{eqb}
 use lib.Seq.{slice, length-take-le}
 use lib.ListN.{length, get_or, set, take, drop, length-set}
 use lib.Ieee.{Float, ne}
-use borrow.Rule.Slice.PartMut.{mid_len}
-use Rattle.definitions.specs.Lists.{tab, up_to, between, keep}
+use Rattle.definitions.specs.Lists.{tab, up_to, keep}
 use Rattle.definitions.specs.Numbers.{zeroᶠ, total}
 use Rattle.definitions.specs.Refusal.{done}
 use Rattle.definitions.specs.Matrix.{Matrix, Entry, entries_of, row_of, values_where, valid_of}
@@ -43,10 +42,9 @@ pub whole_nodes : (rows size nodes : ℕ) → rows % size ≡ 0 → nodes ≡ ro
 whole_nodes rows size nodes w e = rw e (omega (arith, div-add-mod' rows size, w))
 
 -- the list of columns is as long as the ids ask
-pub columns_fit : (size nodes rows : ℕ) (ints work : List ℕ) → rows ≡ nodes * size → nodes ≤ length ints → rows ≤ length work → length (take rows work) ≡ length (between 0 nodes ints) * size
+pub columns_fit : (size nodes rows : ℕ) (ints work : List ℕ) → rows ≡ nodes * size → nodes ≤ length ints → rows ≤ length work → length (take rows work) ≡ length (take nodes ints) * size
 columns_fit size nodes rows ints work e h l =
-    let z : nodes - 0 ≡ nodes = omega arith in
-    length-take-le rows work l ∙ e ∙ ap (λ m. m * size) (sym (mid_len 0 nodes ints h ∙ z))
+    length-take-le rows work l ∙ e ∙ ap (λ m. m * size) (sym (length-take-le nodes ints h))
 
 -- the unknown `part` of a node
 pub unknown_of : (size : ℕ) (ids : List ℕ) (node part : ℕ) → part < size → coarse_column size ids (node * size + part) ≡ get_or ids node 0 * size + part
@@ -98,11 +96,9 @@ module _ (size : ℕ) (ids columns₀ : List ℕ) where
 
 -- ---- the list that is made, where the ids stand at the front of a list
 
-pub listed_made : (size nodes rows : ℕ) (ints work back ids : List ℕ) → rows ≤ length work → take nodes ints ≡ ids → Listed size (between 0 nodes ints) (take rows work) back → Each (λ g. g ≤ max_coarse) ids → back ≡ tab (coarse_column size ids) rows
+pub listed_made : (size nodes rows : ℕ) (ints work back ids : List ℕ) → rows ≤ length work → take nodes ints ≡ ids → Listed size (take nodes ints) (take rows work) back → Each (λ g. g ≤ max_coarse) ids → back ≡ tab (coarse_column size ids) rows
 listed_made size nodes rows ints work back ids h e l b =
-    let z : nodes - 0 ≡ nodes = omega arith in
-    let read : between 0 nodes ints ≡ ids = rw z e in
-    subst (λ t. Listed size t (take rows work) back) read l b ∙ ap (λ n. tab (coarse_column size ids) n) (length-take-le rows work h)
+    subst (λ t. Listed size t (take rows work) back) e l b ∙ ap (λ n. tab (coarse_column size ids) n) (length-take-le rows work h)
 
 -- ---- one number for each row
 

@@ -1,4 +1,5 @@
 -- Setup is its stages put together; and two stages that simulate their definitions, one after the other, simulate their chain.
+use Rattle.std.specs.Prelude.{Err, Ok, Result}
 use mathlib.Core.Path.{◌≡◌, refl, ap, sym, ◌∙◌, subst, fun_ext}
 use mathlib.Core.List.{List, []}
 use Prim.Native.Nat.{ℕ, ◌*◌}
@@ -14,8 +15,6 @@ use Rattle.definitions.specs.Places.{Lengths, entry_needs, coarse_needs, covers}
 use Rattle.definitions.specs.Setup.{Lent, front_of, grouping_of, max_coarse, Transfer, transfer_for, coarse_matrix, Built, built_from, setup_of}
 use Rattle.definitions.specs.declared.Options.{Options}
 use Rattle.definitions.specs.declared.Setup.{Setup}
-use Rattle.definitions.specs.declared.SetupAnswer.{SetupAnswer}
-use Rattle.definitions.specs.declared.SetupAnswer.TheVariants.{Built as BuiltSetup, Refused as NoSetup}
 use Rattle.definitions.specs.declared.Refusal.{Refusal}
 use Rattle.definitions.specs.declared.Refusal.TheVariants.{ListTooShort, CoarseTooLarge, CoarseListTooShort}
 use Rattle.laws.proofs.Outcomes.{done_inj, refused_not_done}
@@ -89,32 +88,32 @@ module _ (a : Matrix) (o : Options) (room : Lengths) where
 
 -- ---- stages one after the other
 
-pub refused_is : (o : Outcome Parts) (r : Refusal) → NoSetup r ≡ parts_answer o → o ≡ refused r
+pub refused_is : (o : Outcome Parts) (r : Refusal) → Err r ≡ parts_answer o → o ≡ refused r
 unfolding parts_answer
 refused_is (done p) r e = cc
 refused_is (refused q) r e = cc
 
-pub built_is : (o : Outcome Parts) (s : Setup) → BuiltSetup s ≡ parts_answer o → (p : Parts) × (o ≡ done p) × (p.setup ≡ s)
+pub built_is : (o : Outcome Parts) (s : Setup) → Ok s ≡ parts_answer o → (p : Parts) × (o ≡ done p) × (p.setup ≡ s)
 unfolding parts_answer
 built_is (done p) s e = (p, refl, cc)
 built_is (refused q) s e = (record { setup = s; factors = []; ids = []; weights = []; coarse = [] }, cc, refl)
 
-pub leaves_refused : (o : Outcome Parts) (r : Refusal) (y : Lent) → o ≡ refused r → Leaves o (NoSetup r) y
+pub leaves_refused : (o : Outcome Parts) (r : Refusal) (y : Lent) → o ≡ refused r → Leaves o (Err r) y
 unfolding parts_answer
 leaves_refused o r y e = record { answer = rw e; left = λ p k. absurd (refused_not_done (sym e ∙ k)) }
 
-pub leaves_done : (o : Outcome Parts) (p : Parts) (y : Lent) → o ≡ done p → Holds p y → Leaves o (BuiltSetup p.setup) y
+pub leaves_done : (o : Outcome Parts) (p : Parts) (y : Lent) → o ≡ done p → Holds p y → Leaves o (Ok p.setup) y
 unfolding parts_answer
 leaves_done o p y e h = record { answer = rw e; left = λ q k. subst (λ z. Holds z y) (done_inj (sym e ∙ k)) h }
 
-pub leaves_same : (o p : Outcome Parts) (r : SetupAnswer) (y : Lent) → o ≡ p → Leaves p r y → Leaves o r y
+pub leaves_same : (o p : Outcome Parts) (r : (Result Setup Refusal)) (y : Lent) → o ≡ p → Leaves p r y → Leaves o r y
 leaves_same o p r y e l = subst (λ q. Leaves q r y) (sym e) l
 
-module _ (o : Outcome Parts) (next : Parts → Outcome Parts) (r : SetupAnswer) (x : Lent) (l : Leaves o r x) where
-  pub stops_there : (q : Refusal) (y : Lent) → r ≡ NoSetup q → Leaves (o >>= next) (NoSetup q) y
+module _ (o : Outcome Parts) (next : Parts → Outcome Parts) (r : (Result Setup Refusal)) (x : Lent) (l : Leaves o r x) where
+  pub stops_there : (q : Refusal) (y : Lent) → r ≡ Err q → Leaves (o >>= next) (Err q) y
   stops_there q y e = leaves_refused (o >>= next) q y (stops o q next (refused_is o q (sym e ∙ l.answer)))
 
-  pub goes_further : (s : Setup) (r' : SetupAnswer) (y : Lent) → r ≡ BuiltSetup s → ((p : Parts) → o ≡ done p → p.setup ≡ s → Holds p x → Leaves (next p) r' y) → Leaves (o >>= next) r' y
+  pub goes_further : (s : Setup) (r' : (Result Setup Refusal)) (y : Lent) → r ≡ Ok s → ((p : Parts) → o ≡ done p → p.setup ≡ s → Holds p x → Leaves (next p) r' y) → Leaves (o >>= next) r' y
   goes_further s r' y e k =
       let b = built_is o s (sym e ∙ l.answer) in
       leaves_same (o >>= next) (next b.0) r' y (goes_on o b.0 next b.1) (k b.0 b.1 b.2 (l.left b.0 b.1))

@@ -1,4 +1,5 @@
 -- The damping factor: the diagonal stands behind the block factors, and the estimate reads it there.
+use Rattle.std.specs.Prelude.{Err, Ok, Result}
 use mathlib.Core.Path.{◌≡◌, refl, ap, sym, ◌∙◌}
 use mathlib.Core.List.{List, [], ◌∷◌, ◌++◌}
 use Prim.Native.Nat.{ℕ, zero, suc, ◌+◌, ◌-◌, ◌*◌}
@@ -15,10 +16,6 @@ use Rattle.definitions.specs.Matrix.{Matrix, valid_of, stored_at}
 use Rattle.definitions.specs.Diagonal.{diagonal_from, diagonal_of, diagonal_call, diagonal_left}
 use Rattle.definitions.specs.Estimate.{estimate_of, estimate_call, estimate_work_left}
 use Rattle.definitions.specs.Answers.{answer_of, estimate_answer}
-use Rattle.definitions.specs.declared.Answer.{Answer}
-use Rattle.definitions.specs.declared.Answer.TheVariants.{Accepted, Refused}
-use Rattle.definitions.specs.declared.EstimateAnswer.{EstimateAnswer}
-use Rattle.definitions.specs.declared.EstimateAnswer.TheVariants.{Refused as NoEstimate}
 use Rattle.definitions.specs.declared.Refusal.{Refusal}
 use Rattle.definitions.specs.declared.Refusal.TheVariants.{NotSquare, ListTooShort, WrongLength, MissingDiagonal}
 use Rattle.laws.proofs.Outcomes.{done_inj, refused_not_done}
@@ -26,6 +23,7 @@ use Rattle.csr32.specs.Calls.{goes_on, stops, passed, refused_is}
 use Rattle.two_level_setup.specs.Fit.{DampingFit}
 use Rattle.two_level_setup.specs.Promises.{Damped}
 use Rattle.two_level_setup.proofs.Lending.{padded_full, put_behind, put_read, put_zeros}
+use Rattle.definitions.specs.declared.Estimated.{Estimated}
 
 module _ (a : Matrix) where
   sums_length : (left i : ℕ) (sums d : List Float) → diagonal_from a left i sums ≡ done d → length d ≡ length sums + left
@@ -68,8 +66,8 @@ module _ (a : Matrix) (used : ℕ) (floats work : List Float) (w : DampingFit a 
       ∙ goes_on _ tt _ (passed _ (WrongLength a.rows (length d)) (eq-eqb (length d) a.rows l))
       ∙ goes_on _ tt _ (passed _ ListTooShort (le-leb (3 * a.rows) (length lent) (rw (length-take-le (3 * a.rows) work w.work) (omega arith))))
 
-  module _ (x : Answer) (ex : x ≡ answer_of (diagonal_call a (length place))) where
-    pub diagonal_refused : (r : Refusal) (floats' work' : List Float) → x ≡ Refused r → Damped a used floats work (NoEstimate r) floats' work'
+  module _ (x : (Result (Unit {0}) Refusal)) (ex : x ≡ answer_of (diagonal_call a (length place))) where
+    pub diagonal_refused : (r : Refusal) (floats' work' : List Float) → x ≡ Err r → Damped a used floats work (Err r) floats' work'
     unfolding estimate_answer
     diagonal_refused r floats' work' e =
         let k : diagonal_of a ≡ refused r = refused_is (diagonal_of a) r (ap answer_of (sym diagonal_passes) ∙ sym ex ∙ e) in
@@ -79,7 +77,7 @@ module _ (a : Matrix) (used : ℕ) (floats work : List Float) (w : DampingFit a 
           clear = λ d est q. absurd (refused_not_done (sym k ∙ q));
         }
 
-    has_diagonal : (p : Outcome (List Float)) → Accepted ≡ answer_of p → (l : List Float) × (p ≡ done l)
+    has_diagonal : (p : Outcome (List Float)) → (Ok tt) ≡ answer_of p → (l : List Float) × (p ≡ done l)
     unfolding answer_of
     has_diagonal (done l) e = (l, refl)
     has_diagonal (refused r) e = ([], cc)
@@ -87,7 +85,7 @@ module _ (a : Matrix) (used : ℕ) (floats work : List Float) (w : DampingFit a 
     abbrev after : List Float → List Float
     after more = put_mid used (used + a.rows - used) floats more
 
-    pub damped : x ≡ Accepted → (more : List Float) → more ≡ diagonal_left a place → (r : EstimateAnswer) → r ≡ estimate_answer (estimate_call a (between used (used + a.rows) (after more)) (length lent))
+    pub damped : x ≡ (Ok tt) → (more : List Float) → more ≡ diagonal_left a place → (r : (Result Estimated Refusal)) → r ≡ estimate_answer (estimate_call a (between used (used + a.rows) (after more)) (length lent))
         → (back : List Float) → back ≡ estimate_work_left a (between used (used + a.rows) (after more)) lent → Damped a used floats work r (after more) (back ++ drop (3 * a.rows) work)
     unfolding diagonal_left result_left estimate_work_left work_left
     damped e more em r er back eb =

@@ -1,4 +1,5 @@
 -- The fine level: no check of its two calls fails, and what they leave is what the lists hold then.
+use Rattle.std.specs.Prelude.{Err, Ok, Result}
 use mathlib.Core.Path.{◌≡◌, refl, ap, sym, ◌∙◌, subst}
 use mathlib.Core.List.{List, [], ◌++◌, flat_map, append-nil}
 use Prim.Native.Nat.{ℕ, ◌+◌, ◌*◌, ◌%◌, ◌≤◌, ◌<◌}
@@ -18,11 +19,6 @@ use Rattle.definitions.specs.Setup.{Lent, front_of, grouping_of, transfer_ints, 
 use Rattle.definitions.specs.Answers.{answer_of, grouping_answer}
 use Rattle.definitions.specs.declared.Options.{Options}
 use Rattle.definitions.specs.declared.Setup.{Setup}
-use Rattle.definitions.specs.declared.Answer.{Answer}
-use Rattle.definitions.specs.declared.Answer.TheVariants.{Accepted, Refused}
-use Rattle.definitions.specs.declared.SetupAnswer.TheVariants.{Built as BuiltSetup, Refused as NoSetup}
-use Rattle.definitions.specs.declared.GroupingAnswer.{GroupingAnswer}
-use Rattle.definitions.specs.declared.GroupingAnswer.TheVariants.{Groups, Refused as NoGroups}
 use Rattle.definitions.specs.declared.TwoLevelBasis.{TwoLevelBasis}
 use Rattle.definitions.specs.declared.TwoLevelBasis.TheVariants.{PiecewiseConstant, JacobiSmoothed}
 use Rattle.definitions.specs.declared.Refusal.{Refusal}
@@ -93,7 +89,7 @@ module _ (a : Matrix) (o : Options) (f : Front a o) where
   pub fine_begun : (p : Parts) → fine_of a o ≡ done p → Begun a p
   fine_begun p e = let b = found p e in subst (λ q. Begun a q) b.4 (grouped_begun b.0 b.1 b.2 b.3)
 
-  module _ (room : Lengths) (fit : Fit a o room) (s : Setup) (e : BuiltSetup s ≡ parts_answer (fine_of a o)) where
+  module _ (room : Lengths) (fit : Fit a o room) (s : Setup) (e : Ok s ≡ parts_answer (fine_of a o)) where
     pub fine_fits : Fit a (options_of s) room × Counted a s
     unfolding grouped started
     fine_fits =
@@ -142,17 +138,17 @@ module _ (a : Matrix) (o : Options) (ints : List ℕ) (floats : List Float) (wor
         le-leb (3 * node_count a o) (length work_floats) (omega (arith, f.work_floats, div-le_self a.rows o.block)),
       )))
 
-  module _ (x : Answer) (ex : x ≡ answer_of (blocks_call a o.block (length floats))) where
-    pub blocks_refused : (r : Refusal) (y : Lent) → x ≡ Refused r → Leaves (fine_of a o) (NoSetup r) y
+  module _ (x : (Result (Unit {0}) Refusal)) (ex : x ≡ answer_of (blocks_call a o.block (length floats))) where
+    pub blocks_refused : (r : Refusal) (y : Lent) → x ≡ Err r → Leaves (fine_of a o) (Err r) y
     unfolding fine_of
     blocks_refused r y e = leaves_refused (fine_of a o) r y (stops (factors_of a o.block) r _ (refused_is (factors_of a o.block) r (ap answer_of (sym blocks_pass) ∙ sym ex ∙ e)))
 
-    has_factors : (p : Outcome (List Float)) → Accepted ≡ answer_of p → (l : List Float) × (p ≡ done l)
+    has_factors : (p : Outcome (List Float)) → (Ok tt) ≡ answer_of p → (l : List Float) × (p ≡ done l)
     unfolding answer_of
     has_factors (done l) e = (l, refl)
     has_factors (refused r) e = ([], cc)
 
-    module _ (accepted : x ≡ Accepted) (z : GroupingAnswer) (ints1 workInts1 : List ℕ) (workFloats1 : List Float)
+    module _ (accepted : x ≡ (Ok tt)) (z : (Result ℕ Refusal)) (ints1 workInts1 : List ℕ) (workFloats1 : List Float)
         (s : Answered (aggregate_call a o (length ints) (length work_ints) (length work_floats)) ints work_ints work_floats z ints1 workInts1 workFloats1) where
       abbrev factors : (l : List Float) × (factors_of a o.block ≡ done l)
       factors = has_factors (factors_of a o.block) (sym accepted ∙ ex ∙ ap answer_of blocks_pass)
@@ -160,22 +156,22 @@ module _ (a : Matrix) (o : Options) (ints : List ℕ) (floats : List Float) (wor
       answered : z ≡ grouping_answer (grouping_of o.aggregation a o)
       answered = s.answer ∙ ap grouping_answer aggregate_passes
 
-      no_groups : (p : Outcome Grouping) (r : Refusal) → NoGroups r ≡ grouping_answer p → p ≡ refused r
+      no_groups : (p : Outcome Grouping) (r : Refusal) → Err r ≡ grouping_answer p → p ≡ refused r
       unfolding grouping_answer
       no_groups (done g) r e = cc
       no_groups (refused q) r e = cc
 
-      has_groups : (p : Outcome Grouping) (n : ℕ) → Groups n ≡ grouping_answer p → (g : Grouping) × (p ≡ done g) × (n ≡ g.count)
+      has_groups : (p : Outcome Grouping) (n : ℕ) → Ok n ≡ grouping_answer p → (g : Grouping) × (p ≡ done g) × (n ≡ g.count)
       unfolding grouping_answer
       has_groups (done g) n e = (g, refl, cc)
       has_groups (refused q) n e = (record { ids = []; count = 0 }, cc, cc)
 
-      pub groups_refused : (r : Refusal) (y : Lent) → z ≡ NoGroups r → Leaves (fine_of a o) (NoSetup r) y
+      pub groups_refused : (r : Refusal) (y : Lent) → z ≡ Err r → Leaves (fine_of a o) (Err r) y
       unfolding fine_of
       groups_refused r y e =
           leaves_refused (fine_of a o) r y (goes_on (factors_of a o.block) factors.0 _ factors.1 ∙ stops (grouping_of o.aggregation a o) r _ (no_groups (grouping_of o.aggregation a o) r (sym e ∙ answered)))
 
-      module _ (groups : ℕ) (e : z ≡ Groups groups) where
+      module _ (groups : ℕ) (e : z ≡ Ok groups) where
         abbrev grouping : (g : Grouping) × (grouping_of o.aggregation a o ≡ done g) × (groups ≡ g.count)
         grouping = has_groups (grouping_of o.aggregation a o) groups (sym e ∙ answered)
 
@@ -184,7 +180,7 @@ module _ (a : Matrix) (o : Options) (ints : List ℕ) (floats : List Float) (wor
 
         pub fine_built : (t : Setup) → t ≡ started a.rows (length a.values) o groups → (floats1 : List Float) → floats1 ≡ blocks_left a o.block floats
             → length ints1 ≡ length ints → length floats1 ≡ length floats → length workInts1 ≡ length work_ints → length workFloats1 ≡ length work_floats
-            → Leaves (fine_of a o) (BuiltSetup t) (lent_of ints1 floats1 workInts1 workFloats1)
+            → Leaves (fine_of a o) (Ok t) (lent_of ints1 floats1 workInts1 workFloats1)
         unfolding fine_of grouped started blocks_left result_left work_left ids_left ◌>>=◌
         fine_built t et floats1 ef li lf lwi lwf =
             let l = factors.0 in
@@ -200,5 +196,5 @@ module _ (a : Matrix) (o : Options) (ints : List ℕ) (floats : List Float) (wor
               work_ints = s.ints ∙ ap (λ q. work_left 0 q work_ints) p ∙ ap (λ n. replicate n 0) (sym lwi);
               work_floats = s.floats ∙ ap (λ q. work_left zeroᶠ q work_floats) p ∙ ap (λ n. replicate n zeroᶠ) (sym lwf);
             } in
-            subst (λ q. Leaves (fine_of a o) (BuiltSetup q) (lent_of ints1 floats1 workInts1 workFloats1)) (sym (et ∙ ap (λ n. started a.rows (length a.values) o n) grouping.2))
+            subst (λ q. Leaves (fine_of a o) (Ok q) (lent_of ints1 floats1 workInts1 workFloats1)) (sym (et ∙ ap (λ n. started a.rows (length a.values) o n) grouping.2))
             (leaves_done (fine_of a o) (grouped a o l g) (lent_of ints1 floats1 workInts1 workFloats1) k h)

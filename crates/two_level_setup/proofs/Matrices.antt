@@ -106,7 +106,7 @@ module _ (a : Matrix) (s : Setup) (ints : List ℕ) (floats : List Float) (work_
       ∙ ap (λ f. done (averaged_square c (square c f))) (constant_listed s.block ids a.rows a f.valid f.square refl)
 
   -- the columns listed in the front of the work integers, read there, and cleared
-  module _ (basis : s.basis ≡ PiecewiseConstant) (back zeros : List ℕ) (lb : length back ≡ length (take a.rows work_ints)) (ls : Listed s.block (between 0 n ints) (take a.rows work_ints) back) where
+  module _ (basis : s.basis ≡ PiecewiseConstant) (back zeros : List ℕ) (lb : length back ≡ length (take a.rows work_ints)) (ls : Listed s.block (take n ints) (take a.rows work_ints) back) where
     abbrev mid : List ℕ
     mid = back ++ drop a.rows work_ints
 

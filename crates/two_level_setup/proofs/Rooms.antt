@@ -1,4 +1,5 @@
 -- Lists that are long enough: 13, and 17 with 18 for the coarse part.
+use Rattle.std.specs.Prelude.{Err, Ok}
 use mathlib.Core.Path.{◌≡◌, refl, ap, sym, ◌∙◌}
 use mathlib.Core.Bool.{Bool, true, false, ◌&&◌}
 use Prim.Native.Nat.{ℕ, ◌+◌, ◌*◌, ◌≤◌, ◌<◌}
@@ -12,7 +13,6 @@ use Rattle.definitions.specs.Setup.{max_coarse}
 use Rattle.definitions.specs.Answers.{answer_of}
 use Rattle.definitions.specs.declared.Options.{Options}
 use Rattle.definitions.specs.declared.Setup.{Setup}
-use Rattle.definitions.specs.declared.Answer.TheVariants.{Accepted, Refused}
 use Rattle.definitions.specs.declared.Refusal.TheVariants.{CoarseTooLarge, CoarseListTooShort}
 use Rattle.laws.proofs.Outcomes.{test_true, last_true}
 use Rattle.csr32.specs.Calls.{accepted_done, goes_on, stops, passed, failed}
@@ -77,7 +77,7 @@ module _ (a : Matrix) (s : Setup) (room : Lengths) where
   abbrev long_checked : Outcome (Unit {0})
   long_checked = require (covers room (coarse_needs s.coarse (entry_needs a (options_of s)))) (CoarseListTooShort s.coarse)
 
-  pub too_large : max_coarse < s.coarse → Refused (CoarseTooLarge s.coarse) ≡ answer_of (room_checked a s room)
+  pub too_large : max_coarse < s.coarse → Err (CoarseTooLarge s.coarse) ≡ answer_of (room_checked a s room)
   unfolding room_checked answer_of
   too_large h = sym (ap answer_of (stops _ (CoarseTooLarge s.coarse) (λ _. long_checked) (failed _ (CoarseTooLarge s.coarse) (lt-leb s.coarse max_coarse h))))
 
@@ -86,15 +86,15 @@ module _ (a : Matrix) (s : Setup) (room : Lengths) where
     unfolding room_checked
     wide = goes_on _ tt _ (passed _ (CoarseTooLarge s.coarse) (le-leb s.coarse max_coarse h))
 
-    pub no_room : t ≡ false → Refused (CoarseListTooShort s.coarse) ≡ answer_of (room_checked a s room)
+    pub no_room : t ≡ false → Err (CoarseListTooShort s.coarse) ≡ answer_of (room_checked a s room)
     unfolding answer_of
     no_room f = sym (ap answer_of (wide ∙ failed _ (CoarseListTooShort s.coarse) (sym et ∙ f)))
 
-    pub has_room_lem : t ≡ true → Accepted ≡ answer_of (room_checked a s room)
+    pub has_room_lem : t ≡ true → (Ok tt) ≡ answer_of (room_checked a s room)
     unfolding answer_of
     has_room_lem f = sym (ap answer_of (wide ∙ passed _ (CoarseListTooShort s.coarse) (sym et ∙ f)))
 
-  pub ample_of : Fit a (options_of s) room → Counted a s → Accepted ≡ answer_of (room_checked a s room) → Ample a s room
+  pub ample_of : Fit a (options_of s) room → Counted a s → (Ok tt) ≡ answer_of (room_checked a s room) → Ample a s room
   unfolding room_checked entry_needs coarse_needs
   ample_of f n e =
       let w = test_true (leb s.coarse max_coarse) (CoarseTooLarge s.coarse) (λ _. long_checked) tt (accepted_done (room_checked a s room) (sym e)) in

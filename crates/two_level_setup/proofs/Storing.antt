@@ -1,5 +1,7 @@
 -- The packed factor and the inverse in their place.
+use Rattle.std.specs.Prelude.{Err, Ok, Result}
 use mathlib.Core.Path.{◌≡◌, refl, ap, sym, ◌∙◌, fun_ext}
+use mathlib.Core.Logic.{◌⊎◌, ⊎_elim}
 use mathlib.Core.List.{List, [], ◌++◌, flat_map}
 use Prim.Native.Nat.{ℕ, zero, suc, ◌+◌, ◌-◌, ◌*◌, ◌/◌, ◌≤◌}
 use native.Mathlib.Omega.{arith}
@@ -7,13 +9,12 @@ use lib.ListN.{length, take, drop, replicate, length-drop, take-append-drop}
 use lib.Ieee.{Float}
 use borrow.Author.Tests.{le-leb}
 use borrow.Rule.Slice.PartMut.{put_mid}
-use Rattle.definitions.specs.Lists.{padded, between, up_to}
+use Rattle.definitions.specs.Lists.{padded, up_to}
 use Rattle.definitions.specs.Numbers.{zeroᶠ, largest}
 use Rattle.definitions.specs.Refusal.{Outcome, refused, done, result_left}
 use Rattle.definitions.specs.Coarse.{packed_length, coarse_factor, coarse_part, inverse_of, averaged_square, averaged, entry_in, packed_solve, unit}
 use Rattle.definitions.specs.declared.Refusal.{Refusal}
 use Rattle.definitions.specs.declared.Refusal.TheVariants.{CoarseTooLarge, CoarseListTooShort}
-use Rattle.definitions.specs.declared.SetupAnswer.TheVariants.{Built as BuiltSetup, Refused as NoSetup}
 use Rattle.definitions.specs.declared.Setup.{Setup}
 use Rattle.definitions.specs.declared.TwoLevelCoarseApplyPolicy.{TwoLevelCoarseApplyPolicy}
 use Rattle.definitions.specs.declared.TwoLevelCoarseApplyPolicy.TheVariants.{Auto, FactorSolve, ExplicitInverse}
@@ -24,8 +25,6 @@ use Rattle.numbers.specs.Copied.{copied}
 use Rattle.definitions.specs.Answers.{factor_answer}
 use Rattle.coarse_factor.specs.Calls.{coarse_factor_call}
 use Rattle.coarse_inverse.specs.Calls.{coarse_inverse_call}
-use Rattle.definitions.specs.declared.FactorAnswer.{FactorAnswer}
-use Rattle.definitions.specs.declared.FactorAnswer.TheVariants.{Factored as HasFactor, Refused as NoFactor}
 use Rattle.two_level_grouping.proofs.Kept.{put_tail}
 use Rattle.two_level_setup.specs.Stages.{filled}
 use Rattle.two_level_setup.specs.Promises.{Inverted, Stored, Factored, factored_answer}
@@ -49,7 +48,7 @@ inverse_length c l = length_square c (averaged (entry_in (flat_map (λ i. packed
 
 module _ (c start : ℕ) (floats work : List Float) (small : c ≤ 2048) (room : start + c * c ≤ length floats) (space : c * c ≤ length work) where
   pub inverted : (work1 more : List Float) → work1 ≡ result_left zeroᶠ (coarse_inverse_call c (take (length floats - start) (drop start floats)) (length work)) work
-      → more ≡ copied (between 0 (c * c) work1) (take (length floats - start) (drop start floats)) → Inverted c start floats (put_mid start (length floats - start) floats more)
+      → more ≡ copied (take (c * c) work1) (take (length floats - start) (drop start floats)) → Inverted c start floats (put_mid start (length floats - start) floats more)
   unfolding coarse_inverse_call result_left
   inverted work1 more ew em = record {
     part = λ l e n.
@@ -60,8 +59,7 @@ module _ (c start : ℕ) (floats work : List Float) (small : c ≤ 2048) (room :
         ∙ goes_on _ tt _ (passed _ (CoarseListTooShort c) (rw (tail_is start floats, m, le-leb (packed_length c) (length floats - start) (omega (arith, packed_fits c)), le-leb (c * c) (length work) space)))
         ∙ ap (λ x. done (inverse_of c (take (packed_length c) x))) t ∙ ap (λ x. done (inverse_of c x)) (padded_all zeroᶠ (length floats - start) (packed_length c) l n) in
         let w : work1 ≡ padded zeroᶠ (length work) (inverse_of c l) = ew ∙ ap (λ x. result_left zeroᶠ x work) k in
-        let z : c * c - 0 ≡ c * c = omega arith in
-        let p : between 0 (c * c) work1 ≡ inverse_of c l = rw (z, w) (padded_all zeroᶠ (length work) (c * c) (inverse_of c l) (inverse_length c l)) in
+        let p : take (c * c) work1 ≡ inverse_of c l = rw w (padded_all zeroᶠ (length work) (c * c) (inverse_of c l) (inverse_length c l)) in
         let s : more ≡ padded zeroᶠ (length floats - start) (inverse_of c l)
         = rw (em, p, t) (copied_longer zeroᶠ (length floats - start) l (inverse_of c l) (rw (n, inverse_length c l) (packed_fits c)) (rw (inverse_length c l) (omega arith))) in
         put_tail start floats more ∙ ap (λ x. take start floats ++ x) s;
@@ -76,13 +74,9 @@ module _ (policy : TwoLevelCoarseApplyPolicy) (c start : ℕ) (floats work work'
     clear = w;
   }
 
-  pub kept_auto : policy ≡ Auto → Stored policy c start floats work floats work'
+  pub kept_factor : (policy ≡ Auto) ⊎ (policy ≡ FactorSolve) → Stored policy c start floats work floats work'
   unfolding coarse_part
-  kept_auto e = kept (fun_ext (λ l. rw e))
-
-  pub kept_factor : policy ≡ FactorSolve → Stored policy c start floats work floats work'
-  unfolding coarse_part
-  kept_factor e = kept (fun_ext (λ l. rw e))
+  kept_factor e = kept (⊎_elim (λ q. fun_ext (λ l. rw q)) (λ q. fun_ext (λ l. rw q)) e)
 
 pub kept_inverse : (policy : TwoLevelCoarseApplyPolicy) (c start : ℕ) (floats work floats' work' : List Float) → policy ≡ ExplicitInverse → Inverted c start floats floats' → work' ≡ replicate (length work) zeroᶠ
     → Stored policy c start floats work floats' work'
@@ -108,21 +102,21 @@ module _ (s : Setup) (start : ℕ) (floats work : List Float) where
         goes_on _ tt _ (passed _ (CoarseTooLarge dim) (le-leb dim 2048 small))
         ∙ goes_on _ tt _ (passed _ (CoarseListTooShort dim) (rw (tail_long, le-leb (dim * dim) (length work) space, le-leb (packed_length dim) (length floats - start) (omega (arith, packed_fits dim)))))
 
-    module _ (x : FactorAnswer) (ex : x ≡ factor_answer (largest matrix) (coarse_factor_call dim work (length (take (length floats - start) (drop start floats))))) where
+    module _ (x : (Result Float Refusal)) (ex : x ≡ factor_answer (largest matrix) (coarse_factor_call dim work (length (take (length floats - start) (drop start floats))))) where
       answered : x ≡ factor_answer (largest matrix) (coarse_factor dim matrix)
       answered = ex ∙ ap (factor_answer (largest matrix)) call_is
 
-      no_factor : (f : Outcome (List Float)) (r : Refusal) → NoFactor r ≡ factor_answer (largest matrix) f → f ≡ refused r
+      no_factor : (f : Outcome (List Float)) (r : Refusal) → Err r ≡ factor_answer (largest matrix) f → f ≡ refused r
       unfolding factor_answer
       no_factor (done l) r e = cc
       no_factor (refused q) r e = cc
 
-      has_factor : (f : Outcome (List Float)) (s : Float) → HasFactor s ≡ factor_answer (largest matrix) f → (s ≡ largest matrix) × ((l : List Float) × (f ≡ done l))
+      has_factor : (f : Outcome (List Float)) (s : Float) → Ok s ≡ factor_answer (largest matrix) f → (s ≡ largest matrix) × ((l : List Float) × (f ≡ done l))
       unfolding factor_answer
       has_factor (done l) s e = (cc, (l, refl))
       has_factor (refused q) s e = (cc, ([], cc))
 
-      pub unfactored : (r : Refusal) (floats' work' : List Float) → x ≡ NoFactor r → Factored s start floats work (NoSetup r) floats' work'
+      pub unfactored : (r : Refusal) (floats' work' : List Float) → x ≡ Err r → Factored s start floats work (Err r) floats' work'
       unfolding factored_answer
       unfactored r floats' work' e =
           let f : coarse_factor dim matrix ≡ refused r = no_factor (coarse_factor dim matrix) r (sym e ∙ answered) in
@@ -131,12 +125,12 @@ module _ (s : Setup) (start : ℕ) (floats work : List Float) where
           never : {A : Type 0} (l : List Float) → refused r ≡ done l → A
           never l k = absurd (let q : ◌≡◌ {A = ℕ} 0 1 = cc in omega arith)
 
-      module _ (scale : Float) (e : x ≡ HasFactor scale) (more : List Float) (em : more ≡ result_left zeroᶠ (coarse_factor_call dim work (length (take (length floats - start) (drop start floats)))) (take (length floats - start) (drop start floats))) where
+      module _ (scale : Float) (e : x ≡ Ok scale) (more : List Float) (em : more ≡ result_left zeroᶠ (coarse_factor_call dim work (length (take (length floats - start) (drop start floats)))) (take (length floats - start) (drop start floats))) where
         abbrev after : List Float
         after = put_mid start (length floats - start) floats more
 
         pub factored : (t : Setup) (floats' work' : List Float) → length after ≡ length floats → t ≡ filled s s.transfers s.damping scale s.complexity → Stored s.policy dim start after work floats' work'
-            → Factored s start floats work (BuiltSetup t) floats' work'
+            → Factored s start floats work (Ok t) floats' work'
         unfolding factored_answer result_left
         factored t floats' work' la et st =
             let h = has_factor (coarse_factor dim matrix) scale (sym e ∙ answered) in

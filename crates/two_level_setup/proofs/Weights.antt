@@ -1,15 +1,14 @@
 -- The weights of the smoothed transfer: no check of their call fails, they are at most rows + entries many, and they move to their places.
+use Rattle.std.specs.Prelude.{Err, Ok, Result}
 use mathlib.Core.Path.{◌≡◌, refl, ap, sym, ◌∙◌, subst}
-use mathlib.Core.Bool.{Bool, true, false}
 use mathlib.Core.List.{List, [], ◌∷◌, ◌++◌, map, flat_map, append-nil, append_assoc}
 use Prim.Native.Nat.{ℕ, suc, ◌+◌, ◌-◌, ◌*◌, ◌/◌, ◌%◌, ◌≤◌, ◌<◌}
 use native.Mathlib.Omega.{arith}
 use native.Mathlib.Nat.{le_trans}
-use lib.ListN.{length, get_or, take, drop, replicate, length-append, length-drop}
+use lib.ListN.{length, get_or, take, drop, replicate, length-append, length-drop, replicate-append-replicate}
 use lib.Seq.{length-take-le, take_all, take-take, drop-drop}
 use lib.Ieee.{Float, ne}
-use lib.Dec.{leb}
-use borrow.Author.Tests.{le-leb, leb-true, leb-false, eq-eqb}
+use borrow.Author.Tests.{le-leb, eq-eqb}
 use borrow.Rule.Slice.PartMut.{put_mid, take_put}
 use Rattle.definitions.specs.Lists.{tab, padded, between, pointers_from, joined_lists}
 use Rattle.definitions.specs.Numbers.{zeroᶠ}
@@ -19,8 +18,6 @@ use Rattle.definitions.specs.Transfer.{coarse_column, weight_at, transfer_row, t
 use Rattle.definitions.specs.Setup.{Lent, max_coarse, transfer_ints, transfer_floats, lent_of}
 use Rattle.definitions.specs.Answers.{transfer_answer}
 use Rattle.definitions.specs.declared.Setup.{Setup}
-use Rattle.definitions.specs.declared.TransferAnswer.{TransferAnswer}
-use Rattle.definitions.specs.declared.TransferAnswer.TheVariants.{Count, Refused as NoTransfer}
 use Rattle.definitions.specs.declared.TwoLevelBasis.TheVariants.{JacobiSmoothed}
 use Rattle.definitions.specs.declared.Refusal.{Refusal}
 use Rattle.definitions.specs.declared.Refusal.TheVariants.{TooLarge, NotSquare, BlockSize, NotMultiple, ListTooShort, CoarseTooLarge, CoarseListTooShort, WrongLength, SetupMisfit}
@@ -32,7 +29,7 @@ use Rattle.laws.proofs.TransferRows.{row_short, entries_short}
 use Rattle.csr32.specs.Calls.{goes_on, passed}
 use Rattle.csr32.specs.Rows.{valid_structure}
 use Rattle.numbers.specs.Copied.{copied}
-use Rattle.two_level_grouping.proofs.Kept.{drop_replicate, put_tail, front_cleared}
+use Rattle.two_level_grouping.proofs.Kept.{drop_replicate, put_tail}
 use Rattle.two_level_grouping.specs.Front.{front_rows}
 use Rattle.transfer.specs.Call.{shape_checked, groups_checked, transfer_checked, smoothed_transfer_call, transfer_ints as ints_left, transfer_floats as floats_left}
 use Rattle.two_level_setup.specs.Stages.{Parts, options_of, filled, transferred}
@@ -179,21 +176,21 @@ module _ (a : Matrix) (s : Setup) (damping : Float) (ints : List ℕ) (floats : 
   abbrev call : Outcome (List (List Entry))
   call = call_for (between s.nodes (s.nodes + a.rows) placed) (between used (used + a.rows) floats)
 
-  module _ (x : TransferAnswer) (ex : x ≡ transfer_answer call) where
-    pub transfer_refused : (r : Refusal) (n : ℕ) (y : Lent) → x ≡ NoTransfer r → n ≤ a.rows + length a.values → WeightsStage a s damping (lent_of ints floats work_ints work_floats) n y
+  module _ (x : (Result ℕ Refusal)) (ex : x ≡ transfer_answer call) where
+    pub transfer_refused : (r : Refusal) (n : ℕ) (y : Lent) → x ≡ Err r → n ≤ a.rows + length a.values → WeightsStage a s damping (lent_of ints floats work_ints work_floats) n y
     unfolding transfer_answer
     transfer_refused r n y e most = record {
       few = most;
       rows = λ p d es bg ld h.
-          let q : NoTransfer r ≡ Count (length (joined_lists (rows_of d p.ids))) = sym e ∙ ex ∙ ap transfer_answer (call_is p d es bg ld h) in
+          let q : Err r ≡ Ok (length (joined_lists (rows_of d p.ids))) = sym e ∙ ex ∙ ap transfer_answer (call_is p d es bg ld h) in
           absurd (let z : ◌≡◌ {A = ℕ} 0 1 = cc in omega arith);
     }
 
-    counted : (n : ℕ) (ws : List (List Entry)) → x ≡ Count n → call ≡ done ws → n ≡ length (joined_lists ws)
+    counted : (n : ℕ) (ws : List (List Entry)) → x ≡ Ok n → call ≡ done ws → n ≡ length (joined_lists ws)
     unfolding transfer_answer
-    counted n ws e k = let q : Count n ≡ Count (length (joined_lists ws)) = sym e ∙ ex ∙ ap transfer_answer k in cc
+    counted n ws e k = let q : Ok n ≡ Ok (length (joined_lists ws)) = sym e ∙ ex ∙ ap transfer_answer k in cc
 
-    module _ (basis : s.basis ≡ JacobiSmoothed) (n transfers : ℕ) (e : x ≡ Count n) (most : transfers ≤ a.rows + length a.values) (same : n ≤ a.rows + length a.values → transfers ≡ n)
+    module _ (basis : s.basis ≡ JacobiSmoothed) (n transfers : ℕ) (e : x ≡ Ok n) (most : transfers ≤ a.rows + length a.values) (same : n ≤ a.rows + length a.values → transfers ≡ n)
         (backInts : List ℕ) (backFloats : List Float) (ei : backInts ≡ ints_left call lent_ints) (ef : backFloats ≡ floats_left call lent_floats)
         (ints1 workInts1 : List ℕ) (floats1 workFloats1 : List Float) where
       abbrev mid_ints : List ℕ
@@ -249,21 +246,13 @@ module _ (a : Matrix) (s : Setup) (damping : Float) (ints : List ℕ) (floats : 
 
 -- ---- one list's move
 
--- what `at_most` takes of a number is no more than the number
-pub capped : (r most x : ℕ) → r ≤ most → (x ≤ most → r ≡ x) → r ≤ x
-capped r most x h k = go (leb x most) refl
-  where
-    go : (b : Bool) → leb x most ≡ b → r ≤ x
-    go true e = omega (arith, k (leb-true x most e))
-    go false e = omega (arith, leb-false x most e)
-
 -- a list copied over another that is zero behind it
 copied_padded : {A : Type 0} (z : A) (xs s : List A) (n : ℕ) → length s ≡ n → length xs ≤ n → drop (length xs) s ≡ replicate (n - length xs) z → copied xs s ≡ padded z n xs
 unfolding copied padded
 copied_padded z xs s n l h e = rw (l, take_all n xs h, e)
 
 -- the coarse columns, listed at the front of a work list of zeros and moved behind the ids
-module _ (size nodes rows : ℕ) (ints work back ints1 work1 : List ℕ) (hw : rows ≤ length work) (hi : nodes + rows ≤ length ints) (ls : Listed size (between 0 nodes ints) (take rows work) back)
+module _ (size nodes rows : ℕ) (ints work back ints1 work1 : List ℕ) (hw : rows ≤ length work) (hi : nodes + rows ≤ length ints) (ls : Listed size (take nodes ints) (take rows work) back)
     (lw : length (back ++ drop rows work) ≡ length work) (mv : MovedInts nodes rows ints (back ++ drop rows work) ints1 work1) where
   module _ (ids : List ℕ) (e : ints ≡ padded 0 (length ints) ids) (l : length ids ≡ nodes) (b : Each (λ g. g ≤ max_coarse) ids) (z : work ≡ replicate (length work) 0) where
     abbrev columns : List ℕ
@@ -294,22 +283,28 @@ module _ (size nodes rows : ℕ) (ints work back ints1 work1 : List ℕ) (hw : r
   columns_moved ids e l b z = moved_columns ids e l b z
 
 module _ (at count : ℕ) where
-  front_is : {A : Type 0} (z : A) (from xs : List A) → from ≡ padded z (length from) xs → length xs ≡ count → between 0 count from ≡ xs
-  front_is z from xs e l = let q : count - 0 ≡ count = omega arith in rw q (ap (λ s. take count s) e ∙ padded_all z (length from) count xs l)
+  front_is : {A : Type 0} (z : A) (from xs : List A) → from ≡ padded z (length from) xs → length xs ≡ count → take count from ≡ xs
+  front_is z from xs e l = ap (λ s. take count s) e ∙ padded_all z (length from) count xs l
 
-  pub moved_ints : (to from more zeros : List ℕ) → count ≤ length from → more ≡ copied (between 0 count from) (take (length to - at) (drop at to)) → zeros ≡ replicate (length (between 0 count from)) 0
-      → MovedInts at count to from (put_mid at (length to - at) to more) (put_mid 0 (count - 0) from zeros)
+  front_cleared : {A : Type 0} (z : A) (from xs zeros : List A) → from ≡ padded z (length from) xs → length xs ≡ count → count ≤ length from → zeros ≡ replicate (length (take count from)) z → zeros ++ drop count from ≡ replicate (length from) z
+  front_cleared z from xs zeros e l h ez =
+      let d : drop count from ≡ replicate (length from - count) z = ap (λ s. drop count s) e ∙ padded_past z (length from) count xs (omega (arith, l)) in
+      let n : count + (length from - count) ≡ length from = omega arith in
+      ap (λ s. s ++ drop count from) (ez ∙ ap (λ m. replicate m z) (length-take-le count from h)) ∙ ap (λ s. replicate count z ++ s) d ∙ replicate-append-replicate count (length from - count) z ∙ ap (λ m. replicate m z) n
+
+  pub moved_ints : (to from more zeros : List ℕ) → count ≤ length from → more ≡ copied (take count from) (take (length to - at) (drop at to)) → zeros ≡ replicate (length (take count from)) 0
+      → MovedInts at count to from (put_mid at (length to - at) to more) (zeros ++ drop count from)
   moved_ints to from more zeros hc em ez = record {
     moved = λ xs ys e l h k z.
         let t : take (length to - at) (drop at to) ≡ padded 0 (length to - at) ys = tail_is at to ∙ z in
         put_tail at to more ∙ ap (λ s. take at to ++ s) (em ∙ rw (front_is 0 from xs e l, t) (copied_longer 0 (length to - at) ys xs (omega arith) (omega arith)));
-    clear = λ xs e l. front_cleared 0 (length from) count from xs zeros e l hc ez;
+    clear = λ xs e l. front_cleared 0 from xs zeros e l hc ez;
   }
 
   -- what was cleared of what stood there reaches from behind the moved part, or before its end, up to `end`
   pub moved_floats : (last end : ℕ) (to from blanks more zeros : List Float) → at ≤ last → last ≤ at + count → last ≤ end → end ≤ length to → count ≤ length from → blanks ≡ replicate (length (between last end to)) zeroᶠ
-      → more ≡ copied (between 0 count from) (take (length (put_mid last (end - last) to blanks) - at) (drop at (put_mid last (end - last) to blanks))) → length (put_mid last (end - last) to blanks) ≡ length to
-      → zeros ≡ replicate (length (between 0 count from)) zeroᶠ → MovedFloats at end count to from (put_mid at (length (put_mid last (end - last) to blanks) - at) (put_mid last (end - last) to blanks) more) (put_mid 0 (count - 0) from zeros)
+      → more ≡ copied (take count from) (take (length (put_mid last (end - last) to blanks) - at) (drop at (put_mid last (end - last) to blanks))) → length (put_mid last (end - last) to blanks) ≡ length to
+      → zeros ≡ replicate (length (take count from)) zeroᶠ → MovedFloats at end count to from (put_mid at (length (put_mid last (end - last) to blanks) - at) (put_mid last (end - last) to blanks) more) (zeros ++ drop count from)
   moved_floats last end to from blanks more zeros ha hl hm he hc eb em lm ez = record {
     moved = λ xs e l h z.
         let mid = put_mid last (end - last) to blanks in
@@ -321,5 +316,5 @@ module _ (at count : ℕ) where
         let long : length (drop at mid) ≡ length to - at = length-drop at mid ∙ ap (λ m. m - at) lm in
         put_tail at mid more ∙ ap (λ s. s ++ more) (sym (take-take at last mid ha) ∙ ap (take at) (take_put last (end - last) to blanks (omega arith)) ∙ take-take at last to ha)
         ∙ ap (λ s. take at to ++ s) (em ∙ rw (front_is zeroᶠ from xs e l, tail_is at mid) (copied_padded zeroᶠ xs (drop at mid) (length to - at) long (omega arith) (rw l back)));
-    clear = λ xs e l. front_cleared zeroᶠ (length from) count from xs zeros e l hc ez;
+    clear = λ xs e l. front_cleared zeroᶠ from xs zeros e l hc ez;
   }

@@ -1,6 +1,6 @@
 -- What each stage of setup promises of its answer and of the lists. A stage is a simulation: where the lists hold what is built so far, the answer is that of its definition,
 -- and where that is done, the lists hold what is built then. The lists of a refused setup are cleared at one place, behind all stages.
-use Rattle.std.specs.Prelude.{ℕ, ◌+◌, ◌-◌, ◌*◌, ◌<◌, ◌≤◌, ◌≡◌, Bool, List, [], ◌++◌, length, take, drop, replicate, Float}
+use Rattle.std.specs.Prelude.{ℕ, ◌+◌, ◌-◌, ◌*◌, ◌<◌, ◌≤◌, ◌≡◌, Bool, List, [], ◌++◌, length, take, drop, replicate, Float, Err, Ok, Result}
 use Rattle.definitions.specs.Lists.{padded, tab}
 use Rattle.definitions.specs.Numbers.{zeroᶠ, largest}
 use Rattle.definitions.specs.Refusal.{Outcome, refused, done, ◌>>=◌}
@@ -13,17 +13,15 @@ pub use Rattle.definitions.specs.Setup.{lent_of}
 use Rattle.definitions.specs.Places.{Lengths, entry_needs, coarse_needs, covers}
 use Rattle.definitions.specs.Setup.{Lent, max_coarse, transfer_floats}
 use Rattle.definitions.specs.Answers.{answer_of, estimate_answer}
-use Rattle.definitions.specs.declared.Answer.{Answer}
-use Rattle.definitions.specs.declared.EstimateAnswer.{EstimateAnswer}
 use Rattle.definitions.specs.declared.Options.{Options}
 use Rattle.definitions.specs.declared.Setup.{Setup}
-use Rattle.definitions.specs.declared.SetupAnswer.{SetupAnswer}
-use Rattle.definitions.specs.declared.SetupAnswer.TheVariants.{Built as BuiltSetup, Refused as NoSetup}
 use Rattle.definitions.specs.declared.TwoLevelCoarseApplyPolicy.{TwoLevelCoarseApplyPolicy}
 use Rattle.definitions.specs.declared.TwoLevelBasis.TheVariants.{JacobiSmoothed}
 use Rattle.laws.specs.Every.{Each}
 use Rattle.two_level_setup.specs.Stages.{Parts, ints_of, floats_of, parts_answer, filled, room_checked, transferred, matrix_of}
 use Rattle.two_level_setup.specs.Fit.{room_of, Ample}
+use Rattle.definitions.specs.declared.Refusal.{Refusal}
+use Rattle.definitions.specs.declared.Estimated.{Estimated}
 
 abbrev pub room_in : List ℕ → List Float → List ℕ → List Float → Lengths
 room_in ints floats work_ints work_floats = room_of (length ints) (length floats) (length work_ints) (length work_floats)
@@ -37,22 +35,22 @@ pub record Holds (p : Parts) (x : Lent) : Type 0 where
   pub work_ints : x.work_ints ≡ replicate (length x.work_ints) 0
   pub work_floats : x.work_floats ≡ replicate (length x.work_floats) zeroᶠ
 
-pub record Leaves (o : Outcome Parts) (r : SetupAnswer) (y : Lent) : Type 0 where
+pub record Leaves (o : Outcome Parts) (r : (Result Setup Refusal)) (y : Lent) : Type 0 where
   pub answer : r ≡ parts_answer o
   pub left : (p : Parts) → o ≡ done p → Holds p y
 
-abbrev pub Simulates : (Parts → Type 0) → (Parts → Outcome Parts) → Setup → Lent → SetupAnswer → Lent → Type 0
+abbrev pub Simulates : (Parts → Type 0) → (Parts → Outcome Parts) → Setup → Lent → (Result Setup Refusal) → Lent → Type 0
 Simulates sound stage s x r y = (p : Parts) → p.setup ≡ s → sound p → Holds p x → Leaves (stage p) r y
 
 -- a record that is handed on fits as the one before it did
-abbrev pub StaysAmple : Matrix → Lengths → SetupAnswer → Type 0
-StaysAmple a room r = (s : Setup) → r ≡ BuiltSetup s → Ample a s room
+abbrev pub StaysAmple : Matrix → Lengths → (Result Setup Refusal) → Type 0
+StaysAmple a room r = (s : Setup) → r ≡ Ok s → Ample a s room
 
 -- 13 with none, 18 with a coarse dimension c, and 17 and 18, of a matrix from its sizes
 abbrev pub RoomFor : ℕ → ℕ → ℕ → ℕ → Lengths → Bool → Type 0
 RoomFor rows entries block c room r = (a : Matrix) (o : Options) → a.rows ≡ rows → length a.values ≡ entries → o.block ≡ block → r ≡ covers room (coarse_needs c (entry_needs a o))
 
-abbrev pub RoomAnswer : ℕ → ℕ → Setup → Lengths → Answer → Type 0
+abbrev pub RoomAnswer : ℕ → ℕ → Setup → Lengths → (Result (Unit {0}) Refusal) → Type 0
 RoomAnswer rows entries s room r = (a : Matrix) → a.rows ≡ rows → length a.values ≡ entries → r ≡ answer_of (room_checked a s room)
 
 -- ---- what is known of what is built
@@ -84,7 +82,7 @@ pub record Weighed (a : Matrix) (p : Parts) : Type 0 where
 -- ---- the transfer
 
 -- the diagonal stands behind the block factors, and the work floats are cleared again
-pub record Damped (a : Matrix) (used : ℕ) (floats work : List Float) (r : EstimateAnswer) (floats' work' : List Float) : Type 0 where
+pub record Damped (a : Matrix) (used : ℕ) (floats work : List Float) (r : (Result Estimated Refusal)) (floats' work' : List Float) : Type 0 where
   pub answer : r ≡ estimate_answer (diagonal_of a >>= (λ d. estimate_of a d))
   pub diagonal : (d : List Float) → diagonal_of a ≡ done d → (factors : List Float) → length factors ≡ used → floats ≡ padded zeroᶠ (length floats) factors → floats' ≡ padded zeroᶠ (length floats) (factors ++ d)
   pub clear : (d : List Float) (e : Estimate) → diagonal_of a ≡ done d → estimate_of a d ≡ done e → work ≡ replicate (length work) zeroᶠ → work' ≡ replicate (length work) zeroᶠ
@@ -135,12 +133,12 @@ pub record Stored (policy : TwoLevelCoarseApplyPolicy) (c start : ℕ) (floats w
   pub part : (l : List Float) → drop start floats ≡ padded zeroᶠ (length floats - start) l → length l ≡ packed_length c → floats' ≡ take start floats ++ padded zeroᶠ (length floats - start) (coarse_part policy c l)
   pub clear : work' ≡ replicate (length work) zeroᶠ
 
-unfoldable pub factored_answer : Setup → Float → Outcome (List Float) → SetupAnswer
-factored_answer s scale (done l) = BuiltSetup (filled s s.transfers s.damping scale s.complexity)
-factored_answer s scale (refused r) = NoSetup r
+unfoldable pub factored_answer : Setup → Float → Outcome (List Float) → (Result Setup Refusal)
+factored_answer s scale (done l) = Ok (filled s s.transfers s.damping scale s.complexity)
+factored_answer s scale (refused r) = Err r
 
 -- the factor of the coarse matrix that stands at the front of the work floats
-pub record Factored (s : Setup) (start : ℕ) (floats work : List Float) (r : SetupAnswer) (floats' work' : List Float) : Type 0 where
+pub record Factored (s : Setup) (start : ℕ) (floats work : List Float) (r : (Result Setup Refusal)) (floats' work' : List Float) : Type 0 where
   pub answer : r ≡ factored_answer s (largest (take (s.coarse * s.coarse) work)) (coarse_factor s.coarse (take (s.coarse * s.coarse) work))
   pub part : (l : List Float) → coarse_factor s.coarse (take (s.coarse * s.coarse) work) ≡ done l → floats' ≡ take start floats ++ padded zeroᶠ (length floats - start) (coarse_part s.policy s.coarse l)
   pub clear : (l : List Float) → coarse_factor s.coarse (take (s.coarse * s.coarse) work) ≡ done l → work' ≡ replicate (length work) zeroᶠ

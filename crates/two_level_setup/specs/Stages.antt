@@ -1,5 +1,5 @@
 -- What setup has built so far, and its stages on that, in setup's own order: blocks and groups, room for the coarse part, transfer, coarse part.
-use Rattle.std.specs.Prelude.{ℕ, ◌+◌, ◌*◌, ◌/◌, List, [], ◌++◌, leb, Float, length}
+use Rattle.std.specs.Prelude.{ℕ, ◌+◌, ◌*◌, ◌/◌, List, [], ◌++◌, leb, Float, length, Err, Ok, Result}
 use Rattle.definitions.specs.Lists.{square}
 use Rattle.definitions.specs.Numbers.{zeroᶠ, largest, nonzeros}
 use Rattle.definitions.specs.Refusal.{Outcome, Checked, refused, done, require, ◌>>=◌}
@@ -10,10 +10,9 @@ use Rattle.definitions.specs.Coarse.{averaged_square, coarse_factor, resolved, c
 use Rattle.definitions.specs.Places.{Lengths, entry_needs, coarse_needs, covers}
 use Rattle.definitions.specs.Setup.{grouping_of, max_coarse, Transfer, transfer_for, coarse_entry, transfer_ints, transfer_floats, Built}
 use Rattle.definitions.specs.declared.Setup.{Setup}
-use Rattle.definitions.specs.declared.SetupAnswer.{SetupAnswer}
-use Rattle.definitions.specs.declared.SetupAnswer.TheVariants.{Built as BuiltSetup, Refused as NoSetup}
 use Rattle.definitions.specs.declared.Options.{Options}
 use Rattle.definitions.specs.declared.Refusal.TheVariants.{CoarseTooLarge, CoarseListTooShort}
+use Rattle.definitions.specs.declared.Refusal.{Refusal}
 
 -- ---- the record, which fills up
 
@@ -82,9 +81,9 @@ floats_of p = p.factors ++ transfer_floats p.weights ++ p.coarse
 unfoldable pub built_of : Parts → Built
 built_of p = record { setup = p.setup; ints = ints_of p; floats = floats_of p }
 
-unfoldable pub parts_answer : Outcome Parts → SetupAnswer
-parts_answer (done p) = BuiltSetup p.setup
-parts_answer (refused r) = NoSetup r
+unfoldable pub parts_answer : Outcome Parts → (Result Setup Refusal)
+parts_answer (done p) = Ok p.setup
+parts_answer (refused r) = Err r
 
 -- ---- the stages
 

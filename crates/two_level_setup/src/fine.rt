@@ -1,16 +1,16 @@
 // The fine level: block factors, groups, and the record that starts with them.
 ghost use Rattle.std.specs.Prelude.{◌≡◌, ◌*◌, ◌≤◌};
-ghost use Rattle.definitions.specs.Matrix.{csr, max_entries, max_rows};
+ghost use Rattle.definitions.specs.Matrix.{max_entries, max_rows};
 ghost use Rattle.definitions.specs.Setup.{lent_of};
 ghost use Rattle.definitions.specs.Coarse.{resolved};
 ghost use Rattle.definitions.specs.Block.{max_block};
+ghost use Rattle.csr32.specs.Seen.{lent};
 ghost use Rattle.two_level_setup.specs.Stages.{started, fine_of};
 ghost use Rattle.two_level_setup.specs.Asking.{Sized, Judged};
 ghost use Rattle.two_level_setup.specs.Promises.{room_in};
 
-use definitions::{
-    Answer, GroupingAnswer, INVERSE_FROM, Options, Setup, SetupAnswer, TwoLevelCoarseApplyPolicy,
-};
+use csr32::Csr;
+use definitions::{INVERSE_FROM, Options, Refusal, Setup, TwoLevelCoarseApplyPolicy};
 
 // Auto takes the inverse from a coarse dimension of 1,024 on.
 fn resolve(policy: TwoLevelCoarseApplyPolicy, c: u64) -> TwoLevelCoarseApplyPolicy
@@ -35,22 +35,18 @@ fn start(rows: usize, entries: usize, options: Options, groups: u64) -> Setup
     ensures { result ≡ started rows entries options groups }
 {
     let c = groups * options.block;
-    let asked = options.policy;
-    let policy = resolve(asked, c);
-    let aggregation = options.aggregation;
-    let basis = options.basis;
     Setup {
         rows: rows as u64,
         entries: entries as u64,
         block: options.block,
         group: options.group,
         nodes: rows as u64 / options.block,
-        groups: groups,
+        groups,
         coarse: c,
         transfers: 0,
-        aggregation: aggregation,
-        basis: basis,
-        policy: policy,
+        aggregation: options.aggregation,
+        basis: options.basis,
+        policy: resolve(options.policy, c),
         damping: 0.0,
         scale: 0.0,
         complexity: entries as u64,
@@ -60,45 +56,21 @@ fn start(rows: usize, entries: usize, options: Options, groups: u64) -> Setup
 
 // Block factors, then groups: causes 1 to 8, which the blocks ask, and 14 to 16.
 pub(crate) fn fine(
-    rows: usize,
-    cols: usize,
-    row_ptr: &[u32],
-    col_idx: &[u32],
-    values: &[f64],
+    a: &Csr<'_>,
     options: Options,
     ints: &mut [u32],
     floats: &mut [f64],
     work_ints: &mut [u32],
     work_floats: &mut [f64],
-) -> SetupAnswer
-    requires { Sized (csr rows cols row_ptr.now col_idx.now values.now) options (room_in ints.old floats.old work_ints.old work_floats.old) }
-    ensures { let a = csr rows cols row_ptr.now col_idx.now values.now in
+) -> Result<Setup, Refusal>
+    requires { Sized (lent a.now) options (room_in ints.old floats.old work_ints.old work_floats.old) }
+    ensures { let m = lent a.now in
         let x = lent_of ints.old floats.old work_ints.old work_floats.old in
         let y = lent_of ints.new floats.new work_ints.new work_floats.new in
-        Judged a (fine_of a options) x result y }
+        Judged m (fine_of m options) x result y }
 {
     let size = options.block as usize;
-    let answer = block_factor::blocks(rows, cols, row_ptr, col_idx, values, size, floats);
-    match answer {
-        Answer::Refused(cause) => SetupAnswer::Refused(cause),
-        Answer::Accepted => {
-            let found = two_level_grouping::aggregate(
-                rows,
-                cols,
-                row_ptr,
-                col_idx,
-                values,
-                options,
-                ints,
-                work_ints,
-                work_floats,
-            );
-            match found {
-                GroupingAnswer::Refused(cause) => SetupAnswer::Refused(cause),
-                GroupingAnswer::Groups(groups) => {
-                    SetupAnswer::Built(start(rows, values.len(), options, groups))
-                }
-            }
-        }
-    }
+    block_factor::blocks(a, size, floats)?;
+    let groups = two_level_grouping::aggregate(a, options, ints, work_ints, work_floats)?;
+    Ok(start(a.rows, a.values.len(), options, groups))
 }
