@@ -16,7 +16,7 @@ use Rattle.definitions.specs.Refusal.{Outcome, refused, done, result_left}
 use Rattle.definitions.specs.Matrix.{Matrix}
 use Rattle.definitions.specs.Setup.{Lent, Built, setup_of, setup_left, lengths_of}
 use Rattle.definitions.specs.Apply.{apply_call}
-use Rattle.definitions.specs.Answers.{answer_of, answer_number, setup_answer, setup_number, setup_values}
+use Rattle.definitions.specs.Answers.{answer_of, answer_number, setup_answer, setup_values, values_with}
 use Rattle.definitions.specs.Record.{are_policies, record_numbers, record_of, is_record}
 use Rattle.definitions.specs.Separation.{is_done}
 use Rattle.definitions.specs.declared.Setup.{Setup}
@@ -35,9 +35,9 @@ module _ (lent : Lent) (numbers : List ℕ) where
     pub hands : h ≡ handed 0 (setup_left (done built) lent) (received (record_numbers built.setup) numbers)
 
   taken : (known : Bool) (s : Outcome Built)
-      → (whether known (handed (setup_number (setup_answer s)) (setup_left s lent) (received (setup_values (setup_answer s)) numbers)) (handed no_policy lent (received [] numbers))).number ≡ 0
-      → Accepted s (whether known (handed (setup_number (setup_answer s)) (setup_left s lent) (received (setup_values (setup_answer s)) numbers)) (handed no_policy lent (received [] numbers)))
-  unfolding whether setup_number setup_answer setup_values
+      → (whether known (handed (answer_number (setup_answer s)) (setup_left s lent) (received (setup_values (setup_answer s)) numbers)) (handed no_policy lent (received [] numbers))).number ≡ 0
+      → Accepted s (whether known (handed (answer_number (setup_answer s)) (setup_left s lent) (received (setup_values (setup_answer s)) numbers)) (handed no_policy lent (received [] numbers)))
+  unfolding whether answer_number setup_answer setup_values values_with
   taken true (done b) e = record { built = b; is = refl; hands = refl }
   taken true (refused r) e = absurd (no_cause r e)
   taken false s e = absurd (omega (arith, e))

@@ -17,7 +17,7 @@ use Rattle.definitions.specs.Refusal.{Outcome, refused, done, ◌>>=◌, result_
 use Rattle.definitions.specs.Matrix.{Matrix}
 use Rattle.definitions.specs.Setup.{Built, setup_of, lengths_of, built_from}
 use Rattle.definitions.specs.Apply.{applied, apply_call}
-use Rattle.definitions.specs.Answers.{answer_of, answer_number, setup_answer, setup_number, setup_values}
+use Rattle.definitions.specs.Answers.{answer_of, answer_number, setup_answer, setup_values, values_with}
 use Rattle.definitions.specs.Record.{are_policies, record_numbers, record_of, is_record}
 use Rattle.definitions.specs.Separation.{agree}
 use Rattle.definitions.specs.declared.Options.{Options}
@@ -60,14 +60,14 @@ record SetupTaken (s : Outcome Built) (room ints floats numbers : List ℕ) (h :
 module _ (room ints floats numbers : List ℕ) where
   abbrev handed_out : Bool → Bool → Outcome Built → SetupBytes
   handed_out fits known s = record {
-    number = cond fits (whether known (setup_number (setup_answer s)) no_policy) misfit;
+    number = cond fits (whether known (answer_number (setup_answer s)) no_policy) misfit;
     ints = after (fits && known) (bytes_left (λ (b : Built). bytes_of_ints b.ints) s) ints;
     floats = after (fits && known) (bytes_left (λ (b : Built). bytes_of_floats b.floats) s) floats;
     numbers = after fits (answer_left (whether known (setup_values (setup_answer s)) []) room) numbers;
   }
 
   setup_taken : (fits known : Bool) (s : Outcome Built) → (handed_out fits known s).number ≡ 0 → SetupTaken s room ints floats numbers (handed_out fits known s)
-  unfolding whether setup_number setup_answer setup_values bytes_left answer_left result_left ◌>>=◌
+  unfolding whether answer_number setup_answer setup_values bytes_left answer_left result_left ◌>>=◌ values_with
   setup_taken true true (done b) e = record { result = b; is = refl; ints_left = refl; floats_left = refl; numbers_left = refl }
   setup_taken true true (refused r) e = absurd (no_cause r e)
   setup_taken true false s e = absurd (omega (arith, e))

@@ -12,7 +12,7 @@ use Rattle.definitions.specs.Lists.{pointers_from}
 use Rattle.definitions.specs.Numbers.{zeroᶠ, ofℕ}
 use Rattle.definitions.specs.Matrix.{Matrix}
 use Rattle.definitions.specs.Setup.{Lent}
-use Rattle.definitions.specs.Answers.{setup_values}
+use Rattle.definitions.specs.Answers.{setup_values, values_with}
 use Rattle.definitions.specs.Record.{aggregation_of, basis_of, policy_of, aggregation_number, basis_number, policy_number, are_policies, record_numbers, record_of, is_record}
 use Rattle.definitions.specs.Separation.{Apart, agree}
 use Rattle.definitions.proofs.Opened.{all_open}
@@ -49,7 +49,7 @@ premises = proved_hold.1
 
 -- the definitions of the boundary, to compute with
 unfoldable boundary_open : ℕ
-unfolding exported_setup exported_apply exported received options_of whether aggregation_of basis_of policy_of aggregation_number basis_number policy_number are_policies record_numbers record_of is_record setup_values
+unfolding exported_setup exported_apply exported received options_of whether aggregation_of basis_of policy_of aggregation_number basis_number policy_number are_policies record_numbers record_of is_record setup_values values_with
 boundary_open = 0
 
 accepted : (setup.number ≡ 0) × ((run 4).number ≡ 0) × ((run 40).number ≡ 0)

@@ -1,16 +1,17 @@
--- Values written one by one into a list of zeros: what the list receives.
+-- Values laid over a list of zeros: what the list receives.
 use Prim.Native.Nat.{ℕ, zero, suc, ◌+◌, ◌-◌, ◌<◌, ◌≤◌}
 use mathlib.Core.Path.{◌≡◌, refl, sym, ap, ◌∙◌}
 use mathlib.Core.List.{List, [], ◌∷◌, ◌++◌, append-nil}
 use native.Mathlib.Nat.{not-suc-le-zero, le_of_suc-le-suc, sub-zero, suc-sub-suc}
 use native.Mathlib.Numerals.{add-one}
-use lib.ListN.{length, set, take, drop, replicate}
+use lib.ListN.{length, take, drop, replicate, length-replicate}
 use lib.Seq.{drop-length}
 use Rattle.definitions.specs.Lists.{padded}
 use Rattle.definitions.specs.Refusal.{values_of, cause_of}
 use Rattle.definitions.specs.declared.Refusal.{Refusal}
 use Rattle.definitions.specs.declared.Refusal.TheVariants.{TooLarge, RowListLength, ColumnListLength, FirstPointer, LastPointer, PointerFalls, ColumnOutside, ValueNotFinite, NotSquare, BlockSize, GroupSize, NotMultiple, ListTooShort, BlockNotSymmetric, BlockPivot, NoNode, CoarseTooLarge, CoarseListTooShort, MissingDiagonal, ZeroDiagonal, NegativeDiagonal, EstimateFailed, CoarseScale, CoarsePivot, WrongLength, SetupMisfit, NeighbourOffsets, NeighbourOutside, LogTooShort}
 use Rattle.causes.specs.Told.{told_of}
+use Rattle.numbers.specs.Copied.{copied}
 use Rattle.yelomawin.specs.Boundary.{received}
 
 -- the first n of some values with zeros after them
@@ -30,30 +31,21 @@ received_cut vs zero = refl
 received_cut [] (suc n) = rw (sub-zero (suc n)) (ap (λ (l : List ℕ). 0 ∷ l) (zeros_cut n))
 received_cut (v ∷ vs) (suc n) = ap (λ (l : List ℕ). v ∷ l) (rw (suc-sub-suc n (length vs)) (received_cut vs n))
 
--- written from an index on
-unfoldable pub written : ℕ → List ℕ → List ℕ → List ℕ
-written i [] l = l
-written i (v ∷ vs) l = written (suc i) vs (set l i v)
-
-below : (i : ℕ) (x : ℕ) (vs l : List ℕ) → written (suc i) vs (x ∷ l) ≡ x ∷ written i vs l
-unfolding written
-below i x [] l = refl
-below i x (v ∷ vs) l = below (suc i) x vs (set l i v)
-
-pub written_cut : (vs : List ℕ) (n : ℕ) → written 0 vs (replicate n 0) ≡ cut n vs
-unfolding written cut
-written_cut [] zero = refl
-written_cut [] (suc n) = ap (λ (l : List ℕ). 0 ∷ l) (written_cut [] n)
-written_cut (v ∷ vs) zero = nothing vs 1
+copied_cut : (vs : List ℕ) (n : ℕ) → take n vs ++ drop (length vs) (replicate n 0) ≡ cut n vs
+unfolding cut
+copied_cut [] zero = refl
+copied_cut [] (suc n) = ap (λ (l : List ℕ). 0 ∷ l) (zeros n)
   where
-    nothing : (ws : List ℕ) (i : ℕ) → written i ws [] ≡ []
-    nothing [] i = refl
-    nothing (w ∷ ws) i = nothing ws (suc i)
-written_cut (v ∷ vs) (suc n) = below 0 v vs (replicate n 0) ∙ ap (λ (l : List ℕ). v ∷ l) (written_cut vs n)
+    zeros : (n : ℕ) → replicate n 0 ≡ cut n []
+    zeros zero = refl
+    zeros (suc n) = ap (λ (l : List ℕ). 0 ∷ l) (zeros n)
+copied_cut (v ∷ vs) zero = refl
+copied_cut (v ∷ vs) (suc n) = ap (λ (l : List ℕ). v ∷ l) (copied_cut vs n)
 
-pub receives : (vs lent : List ℕ) → written 0 vs (replicate (length lent) 0) ≡ received vs lent
-unfolding received padded
-receives vs lent = written_cut vs (length lent) ∙ sym (received_cut vs (length lent))
+-- values laid over zeros
+pub receives : (vs lent : List ℕ) → copied vs (replicate (length lent) 0) ≡ received vs lent
+unfolding copied received padded
+receives vs lent = rw length-replicate (copied_cut vs (length lent) ∙ sym (received_cut vs (length lent)))
 
 -- zeros behind the values make no difference
 more_zeros : (vs : List ℕ) (n : ℕ) → cut n (vs ++ (0 ∷ [])) ≡ cut n vs
@@ -104,21 +96,3 @@ told SetupMisfit l = none_told l
 told NeighbourOffsets l = none_told l
 told NeighbourOutside l = none_told l
 told LogTooShort l = none_told l
-
--- ---- a list of numbers cleared
-fill_suc : (n : ℕ) (d : List ℕ) → n < length d → set (replicate n 0 ++ drop n d) n 0 ≡ replicate (suc n) 0 ++ drop (suc n) d
-fill_suc n [] h = absurd (not-suc-le-zero h)
-fill_suc zero (x ∷ d) h = refl
-fill_suc (suc n) (x ∷ d) h = ap (λ (t : List ℕ). 0 ∷ t) (fill_suc n d (le_of_suc-le-suc h))
-
-pub filled_more : (n : ℕ) (l d : List ℕ) → n < length d → l ≡ replicate n 0 ++ drop n d → set l n 0 ≡ replicate (n + 1) 0 ++ drop (n + 1) d
-filled_more n l d h e = rw (e, add-one) (fill_suc n d h)
-
-pub filled : (n : ℕ) (l d : List ℕ) → n ≡ length d → l ≡ replicate n 0 ++ drop n d → l ≡ replicate (length d) 0
-filled n l d h e = rw (e, h, drop-length d, append-nil)
-
--- a number put behind the end of a list is lost
-pub set_beyond : (l : List ℕ) (i x : ℕ) → length l ≤ i → l ≡ set l i x
-set_beyond [] i x h = refl
-set_beyond (y ∷ l) zero x h = absurd (not-suc-le-zero h)
-set_beyond (y ∷ l) (suc i) x h = ap (λ (t : List ℕ). y ∷ t) (set_beyond l i x (le_of_suc-le-suc h))

@@ -10,7 +10,7 @@ use Rattle.definitions.specs.JoiningLog.{grouping_log_call, grouping_in, log_lef
 use Rattle.definitions.specs.Estimate.{estimate_call, estimate_work_left}
 use Rattle.definitions.specs.Setup.{Lent, setup_of, setup_left, lengths_of}
 use Rattle.definitions.specs.Apply.{apply_call}
-use Rattle.definitions.specs.Answers.{answer_of, answer_number, answer_values, grouping_answer, grouping_number, grouping_values, grouping_log_answer, grouping_log_number, grouping_log_values, estimate_answer, estimate_number, estimate_values, setup_answer, setup_number, setup_values}
+use Rattle.definitions.specs.Answers.{answer_of, answer_number, answer_values, grouping_answer, grouping_values, grouping_log_answer, grouping_log_values, estimate_answer, estimate_values, setup_answer, setup_values}
 use Rattle.definitions.specs.Record.{are_policies, record_of, is_record}
 use Rattle.definitions.specs.declared.Refusal.TheVariants.{SetupMisfit}
 use Rattle.yelomawin.specs.Boundary.{received, options_of, whether, no_policy}
@@ -56,27 +56,27 @@ exported_block_apply rows size factors r correction answer = exported (block_app
 unfoldable pub exported_group : ℕ → ℕ → List ℕ → List ℕ → List ℕ → List ℕ → List ℕ → Handed (ResultWork ℕ)
 exported_group nodes size offsets neighbours ids work answer =
     let g = grouping_call nodes size offsets neighbours (length ids) (length work) in
-    handed (grouping_number (grouping_answer g)) (result_work (grouping_left g ids) (grouping_work_left g work)) (received (grouping_values (grouping_answer g)) answer)
+    handed (answer_number (grouping_answer g)) (result_work (grouping_left g ids) (grouping_work_left g work)) (received (grouping_values (grouping_answer g)) answer)
 
 unfoldable pub exported_group_log : ℕ → ℕ → List ℕ → List ℕ → LogLists → List ℕ → Handed LogLists
 exported_group_log nodes size offsets neighbours lent answer =
     let g = grouping_log_call nodes size offsets neighbours (length lent.ids) (length lent.log) (length lent.work) in
     handed
-    (grouping_log_number (grouping_log_answer g))
+    (answer_number (grouping_log_answer g))
     (log_lists (grouping_left (grouping_in g) lent.ids) (log_left g lent.log) (grouping_work_left (grouping_in g) lent.work))
     (received (grouping_log_values (grouping_log_answer g)) answer)
 
 unfoldable pub exported_estimate : Matrix → List Float → List Float → List ℕ → Handed (List Float)
 exported_estimate a d work answer =
     let e = estimate_call a d (length work) in
-    handed (estimate_number (estimate_answer e)) (estimate_work_left a d work) (received (estimate_values (estimate_answer e)) answer)
+    handed (answer_number (estimate_answer e)) (estimate_work_left a d work) (received (estimate_values (estimate_answer e)) answer)
 
 -- the list that receives the record; a number that is no policy keeps the four lists, and the record receives zeros
 unfoldable pub exported_setup : Matrix → ℕ → ℕ → ℕ → ℕ → ℕ → Lent → List ℕ → Handed Lent
 exported_setup a size groupSize aggregation basis policy lent «record» =
     let s = setup_of a (options_of size groupSize aggregation basis policy) (lengths_of lent) in
     whether (are_policies aggregation basis policy)
-    (handed (setup_number (setup_answer s)) (setup_left s lent) (received (setup_values (setup_answer s)) «record»))
+    (handed (answer_number (setup_answer s)) (setup_left s lent) (received (setup_values (setup_answer s)) «record»))
     (handed no_policy lent (received [] «record»))
 
 -- a list that is no record is 26, before all else

@@ -8,11 +8,14 @@ ghost use Rattle.two_level_setup.specs.Promises.{lent_of};
 ghost use Rattle.definitions.specs.Answers.{answer_of, answer_number};
 ghost use Rattle.yelomawin.specs.Calls.{handed, result_work, log_lists, exported_diagonal, exported_blocks, exported_block_apply, exported_group, exported_group_log, exported_estimate, exported_setup, exported_apply};
 
-use definitions::Options;
-
 mod answers;
 mod record;
 mod told;
+
+use answers::receive;
+use csr32::Csr;
+use definitions::Options;
+use told::tell;
 
 pub fn yelomawin_root(x: f64) -> f64
     ensures { result ≡ rootᶠ x }
@@ -29,8 +32,15 @@ pub fn yelomawin_validate(
 ) -> u64
     ensures { result ≡ answer_number (answer_of (valid_of (csr rows cols row_ptr.now col_idx.now values.now))) }
 {
-    let answer = csr32::validate(rows as usize, cols as usize, row_ptr, col_idx, values);
-    told::number(answer)
+    let a = Csr {
+        rows: rows as usize,
+        cols: cols as usize,
+        row_ptr,
+        col_idx,
+        values,
+    };
+    let answer = a.validate();
+    causes::answer_number(answer)
 }
 
 pub fn yelomawin_diagonal(
@@ -45,15 +55,15 @@ pub fn yelomawin_diagonal(
     ensures { handed result diagonal.new answer.new
         ≡ exported_diagonal (csr rows cols row_ptr.now col_idx.now values.now) diagonal.old answer.old }
 {
-    let a = csr32::diagonal(
-        rows as usize,
-        cols as usize,
+    let a = Csr {
+        rows: rows as usize,
+        cols: cols as usize,
         row_ptr,
         col_idx,
         values,
-        diagonal,
-    );
-    told::plain(a, answer)
+    };
+    let made = a.diagonal(diagonal);
+    tell(made, answer)
 }
 
 pub fn yelomawin_blocks(
@@ -69,16 +79,15 @@ pub fn yelomawin_blocks(
     ensures { handed result factors.new answer.new
         ≡ exported_blocks (csr rows cols row_ptr.now col_idx.now values.now) block_size factors.old answer.old }
 {
-    let a = block_factor::blocks(
-        rows as usize,
-        cols as usize,
+    let a = Csr {
+        rows: rows as usize,
+        cols: cols as usize,
         row_ptr,
         col_idx,
         values,
-        block_size as usize,
-        factors,
-    );
-    told::plain(a, answer)
+    };
+    let made = block_factor::blocks(&a, block_size as usize, factors);
+    tell(made, answer)
 }
 
 pub fn yelomawin_block_apply(
@@ -99,7 +108,7 @@ pub fn yelomawin_block_apply(
         residual,
         correction,
     );
-    told::plain(a, answer)
+    tell(a, answer)
 }
 
 pub fn yelomawin_group(
@@ -122,7 +131,7 @@ pub fn yelomawin_group(
         ids,
         work,
     );
-    told::grouping(a, answer)
+    tell(a, answer)
 }
 
 pub fn yelomawin_group_log(
@@ -147,7 +156,7 @@ pub fn yelomawin_group_log(
         log,
         work,
     );
-    told::grouping_log(a, answer)
+    tell(a, answer)
 }
 
 pub fn yelomawin_estimate(
@@ -163,16 +172,15 @@ pub fn yelomawin_estimate(
     ensures { handed result work.new answer.new
         ≡ exported_estimate (csr rows cols row_ptr.now col_idx.now values.now) diagonal.now work.old answer.old }
 {
-    let a = spectral_radius::estimate(
-        rows as usize,
-        cols as usize,
+    let a = Csr {
+        rows: rows as usize,
+        cols: cols as usize,
         row_ptr,
         col_idx,
         values,
-        diagonal,
-        work,
-    );
-    told::estimate(a, answer)
+    };
+    let made = spectral_radius::estimate(&a, diagonal, work);
+    tell(made, answer)
 }
 
 // A number that is no policy answers 255, with every other list kept; the record receives zeros.
@@ -208,21 +216,24 @@ pub fn yelomawin_setup(
             basis: b,
             policy: p,
         };
-        let a = two_level_setup::setup(
-            rows as usize,
-            cols as usize,
+        let a = Csr {
+            rows: rows as usize,
+            cols: cols as usize,
             row_ptr,
             col_idx,
             values,
+        };
+        let made = two_level_setup::setup(
+            &a,
             options,
             setup_ints,
             setup_floats,
             work_ints,
             work_floats,
         );
-        told::setup(a, record)
+        tell(made, record)
     } else {
-        answers::receive(record, 0, 0);
+        receive(record, &[]);
         255
     }
 }
@@ -244,9 +255,9 @@ pub fn yelomawin_apply(
     if record::is_record(record) {
         let s = record::record_of(record);
         let a = two_level_apply::apply(s, setup_ints, setup_floats, residual, correction, work);
-        told::plain(a, answer)
+        tell(a, answer)
     } else {
-        answers::receive(answer, 0, 0);
+        receive(answer, &[]);
         26
     }
 }
