@@ -1,6 +1,7 @@
 -- The numbers that a text spells answer it as the text itself does.
 use mathlib.Core.Path.{◌≡◌, refl, ap, sym, ◌∙◌}
 use mathlib.Core.Bool.{Bool, true, false, not, ◌&&◌, true≢false}
+use Rattle.std.specs.Prelude.{Option, Some, None}
 use mathlib.Core.List.{List, [], ◌∷◌, ◌++◌, map, append-nil}
 use Prim.Native.Nat.{ℕ, zero, suc, ◌+◌, ◌-◌, ◌*◌, ◌≤◌, ◌<◌}
 use native.Mathlib.Omega.{arith}
@@ -16,7 +17,7 @@ use Rattle.definitions.specs.Text.{is_blank, is_digit, trimmed, is_none, Read, L
 use Rattle.definitions.specs.declared.Refusal.{Refusal}
 use Rattle.definitions.specs.declared.Refusal.TheVariants.{TooLarge, GroupSize, NeighbourOffsets, NoNode, NeighbourOutside, ListTooShort}
 use Rattle.laws.proofs.Tests.{both_true}
-use Rattle.grouping_text.specs.Numbers.{cap, Spelling, ended, behind, spelt, listing, node_from, lists_from, Asked, asked_in, answered}
+use Rattle.grouping_text.specs.Numbers.{cap, grown_by, Spelling, ended, behind, spelt, listing, node_from, lists_from, Asked, asked_in, answered}
 
 pub split {ℓ} : {X : Type ℓ} (b : Bool) → (b ≡ true → X) → (b ≡ false → X) → X
 split true t f = t refl
@@ -44,7 +45,7 @@ digit_not_blank b e =
 -- ---- one number
 
 abbrev spells : List ℕ → Spelling
-spells text = spelt false 0 text
+spells text = spelt None text
 
 -- what the text spells where reading a number from it has an outcome
 abbrev Spells : Outcome Read → Spelling → Type 0
@@ -52,16 +53,16 @@ Spells (refused r) t = (r ≡ NeighbourOffsets) × (t.numbers ≡ [])
 Spells (done x) t = t ≡ behind (cap x.number ∷ []) (spells x.rest)
 
 -- a text one byte further
-module _ (inside : Bool) (n b : ℕ) (bs : List ℕ) where
-  pub spelt_digit : is_digit b ≡ true → spelt inside n (b ∷ bs) ≡ spelt true (cap (n * 10 + (b - 48))) bs
+module _ (n : Option ℕ) (b : ℕ) (bs : List ℕ) where
+  pub spelt_digit : is_digit b ≡ true → spelt n (b ∷ bs) ≡ spelt (Some (grown_by b n)) bs
   unfolding spelt
   spelt_digit e = rw (spelt, e)
 
-  pub spelt_blank : is_digit b ≡ false → is_blank b ≡ true → spelt inside n (b ∷ bs) ≡ behind (ended inside n) (spells bs)
+  pub spelt_blank : is_digit b ≡ false → is_blank b ≡ true → spelt n (b ∷ bs) ≡ behind (ended n) (spells bs)
   unfolding spelt
   spelt_blank e f = rw (spelt, e, f)
 
-  pub spelt_other : is_digit b ≡ false → is_blank b ≡ false → spelt inside n (b ∷ bs) ≡ record { numbers = []; whole = false }
+  pub spelt_other : is_digit b ≡ false → is_blank b ≡ false → spelt n (b ∷ bs) ≡ record { numbers = []; whole = false }
   unfolding spelt
   spelt_other e f = rw (spelt, e, f)
 
@@ -77,14 +78,14 @@ digits_other : (n b : ℕ) (bs : List ℕ) → is_digit b ≡ false → is_blank
 unfolding digits
 digits_other n b bs e f = rw (digits, e, f)
 
-digits_agree : (n : ℕ) (bs : List ℕ) → Spells (digits n bs) (spelt true (cap n) bs)
+digits_agree : (n : ℕ) (bs : List ℕ) → Spells (digits n bs) (spelt (Some (cap n)) bs)
 unfolding digits spelt ended behind
 digits_agree n [] = refl
 digits_agree n (b ∷ bs) = split (is_digit b)
-    (λ e. rw (digits_digit n b bs e, spelt_digit true (cap n) b bs e, cap_step n (b - 48)) (digits_agree (n * 10 + (b - 48)) bs))
+    (λ e. rw (digits_digit n b bs e, spelt_digit (Some (cap n)) b bs e, cap_step n (b - 48)) (digits_agree (n * 10 + (b - 48)) bs))
     (λ e. split (is_blank b)
-    (λ f. rw (digits_blank n b bs e f) (spelt_blank true (cap n) b bs e f))
-    (λ f. rw (digits_other n b bs e f) (refl, ap (λ t. t.numbers) (spelt_other true (cap n) b bs e f))))
+    (λ f. rw (digits_blank n b bs e f) (spelt_blank (Some (cap n)) b bs e f))
+    (λ f. rw (digits_other n b bs e f) (refl, ap (λ t. t.numbers) (spelt_other (Some (cap n)) b bs e f))))
 
 number_blank : (b : ℕ) (bs : List ℕ) → is_blank b ≡ true → number (b ∷ bs) ≡ number bs
 unfolding number trimmed
@@ -105,10 +106,10 @@ number_agree : (text : List ℕ) → Spells (number text) (spells text)
 unfolding number trimmed first spelt ended behind
 number_agree [] = (refl, refl)
 number_agree (b ∷ bs) = split (is_blank b)
-    (λ e. rw (number_blank b bs e, spelt_blank false 0 b bs (blank_not_digit b e) e) (number_agree bs))
+    (λ e. rw (number_blank b bs e, spelt_blank None b bs (blank_not_digit b e) e) (number_agree bs))
     (λ e. split (is_digit b)
-    (λ d. rw (number_digit b bs e d, spelt_digit false 0 b bs d) (rw (spelt_digit true (cap 0) b bs d, cap_step 0 (b - 48)) at (digits_agree 0 (b ∷ bs))))
-    (λ d. rw (number_other b bs e d) (refl, ap (λ t. t.numbers) (spelt_other false 0 b bs d e))))
+    (λ d. rw (number_digit b bs e d, spelt_digit None b bs d) (rw (spelt_digit (Some (cap 0)) b bs d, cap_step 0 (b - 48)) at (digits_agree 0 (b ∷ bs))))
+    (λ d. rw (number_other b bs e d) (refl, ap (λ t. t.numbers) (spelt_other None b bs d e))))
 
 -- reading a number, by cases
 read_cases {ℓ} : {X : Type ℓ} (text : List ℕ) → (number text ≡ refused NeighbourOffsets → (spells text).numbers ≡ [] → X) → ((x : Read) → number text ≡ done x → spells text ≡ behind (cap x.number ∷ []) (spells x.rest) → X) → X
@@ -121,14 +122,14 @@ read_cases {X = X} text f g = go (number text) refl (number_agree text)
 -- ---- the end of the text
 
 -- a number that has begun ends, or the text is not whole
-inside_some : (n : ℕ) (bs : List ℕ) → (is_none (spelt true n bs).numbers && (spelt true n bs).whole) ≡ false
+inside_some : (n : ℕ) (bs : List ℕ) → (is_none (spelt (Some n) bs).numbers && (spelt (Some n) bs).whole) ≡ false
 unfolding is_none spelt ended behind
 inside_some n [] = refl
 inside_some n (b ∷ bs) = split (is_digit b)
-    (λ d. rw (spelt_digit true n b bs d) (inside_some (cap (n * 10 + (b - 48))) bs))
+    (λ d. rw (spelt_digit (Some n) b bs d) (inside_some (cap (n * 10 + (b - 48))) bs))
     (λ d. split (is_blank b)
-    (λ e. rw (spelt_blank true n b bs d e) refl)
-    (λ e. rw (spelt_other true n b bs d e) refl))
+    (λ e. rw (spelt_blank (Some n) b bs d e) refl)
+    (λ e. rw (spelt_other (Some n) b bs d e) refl))
 
 end_blank : (b : ℕ) (bs : List ℕ) → is_blank b ≡ true → is_none (trimmed (b ∷ bs)) ≡ is_none (trimmed bs)
 unfolding trimmed
@@ -142,10 +143,10 @@ end_agrees : (text : List ℕ) → (is_none (spells text).numbers && (spells tex
 unfolding is_none trimmed spelt ended behind
 end_agrees [] = refl
 end_agrees (b ∷ bs) = split (is_blank b)
-    (λ e. rw (end_blank b bs e, spelt_blank false 0 b bs (blank_not_digit b e) e) (end_agrees bs))
+    (λ e. rw (end_blank b bs e, spelt_blank None b bs (blank_not_digit b e) e) (end_agrees bs))
     (λ e. rw (end_other b bs e) (split (is_digit b)
-    (λ d. rw (spelt_digit false 0 b bs d) (inside_some (cap (0 * 10 + (b - 48))) bs))
-    (λ d. rw (spelt_other false 0 b bs d e) refl)))
+    (λ d. rw (spelt_digit None b bs d) (inside_some (cap (0 * 10 + (b - 48))) bs))
+    (λ d. rw (spelt_other None b bs d e) refl)))
 
 -- ---- one node
 

@@ -54,11 +54,6 @@ module _ (lists : ℕ → List ℕ) where
       let ids = (replay (joinings lists no_anchor n size) s).of in
       mapped_length (λ x. place x (firsts [] ids)) ids ∙ replay_length (joinings lists no_anchor n size) s ∙ grown_length n size
 
-tab_same : (f g : ℕ → ℕ) (n : ℕ) → ((i : ℕ) → f i ≡ g i) → tab f n ≡ tab g n
-unfolding tab
-tab_same f g zero h = refl
-tab_same f g (suc n) h = rw (h 0, tab_same (λ i. f (suc i)) (λ i. g (suc i)) n (λ i. h (suc i)))
-
 lines_from_lem : (v : ℕ) (f : ℕ → ℕ) (xs : List ℕ) → ((i : ℕ) → f i ≡ v + i) → flat_map (λ l. l) (zip_with (λ u id. line (decimal u) (decimal id)) (tab f (length xs)) xs) ≡ lines_from v xs
 unfolding tab lines_from flat_map zip_with
 lines_from_lem v f [] h = refl

@@ -1,8 +1,9 @@
 -- A text that is read in pieces is answered as the text in one piece is, whatever the pieces and however long.
 use mathlib.Core.Path.{◌≡◌, refl, ap, sym, ◌∙◌}
 use mathlib.Core.Bool.{Bool, true, false, ◌&&◌}
+use Rattle.std.specs.Prelude.{Option, Some, None}
 use mathlib.Core.List.{List, [], ◌∷◌, ◌++◌, flat_map, append-nil}
-use Prim.Native.Nat.{ℕ, zero, suc, ◌+◌, ◌-◌, ◌*◌, ◌≤◌, min}
+use Prim.Native.Nat.{ℕ, zero, suc, ◌+◌, ◌-◌, ◌≤◌, min}
 use native.Mathlib.Omega.{arith}
 use borrow.Author.Tests.{leb-true, leb-false, le-leb, lt-leb, ltb-true, ltb-false}
 use lib.Dec.{leb, ltb}
@@ -12,7 +13,7 @@ use Rattle.definitions.specs.Refusal.{Outcome, refused, done}
 use Rattle.definitions.specs.Text.{is_blank, is_digit, is_none, Listing, program, printed}
 use Rattle.definitions.specs.declared.Refusal.{Refusal}
 use Rattle.definitions.specs.declared.Refusal.TheVariants.{TooLarge, NeighbourOffsets}
-use Rattle.grouping_text.specs.Numbers.{cap, Spelling, ended, behind, spelt, listing, lists_from, asked_in, answered}
+use Rattle.grouping_text.specs.Numbers.{grown_by, Spelling, ended, behind, spelt, listing, lists_from, asked_in, answered}
 use Rattle.grouping_text.proofs.Agrees.{split, start, spelt_digit, spelt_blank, spelt_other, node_none, node_large, node_short, node_done, lists_refused, lists_next, lists_end, a_2, a_4, a_5, a_6, text_agrees}
 use Rattle.grouping_text.specs.Feeding.{fresh, Held, held, closed, grown, spoilt, byte_in, fed, fed_all, taken, said}
 
@@ -97,14 +98,14 @@ asked_cut (suc (suc k)) h (n ∷ s ∷ rest) w = split (leb n 256)
 abbrev cut : ℕ → Spelling → Spelling
 cut k t = record { numbers = take k t.numbers; whole = t.whole }
 
-abbrev at : Bool → Bool → ℕ → ℕ → List ℕ → Held
-at good inside value count l = held (record { good = good; inside = inside; value = value; count = count }) l
+abbrev at : Bool → Option ℕ → ℕ → List ℕ → Held
+at good value count l = held (record { good = good; value = value; count = count }) l
 
 -- the numbers read already, then those that the rest spells, as far as there is room
 resumed : Held → List ℕ → Spelling
 resumed h text = cut (length h.numbers) (elim h.reader.good [
-  | true ↦ behind (take h.reader.count h.numbers) (spelt h.reader.inside h.reader.value text)
-  | false ↦ record { numbers = take h.reader.count h.numbers ++ ended h.reader.inside h.reader.value; whole = false }
+  | true ↦ behind (take h.reader.count h.numbers) (spelt h.reader.value text)
+  | false ↦ record { numbers = take h.reader.count h.numbers ++ ended h.reader.value; whole = false }
 ])
 
 -- a number more, where there is room for it
@@ -118,54 +119,54 @@ pushed l c v ys = split (ltb c (length l))
     let m : min (c + 1) (length l) ≡ length l = omega arith in
     rw (set_out l c v out, m, take-length l, take_all c l out) (take-append_seam l ys ∙ sym (take-append_seam l (v ∷ ys))))
 
-grows : (b : ℕ) (bs : List ℕ) (inside : Bool) (value count : ℕ) (l : List ℕ) → resumed (grown b (at true inside value count l)) bs ≡ cut (length l) (behind (take count l) (spelt true (cap (value * 10 + (b - 48))) bs))
+grows : (b : ℕ) (bs : List ℕ) (value : Option ℕ) (count : ℕ) (l : List ℕ) → resumed (grown b (at true value count l)) bs ≡ cut (length l) (behind (take count l) (spelt (Some (grown_by b value)) bs))
 unfolding resumed grown
-grows b bs inside value count l = refl
+grows b bs value count l = refl
 
-spoils : (bs : List ℕ) (inside : Bool) (value count : ℕ) (l : List ℕ) → resumed (spoilt (at true inside value count l)) bs ≡ cut (length l) (behind (take count l) (record { numbers = []; whole = false }))
+spoils : (bs : List ℕ) (value : Option ℕ) (count : ℕ) (l : List ℕ) → resumed (spoilt (at true value count l)) bs ≡ cut (length l) (behind (take count l) (record { numbers = []; whole = false }))
 unfolding resumed spoilt behind ended
-spoils bs inside value count l = refl
+spoils bs value count l = refl
 
-closes : (bs : List ℕ) (inside : Bool) (value count : ℕ) (l : List ℕ) → resumed (closed (at true inside value count l)) bs ≡ cut (length l) (behind (take count l) (behind (ended inside value) (spelt false 0 bs)))
+closes : (bs : List ℕ) (value : Option ℕ) (count : ℕ) (l : List ℕ) → resumed (closed (at true value count l)) bs ≡ cut (length l) (behind (take count l) (behind (ended value) (spelt None bs)))
 unfolding resumed closed behind ended
-closes bs true value count l = ap (λ ns. record { numbers = ns; whole = (spelt false 0 bs).whole }) (pushed l count value (spelt false 0 bs).numbers)
-closes bs false value count l = refl
+closes bs (Some value) count l = ap (λ ns. record { numbers = ns; whole = (spelt None bs).whole }) (pushed l count value (spelt None bs).numbers)
+closes bs None count l = refl
 
 -- one byte further
-byte_on : (b : ℕ) (bs : List ℕ) (good inside : Bool) (value count : ℕ) (l : List ℕ) → resumed (byte_in b (at good inside value count l)) bs ≡ resumed (at good inside value count l) (b ∷ bs)
+byte_on : (b : ℕ) (bs : List ℕ) (good : Bool) (value : Option ℕ) (count : ℕ) (l : List ℕ) → resumed (byte_in b (at good value count l)) bs ≡ resumed (at good value count l) (b ∷ bs)
 unfolding resumed byte_in
-byte_on b bs false inside value count l = refl
-byte_on b bs true inside value count l = split (is_digit b)
-    (λ d. ap (λ h. resumed h bs) (byte_digit d) ∙ grows b bs inside value count l ∙ ap (λ t. cut (length l) (behind (take count l) t)) (sym (spelt_digit inside value b bs d)))
+byte_on b bs false value count l = refl
+byte_on b bs true value count l = split (is_digit b)
+    (λ d. ap (λ h. resumed h bs) (byte_digit d) ∙ grows b bs value count l ∙ ap (λ t. cut (length l) (behind (take count l) t)) (sym (spelt_digit value b bs d)))
     (λ d. split (is_blank b)
-    (λ e. ap (λ h. resumed h bs) (byte_blank d e) ∙ closes bs inside value count l ∙ ap (λ t. cut (length l) (behind (take count l) t)) (sym (spelt_blank inside value b bs d e)))
-    (λ e. ap (λ h. resumed h bs) (byte_other d e) ∙ spoils bs inside value count l ∙ ap (λ t. cut (length l) (behind (take count l) t)) (sym (spelt_other inside value b bs d e))))
+    (λ e. ap (λ h. resumed h bs) (byte_blank d e) ∙ closes bs value count l ∙ ap (λ t. cut (length l) (behind (take count l) t)) (sym (spelt_blank value b bs d e)))
+    (λ e. ap (λ h. resumed h bs) (byte_other d e) ∙ spoils bs value count l ∙ ap (λ t. cut (length l) (behind (take count l) t)) (sym (spelt_other value b bs d e))))
   where
-    byte_digit : is_digit b ≡ true → byte_in b (at true inside value count l) ≡ grown b (at true inside value count l)
+    byte_digit : is_digit b ≡ true → byte_in b (at true value count l) ≡ grown b (at true value count l)
     byte_digit d = rw (byte_in, d)
 
-    byte_blank : is_digit b ≡ false → is_blank b ≡ true → byte_in b (at true inside value count l) ≡ closed (at true inside value count l)
+    byte_blank : is_digit b ≡ false → is_blank b ≡ true → byte_in b (at true value count l) ≡ closed (at true value count l)
     byte_blank d e = rw (byte_in, d, e)
 
-    byte_other : is_digit b ≡ false → is_blank b ≡ false → byte_in b (at true inside value count l) ≡ spoilt (at true inside value count l)
+    byte_other : is_digit b ≡ false → is_blank b ≡ false → byte_in b (at true value count l) ≡ spoilt (at true value count l)
     byte_other d e = rw (byte_in, d, e)
 
 -- a piece further
 fed_on : (bs rest : List ℕ) (h : Held) → resumed (fed bs h) rest ≡ resumed h (bs ++ rest)
 unfolding fed
 fed_on [] rest h = refl
-fed_on (b ∷ bs) rest h = fed_on bs rest (byte_in b h) ∙ byte_on b (bs ++ rest) h.reader.good h.reader.inside h.reader.value h.reader.count h.numbers
+fed_on (b ∷ bs) rest h = fed_on bs rest (byte_in b h) ∙ byte_on b (bs ++ rest) h.reader.good h.reader.value h.reader.count h.numbers
 
 -- the end
 front : (l : List ℕ) (m : ℕ) → take (length l) (take m l ++ []) ≡ take m l
 front l m = rw (append-nil (take m l)) (take_all (length l) (take m l) (omega (arith, length-take m l)))
 
-taken_on : (good inside : Bool) (value count : ℕ) (l : List ℕ) → taken (at good inside value count l) ≡ resumed (at good inside value count l) []
+taken_on : (good : Bool) (value : Option ℕ) (count : ℕ) (l : List ℕ) → taken (at good value count l) ≡ resumed (at good value count l) []
 unfolding resumed taken closed spelt behind ended
-taken_on true true value count l = ap (λ ns. record { numbers = ns; whole = true }) (sym (front (set l count value) (min (count + 1) (length l))) ∙ pushed l count value [])
-taken_on true false value count l = ap (λ ns. record { numbers = ns; whole = true }) (sym (front l count))
-taken_on false true value count l = ap (λ ns. record { numbers = ns; whole = false }) (sym (front (set l count value) (min (count + 1) (length l))) ∙ pushed l count value [])
-taken_on false false value count l = ap (λ ns. record { numbers = ns; whole = false }) (sym (front l count))
+taken_on true (Some value) count l = ap (λ ns. record { numbers = ns; whole = true }) (sym (front (set l count value) (min (count + 1) (length l))) ∙ pushed l count value [])
+taken_on true None count l = ap (λ ns. record { numbers = ns; whole = true }) (sym (front l count))
+taken_on false (Some value) count l = ap (λ ns. record { numbers = ns; whole = false }) (sym (front (set l count value) (min (count + 1) (length l))) ∙ pushed l count value [])
+taken_on false None count l = ap (λ ns. record { numbers = ns; whole = false }) (sym (front l count))
 
 -- ---- THE PIECES DO NOT MATTER
 
@@ -184,8 +185,8 @@ pub said_program : (text l : List ℕ) → 2307 ≤ length l → said (fed text 
 unfolding said program resumed behind
 said_program text l h =
     let s = fed text (held fresh l) in
-    let t = spelt false 0 text in
-    let e : taken s ≡ cut (length l) t = taken_on s.reader.good s.reader.inside s.reader.value s.reader.count s.numbers ∙ fed_on text [] (held fresh l) ∙ ap (resumed (held fresh l)) (append-nil text) in
+    let t = spelt None text in
+    let e : taken s ≡ cut (length l) t = taken_on s.reader.good s.reader.value s.reader.count s.numbers ∙ fed_on text [] (held fresh l) ∙ ap (resumed (held fresh l)) (append-nil text) in
     ap (λ q. printed (answered (asked_in q.numbers q.whole))) e ∙ ap (λ a. printed (answered a)) (asked_cut (length l) h t.numbers t.whole) ∙ ap printed (text_agrees text)
 
 -- THE PROGRAM, FED PIECE BY PIECE

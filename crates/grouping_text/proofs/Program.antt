@@ -1,24 +1,23 @@
 -- From what was read and put to the program's text.
 use mathlib.Core.Path.{◌≡◌, refl, ap, sym, ◌∙◌}
 use mathlib.Core.List.{List, [], ◌∷◌, ◌++◌}
-use Prim.Native.Nat.{ℕ, suc, ◌+◌, ◌-◌, ◌*◌, ◌≤◌, min}
+use Prim.Native.Nat.{ℕ, suc, ◌+◌, ◌*◌, ◌≤◌, min}
 use native.Mathlib.Omega.{arith}
 use borrow.Author.Tests.{ltb-true, ltb-false}
 use lib.Dec.{ltb}
 use lib.ListN.{length, take, drop, length-append}
 use lib.Seq.{sets, set-append_seam, append_snoc, take-nil, take_all, take-length, set_out}
-use Rattle.definitions.specs.Refusal.{Outcome, number_of, cause_of}
+use Rattle.definitions.specs.Refusal.{Outcome, refused, done, number_of}
+use Rattle.definitions.specs.declared.Refusal.{Refusal}
 use Rattle.definitions.specs.Groups.{grouping_call}
 use Rattle.definitions.specs.Text.{program, printed, line, decimal, refused_word}
 use Rattle.numbers.specs.Copied.{copied}
-use Rattle.grouping_text.specs.declared.Asking.{Asking}
 use Rattle.grouping_text.specs.declared.Reader.{Reader}
 use Rattle.grouping_text.specs.Numbers.{Asked, asked_in, answered}
 use Rattle.grouping_text.proofs.Agrees.{split}
 use Rattle.grouping_text.specs.Feeding.{fresh, Held, held, closed, fed, taken, said}
 use Rattle.grouping_text.proofs.Pieces.{said_program}
 use Rattle.grouping_text.specs.Puts.{Puts}
-use Rattle.grouping_text.specs.Steps.{asked_of}
 
 sets_out : (l : List ℕ) (i : ℕ) (vs : List ℕ) → length l ≤ i → sets l i vs ≡ l
 sets_out l i [] h = refl
@@ -40,31 +39,23 @@ puts_whole l xs ys l₁ r e p =
     let q : r ≡ min (length xs) (length l) = omega (arith, p.end) in
     (q ∙ ap (λ k. min (length k) (length l)) e, p.list ∙ sets_copied [] l xs ∙ ap (λ k. take (length l) k ++ drop (length k) l) e)
 
--- what is printed of what was asked
-module _ (asked : Outcome Asked) (s : Asking) (o n : List ℕ) (e : asked_of o n s ≡ asked) where
-  pub prints_answer : s.cause ≡ 0 → printed (grouping_call s.nodes s.size o n s.nodes (8 * s.nodes + 4 * length n + 16)) ≡ printed (answered asked)
-  unfolding asked_of answered
-  prints_answer z = sym (ap (λ a. printed (answered a)) (sym e) ∙ rw (asked_of, z))
+-- what is printed of what was asked, by the numbers that ask it
+pub prints_answer : (asked : Outcome Asked) (q : Asked) → done q ≡ asked → printed (grouping_call q.nodes q.size q.offsets q.neighbours q.nodes (8 * q.nodes + 4 * length q.neighbours + 16)) ≡ printed (answered asked)
+unfolding answered
+prints_answer asked q e = ap (λ a. printed (answered a)) e
 
-  pub prints_large : s.cause ≡ 1 → line refused_word (decimal 1) ≡ printed (answered asked)
-  unfolding asked_of answered printed number_of cause_of
-  prints_large z = sym (ap (λ a. printed (answered a)) (sym e) ∙ rw (asked_of, z))
-
-  pub prints_bad : (s.cause ≡ 0 → ⊥) → (s.cause ≡ 1 → ⊥) → line refused_word (decimal 27) ≡ printed (answered asked)
-  unfolding asked_of answered printed number_of cause_of
-  prints_bad a b = let z : s.cause ≡ suc (suc (s.cause - 2)) = omega (arith, a, b) in sym (ap (λ q. printed (answered q)) (sym e) ∙ rw (asked_of, z))
-
-pub parts : (n : ℕ) (xs : List ℕ) → take (n - 0) (drop 0 xs) ≡ take n xs
-parts n xs = let e : n - 0 ≡ n = omega arith in rw e refl
+pub prints_cause : (asked : Outcome Asked) (r : Refusal) → refused r ≡ asked → line refused_word (decimal (number_of r)) ≡ printed (answered asked)
+unfolding answered printed
+prints_cause asked r e = ap (λ a. printed (answered a)) e
 
 -- as many numbers as there are, of those that the reader counts
-front : (c : ℕ) (l : List ℕ) (m : ℕ) → m ≡ min c (length l) → take (m - 0) (drop 0 l) ≡ take c l
-front c l m e = parts m l ∙ split (ltb c (length l))
+front : (c : ℕ) (l : List ℕ) (m : ℕ) → m ≡ min c (length l) → take m l ≡ take c l
+front c l m e = split (ltb c (length l))
     (λ t. let z : m ≡ c = omega (arith, ltb-true c (length l) t) in rw z refl)
     (λ t. let z : m ≡ length l = omega (arith, ltb-false c (length l) t) in rw (z, take-length l) (sym (take_all c l (ltb-false c (length l) t))))
 
 -- what a closed reader says
-pub said_is : (h : Held) (r : Reader) (l : List ℕ) (m : ℕ) → held r l ≡ closed h → m ≡ min r.count (length l) → printed (answered (asked_in (take (m - 0) (drop 0 l)) r.good)) ≡ said h
+pub said_is : (h : Held) (r : Reader) (l : List ℕ) (m : ℕ) → held r l ≡ closed h → m ≡ min r.count (length l) → printed (answered (asked_in (take m l) r.good)) ≡ said h
 unfolding said taken
 said_is h r l m e z = ap (λ k. printed (answered (asked_in k r.good))) (front r.count l m z) ∙ ap (λ q. printed (answered (asked_in (take q.reader.count q.numbers) q.reader.good))) e
 

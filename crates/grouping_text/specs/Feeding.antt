@@ -1,12 +1,12 @@
 -- Reading a text piece by piece: a reader, and the list that its numbers go into.
-use Rattle.std.specs.Prelude.{ℕ, ◌+◌, ◌-◌, ◌*◌, min, true, false, List, [], ◌∷◌, length, take, set}
+use Rattle.std.specs.Prelude.{ℕ, ◌+◌, min, true, false, Some, None, List, [], ◌∷◌, length, take, set}
 use Rattle.definitions.specs.Text.{is_blank, is_digit, printed}
 use Rattle.grouping_text.specs.declared.Reader.{Reader}
-use Rattle.grouping_text.specs.Numbers.{cap, Spelling, asked_in, answered}
+use Rattle.grouping_text.specs.Numbers.{grown_by, Spelling, asked_in, answered}
 
 -- before the first byte
 abbrev pub fresh : Reader
-fresh = record { good = true; inside = false; value = 0; count = 0 }
+fresh = record { good = true; value = None; count = 0 }
 
 -- a reader with the list that is lent to it
 pub record Held : Type 0 where
@@ -18,18 +18,18 @@ held r l = record { reader = r; numbers = l }
 
 -- the number that is being read, if there is one, goes into the list, as far as there is room
 unfoldable pub closed : Held → Held
-closed h = elim h.reader.inside [
-  | true ↦ held (record { good = h.reader.good; inside = false; value = 0; count = min (h.reader.count + 1) (length h.numbers) }) (set h.numbers h.reader.count h.reader.value)
-  | false ↦ held (record { good = h.reader.good; inside = false; value = 0; count = h.reader.count }) h.numbers
+closed h = elim h.reader.value [
+  | Some n ↦ held (record { good = h.reader.good; value = None; count = min (h.reader.count + 1) (length h.numbers) }) (set h.numbers h.reader.count n)
+  | None ↦ h
 ]
 
 -- a digit more
 unfoldable pub grown : ℕ → Held → Held
-grown b h = held (record { good = h.reader.good; inside = true; value = cap (h.reader.value * 10 + (b - 48)); count = h.reader.count }) h.numbers
+grown b h = held (record { good = h.reader.good; value = Some (grown_by b h.reader.value); count = h.reader.count }) h.numbers
 
 -- a byte that is neither digit nor blank: the number before it is none, and nothing behind it is looked at
 unfoldable pub spoilt : Held → Held
-spoilt h = held (record { good = false; inside = false; value = 0; count = h.reader.count }) h.numbers
+spoilt h = held (record { good = false; value = None; count = h.reader.count }) h.numbers
 
 -- one byte
 unfoldable pub byte_in : ℕ → Held → Held

@@ -1,6 +1,6 @@
 -- A text as the numbers that it spells, and what these ask.
 -- Numbers stop growing at the largest u32. Every number that a call accepts is far below it, so a text is answered alike (`Agrees`).
-use Rattle.std.specs.Prelude.{ℕ, zero, suc, ◌+◌, ◌-◌, ◌*◌, min, Bool, true, false, ◌&&◌, List, [], ◌∷◌, ◌++◌, leb, length, take, drop}
+use Rattle.std.specs.Prelude.{ℕ, zero, suc, ◌+◌, ◌-◌, ◌*◌, min, Bool, true, false, ◌&&◌, Option, Some, None, unwrap_or, List, [], ◌∷◌, ◌++◌, leb, length, take, drop}
 use Rattle.definitions.specs.Refusal.{Outcome, refused, done, require, ◌>>=◌}
 use Rattle.definitions.specs.Groups.{Grouping, grouping_call}
 use Rattle.definitions.specs.Text.{is_blank, is_digit, is_none, Listing, max_text_nodes, max_text_neighbours}
@@ -17,17 +17,21 @@ pub record Spelling : Type 0 where
   pub whole : Bool
 
 -- the number that a blank or the text's end ends, if there is one
-unfoldable pub ended : Bool → ℕ → List ℕ
-ended true n = n ∷ []
-ended false n = []
+unfoldable pub ended : Option ℕ → List ℕ
+ended (Some n) = n ∷ []
+ended None = []
 
 unfoldable pub behind : List ℕ → Spelling → Spelling
 behind xs t = record { numbers = xs ++ t.numbers; whole = t.whole }
 
--- what a text spells; `inside` says that a number has begun, of which n is there already
-unfoldable pub spelt : Bool → ℕ → List ℕ → Spelling
-spelt inside n [] = record { numbers = ended inside n; whole = true }
-spelt inside n (b ∷ bs) = elim (is_digit b) [ true ↦ spelt true (cap (n * 10 + (b - 48))) bs | false ↦ elim (is_blank b) [ true ↦ behind (ended inside n) (spelt false 0 bs) | false ↦ record { numbers = []; whole = false } ] ]
+-- the number that is being read with one digit more
+abbrev pub grown_by : ℕ → Option ℕ → ℕ
+grown_by b n = cap (unwrap_or n 0 * 10 + (b - 48))
+
+-- what a text spells; n is the number that is being read, so far
+unfoldable pub spelt : Option ℕ → List ℕ → Spelling
+spelt n [] = record { numbers = ended n; whole = true }
+spelt n (b ∷ bs) = elim (is_digit b) [ true ↦ spelt (Some (grown_by b n)) bs | false ↦ elim (is_blank b) [ true ↦ behind (ended n) (spelt None bs) | false ↦ record { numbers = []; whole = false } ] ]
 
 -- ---- what the numbers ask
 

@@ -1,16 +1,16 @@
 -- What the steps of reading hand to one another.
-use Rattle.std.specs.Prelude.{List, ℕ, zero, suc, drop}
+use Rattle.std.specs.Prelude.{List, ℕ, ◌+◌, take, Result, Ok, Err}
 use Rattle.definitions.specs.Refusal.{Outcome, refused, done}
-use Rattle.definitions.specs.Text.{Listing}
-use Rattle.definitions.specs.declared.Refusal.TheVariants.{NeighbourOffsets, TooLarge}
-use Rattle.grouping_text.specs.declared.Got.{Got}
+use Rattle.definitions.specs.declared.Refusal.{Refusal}
 use Rattle.grouping_text.specs.declared.Asking.{Asking}
-use Rattle.grouping_text.specs.Numbers.{Asked, listing}
+use Rattle.grouping_text.specs.Numbers.{Asked}
 
--- lists as far as they were read, or the cause: 1 or 27
-unfoldable pub got_of : List ℕ → List ℕ → List ℕ → Got → Outcome Listing
-got_of offsets neighbours numbers s = elim s.cause [ zero ↦ done (listing offsets neighbours (drop s.next numbers)) | suc k ↦ elim k [ zero ↦ refused TooLarge | suc m ↦ refused NeighbourOffsets ] ]
+-- what a step's result says: the value that f makes of it, or the cause
+abbrev pub outcome_of : {A B : Type 0} → (A → B) → Result A Refusal → Outcome B
+outcome_of f (Ok x) = done (f x)
+outcome_of f (Err r) = refused r
 
--- a text that was read whole, or the cause
-unfoldable pub asked_of : List ℕ → List ℕ → Asking → Outcome Asked
-asked_of offsets neighbours s = elim s.cause [ zero ↦ done (record { nodes = s.nodes; size = s.size; offsets = offsets; neighbours = neighbours }) | suc k ↦ elim k [ zero ↦ refused TooLarge | suc m ↦ refused NeighbourOffsets ] ]
+-- a text that was read whole, with the lists that it was read into
+abbrev pub asked_of : List ℕ → List ℕ → Asking → Asked
+asked_of offsets neighbours a =
+    record { nodes = a.nodes; size = a.size; offsets = take (a.nodes + 1) offsets; neighbours = take a.count neighbours }

@@ -5,7 +5,10 @@ ghost use Rattle.definitions.specs.Text.{printed, line, decimal, groups_word, ma
 ghost use Rattle.grouping_text.specs.Puts.{Puts, lines_from};
 
 use crate::printing::{put_head, put_ids};
-use definitions::GroupingAnswer;
+use definitions::{MAX_TEXT_NEIGHBOURS, MAX_TEXT_NODES};
+
+// What grouping works in, at the largest text.
+const WORK: usize = 8 * MAX_TEXT_NODES + 4 * MAX_TEXT_NEIGHBOURS + 16;
 
 // Prints the group count, then node and id.
 fn put_groups(out: &mut [u8], count: u64, ids: &[u32]) -> usize
@@ -31,8 +34,8 @@ fn run(
 {
     let found = aggregates::group(nodes, size, offsets, neighbours, ids, work);
     match found {
-        GroupingAnswer::Refused(cause) => put_head(out, b"refused", causes::number_of(cause)),
-        GroupingAnswer::Groups(count) => put_groups(out, count, &ids[..]),
+        Err(cause) => put_head(out, b"refused", causes::number_of(cause)),
+        Ok(count) => put_groups(out, count, ids),
     }
 }
 
@@ -48,16 +51,16 @@ pub(crate) fn answer(
     ensures { let g = grouping_call nodes size offsets.now neighbours.now nodes (8 * nodes + 4 * length neighbours.now + 16) in
         Puts out.old 0 (printed g) out.new result }
 {
-    let mut ids = [0u32; 256];
-    let mut work = [0u32; 10256];
+    let mut ids = [0u32; MAX_TEXT_NODES];
+    let mut work = [0u32; WORK];
     let room = 8 * nodes + 4 * neighbours.len() + 16;
     run(
         nodes,
         size,
         offsets,
         neighbours,
-        &mut ids[0..nodes],
-        &mut work[0..room],
+        &mut ids[..nodes],
+        &mut work[..room],
         out,
     )
 }

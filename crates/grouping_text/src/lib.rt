@@ -14,27 +14,26 @@ mod printing;
 mod reading;
 mod whole;
 
-// How far a text was read: no byte met yet that is neither digit nor blank; inside a number, and its value so far; how many numbers.
+use definitions::{MAX_TEXT_NEIGHBOURS, MAX_TEXT_NODES};
+
+// How far a text was read: no byte met yet that is neither digit nor blank; the number that is being read, so far; how many numbers.
 #[derive(Clone, Copy)]
 pub struct Reader {
     pub good: bool,
-    pub inside: bool,
-    pub value: u32,
+    pub value: Option<u32>,
     pub count: usize,
 }
 
-// Lists that were read: how many neighbours, and where the numbers go on; or the number of a cause.
+// Lists that were read: how many neighbours, and the numbers behind them.
 #[derive(Clone, Copy)]
-pub struct Got {
-    pub cause: u32,
+pub struct Got<'a> {
     pub count: usize,
-    pub next: usize,
+    pub rest: &'a [u32],
 }
 
-// A text that was read whole: nodes, size and how many neighbours; or the number of a cause.
+// A text that was read whole: nodes, size and how many neighbours.
 #[derive(Clone, Copy)]
 pub struct Asking {
-    pub cause: u32,
     pub nodes: usize,
     pub size: usize,
     pub count: usize,
@@ -50,21 +49,19 @@ pub fn start() -> Reader
 {
     Reader {
         good: true,
-        inside: false,
-        value: 0,
+        value: None,
         count: 0,
     }
 }
 
 // The next piece of the text.
+#[tactic(auto, unfolding(crate::specs::Feeding::fed))]
 pub fn feed(reader: Reader, piece: &[u8], numbers: &mut [u32]) -> Reader
     ensures { held result numbers.new ≡ fed piece.now (held reader numbers.old) }
 {
     let mut last = reader;
-    let mut i: usize = 0;
-    while i < piece.len() {
-        last = reading::byte_in(last, piece[i], numbers);
-        i += 1;
+    for &b in piece {
+        last = reading::byte_in(last, b, numbers);
     }
     last
 }
@@ -73,32 +70,18 @@ pub fn feed(reader: Reader, piece: &[u8], numbers: &mut [u32]) -> Reader
 fn say(numbers: &[u32], whole: bool, out: &mut [u8]) -> usize
     ensures { Puts out.old 0 (printed (answered (asked_in numbers.now whole))) out.new result }
 {
-    let mut offsets = [0u32; 257];
-    let mut neighbours = [0u32; 2048];
-    let asked = whole::ask(numbers, whole, &mut offsets[..], &mut neighbours[..]);
-    let cause = asked.cause;
-    if cause == 0 {
-        let nodes = asked.nodes;
-        let end = nodes + 1;
-        let count = asked.count;
-        return answers::answer(
-            nodes,
+    let mut offsets = [0u32; MAX_TEXT_NODES + 1];
+    let mut neighbours = [0u32; MAX_TEXT_NEIGHBOURS];
+    match whole::ask(numbers, whole, &mut offsets, &mut neighbours) {
+        Ok(asked) => answers::answer(
+            asked.nodes,
             asked.size,
-            &offsets[0..end],
-            &neighbours[0..count],
+            &offsets[..asked.nodes + 1],
+            &neighbours[..asked.count],
             out,
-        );
+        ),
+        Err(cause) => printing::put_head(out, b"refused", causes::number_of(cause)),
     }
-    if cause == 1 {
-        return printing::put_head(out, b"refused", 1);
-    }
-    printing::put_head(out, b"refused", 27)
-}
-
-fn least(a: usize, b: usize) -> usize
-    ensures { result ≡ min a b }
-{
-    if a < b { a } else { b }
 }
 
 // The text has ended: prints into `out`, as far as it goes, and returns how many bytes. 2,059 bytes hold every answer.
@@ -108,9 +91,8 @@ pub fn finish(reader: Reader, numbers: &mut [u32], out: &mut [u8]) -> usize
     ensures numbers_after { numbers.new ≡ (closed (held reader numbers.old)).numbers }
 {
     let last = reading::close(reader, numbers);
-    let count = last.count;
-    let end = least(count, numbers.len());
-    say(&numbers[0..end], last.good, out)
+    let end = last.count.min(numbers.len());
+    say(&numbers[..end], last.good, out)
 }
 
 // The grouping program's text in one piece.
@@ -119,6 +101,6 @@ pub fn grouping_text(text: &[u8], out: &mut [u8]) -> usize
     ensures out_after { out.new ≡ copied (program text.now) out.old }
 {
     let mut numbers = [0u32; ROOM];
-    let all = feed(start(), text, &mut numbers[..]);
-    finish(all, &mut numbers[..], out)
+    let all = feed(start(), text, &mut numbers);
+    finish(all, &mut numbers, out)
 }

@@ -1,4 +1,4 @@
-// Printing: bytes into a list, as far as it goes.
+// Printing: bytes into the caller's list, as far as it goes. There is no heap, so the place to go on at stands beside the list.
 ghost use Rattle.std.specs.Prelude.{[], ◌∷◌, ◌≤◌, length};
 ghost use Rattle.definitions.specs.Text.{decimal_in, decimal, line};
 ghost use Rattle.grouping_text.specs.Puts.{Puts, lines_from};
@@ -24,10 +24,10 @@ fn put_decimal(out: &mut [u8], at: usize, n: u64, places: u32) -> usize
     }
     let rest = n / 10;
     if rest == 0 {
-        return put(out, at, 48 + n as u8);
+        return put(out, at, b'0' + n as u8);
     }
     let next = put_decimal(out, at, rest, places - 1);
-    put(out, next, 48 + (n % 10) as u8)
+    put(out, next, b'0' + (n % 10) as u8)
 }
 
 fn put_all(out: &mut [u8], at: usize, bytes: &[u8]) -> usize
@@ -35,10 +35,8 @@ fn put_all(out: &mut [u8], at: usize, bytes: &[u8]) -> usize
     ensures { Puts out.old at bytes.now out.new result }
 {
     let mut end = at;
-    let mut i: usize = 0;
-    while i < bytes.len() {
-        end = put(out, end, bytes[i]);
-        i += 1;
+    for &b in bytes {
+        end = put(out, end, b);
     }
     end
 }
@@ -48,9 +46,9 @@ pub(crate) fn put_head(out: &mut [u8], word: &[u8], n: u64) -> usize
     ensures { Puts out.old 0 (line word.now (decimal n)) out.new result }
 {
     let first = put_all(out, 0, word);
-    let second = put(out, first, 32);
+    let second = put(out, first, b' ');
     let third = put_decimal(out, second, n, 20);
-    put(out, third, 10)
+    put(out, third, b'\n')
 }
 
 // Two numbers.
@@ -59,9 +57,9 @@ fn put_line(out: &mut [u8], at: usize, v: u64, id: u64) -> usize
     ensures { Puts out.old at (line (decimal v) (decimal id)) out.new result }
 {
     let first = put_decimal(out, at, v, 20);
-    let second = put(out, first, 32);
+    let second = put(out, first, b' ');
     let third = put_decimal(out, second, id, 20);
-    put(out, third, 10)
+    put(out, third, b'\n')
 }
 
 // Node and id, one a line.
@@ -70,10 +68,8 @@ pub(crate) fn put_ids(out: &mut [u8], at: usize, ids: &[u32]) -> usize
     ensures { Puts out.old at (lines_from 0 ids.now) out.new result }
 {
     let mut end = at;
-    let mut v: usize = 0;
-    while v < ids.len() {
-        end = put_line(out, end, v as u64, ids[v] as u64);
-        v += 1;
+    for (v, &id) in ids.iter().enumerate() {
+        end = put_line(out, end, v as u64, u64::from(id));
     }
     end
 }

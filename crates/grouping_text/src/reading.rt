@@ -1,108 +1,65 @@
 // Reading decimal numbers with white space between them, byte by byte. Numbers stop growing at the largest u32.
-ghost use Rattle.std.specs.Prelude.{◌≡◌, ◌≤◌, ◌+◌, ◌-◌, ◌*◌};
-ghost use Rattle.definitions.specs.Text.{is_blank, is_digit};
-ghost use Rattle.grouping_text.specs.Numbers.{cap};
+ghost use Rattle.std.specs.Prelude.{◌≡◌};
+ghost use Rattle.definitions.specs.Text.{is_blank};
 ghost use Rattle.grouping_text.specs.Feeding.{held, closed, byte_in};
 
 use crate::Reader;
 
-fn wide(x: u8) -> u64
-    ensures { result ≡ x }
-{
-    x as u64
-}
-
-// Space, tab, line feed, carriage return.
+#[tactic(auto, unfolding(definitions::specs::Text::is_blank))]
 fn blank(b: u8) -> bool
     ensures { result ≡ is_blank b }
 {
-    if b == 32 {
-        return true;
-    }
-    if b == 9 {
-        return true;
-    }
-    if b == 10 {
-        return true;
-    }
-    b == 13
-}
-
-fn digit(b: u8) -> bool
-    ensures { result ≡ is_digit b }
-{
-    if b < 48 {
-        return false;
-    }
-    b <= 57
-}
-
-// The next digit of a number, of which n is there already.
-fn more(n: u32, b: u8) -> u32
-    requires { (48 ≤ b) × (b ≤ 57) }
-    ensures { result ≡ cap (n * 10 + (b - 48)) }
-{
-    let m = (n as u64) * 10 + (wide(b) - 48);
-    if 4294967295 < m { 4294967295 } else { m as u32 }
+    matches!(b, b' ' | b'\t' | b'\n' | b'\r')
 }
 
 // Puts the number that is being read, if there is one, into the list, as far as there is room.
+#[tactic(auto, unfolding(crate::specs::Feeding::closed))]
 pub(crate) fn close(reader: Reader, numbers: &mut [u32]) -> Reader
     ensures { held result numbers.new ≡ closed (held reader numbers.old) }
 {
-    let inside = reader.inside;
-    if inside {
-        let count = reader.count;
-        let room = numbers.len();
-        if count < room {
-            let value = reader.value;
-            numbers[count] = value;
-            return Reader {
-                good: reader.good,
-                inside: false,
-                value: 0,
-                count: count + 1,
-            };
-        }
+    let Some(value) = reader.value else {
+        return reader;
+    };
+    let room = numbers.len();
+    if reader.count < room {
+        numbers[reader.count] = value;
         return Reader {
-            good: reader.good,
-            inside: false,
-            value: 0,
-            count: room,
+            value: None,
+            count: reader.count + 1,
+            ..reader
         };
     }
     Reader {
-        good: reader.good,
-        inside: false,
-        value: 0,
-        count: reader.count,
+        value: None,
+        count: room,
+        ..reader
     }
 }
 
 // One byte of the text.
+#[tactic(auto, unfolding(crate::specs::Feeding::byte_in, crate::specs::Feeding::grown, crate::specs::Feeding::spoilt, crate::specs::Numbers::cap, definitions::specs::Text::is_digit))]
 pub(crate) fn byte_in(reader: Reader, b: u8, numbers: &mut [u32]) -> Reader
     ensures { held result numbers.new ≡ byte_in b (held reader numbers.old) }
 {
-    let good = reader.good;
-    if good {
-        if digit(b) {
-            let value = more(reader.value, b);
-            return Reader {
-                good: good,
-                inside: true,
-                value: value,
-                count: reader.count,
-            };
-        }
-        if blank(b) {
-            return close(reader, numbers);
-        }
+    if !reader.good {
+        return reader;
+    }
+    if b.is_ascii_digit() {
+        let so_far = reader.value.unwrap_or(0);
+        let value = so_far
+            .saturating_mul(10)
+            .saturating_add(u32::from(b - b'0'));
         return Reader {
-            good: false,
-            inside: false,
-            value: 0,
-            count: reader.count,
+            value: Some(value),
+            ..reader
         };
     }
-    reader
+    if blank(b) {
+        return close(reader, numbers);
+    }
+    Reader {
+        good: false,
+        value: None,
+        ..reader
+    }
 }

@@ -1,186 +1,137 @@
 // Whether an answer is the recorded one.
-use crate::lists;
-use crate::reading::{Line, closed, numbers};
+use crate::reading::{Base, Lines, Miss, agree};
 use definitions::Refusal;
 
-// A refusal's number and the values that the Rust tells with it, in so many places of a line.
-#[derive(Clone, Copy)]
-struct Cause {
-    count: usize,
-    number: u64,
-    first: u64,
-    second: u64,
-}
-
-fn plain(number: u64) -> Cause {
-    Cause {
-        count: 1,
-        number: number,
-        first: 0,
-        second: 0,
-    }
-}
-
-fn with(number: u64, value: u64) -> Cause {
-    Cause {
-        count: 2,
-        number: number,
-        first: value,
-        second: 0,
-    }
-}
-
-// The Rust tells no row with 14, 15, 21 and 24, and does not know 1, 13, 17, 18 and 26 to 29.
-fn told(cause: Refusal) -> Cause {
+// A refusal's number.
+fn number_of(cause: Refusal) -> u64 {
     match cause {
-        Refusal::TooLarge => plain(1),
-        Refusal::RowListLength => plain(2),
-        Refusal::ColumnListLength => plain(3),
-        Refusal::FirstPointer => plain(4),
-        Refusal::LastPointer => plain(5),
-        Refusal::PointerFalls => plain(6),
-        Refusal::ColumnOutside => plain(7),
-        Refusal::ValueNotFinite => plain(8),
-        Refusal::NotSquare => plain(9),
-        Refusal::BlockSize => plain(10),
-        Refusal::GroupSize => plain(11),
-        Refusal::NotMultiple => plain(12),
-        Refusal::ListTooShort => plain(13),
-        Refusal::BlockNotSymmetric(_) => plain(14),
-        Refusal::BlockPivot(_) => plain(15),
-        Refusal::NoNode => plain(16),
-        Refusal::CoarseTooLarge(_) => plain(17),
-        Refusal::CoarseListTooShort(_) => plain(18),
-        Refusal::MissingDiagonal(row) => with(19, row),
-        Refusal::ZeroDiagonal(row) => with(20, row),
-        Refusal::NegativeDiagonal(_) => plain(21),
-        Refusal::EstimateFailed(stage) => with(22, stage),
-        Refusal::CoarseScale => plain(23),
-        Refusal::CoarsePivot(_) => plain(24),
-        Refusal::WrongLength { expected, actual } => Cause {
-            count: 3,
-            number: 25,
-            first: expected,
-            second: actual,
-        },
-        Refusal::SetupMisfit => plain(26),
-        Refusal::NeighbourOffsets => plain(27),
-        Refusal::NeighbourOutside => plain(28),
-        Refusal::LogTooShort => plain(29),
+        Refusal::TooLarge => 1,
+        Refusal::RowListLength => 2,
+        Refusal::ColumnListLength => 3,
+        Refusal::FirstPointer => 4,
+        Refusal::LastPointer => 5,
+        Refusal::PointerFalls => 6,
+        Refusal::ColumnOutside => 7,
+        Refusal::ValueNotFinite => 8,
+        Refusal::NotSquare => 9,
+        Refusal::BlockSize => 10,
+        Refusal::GroupSize => 11,
+        Refusal::NotMultiple => 12,
+        Refusal::ListTooShort => 13,
+        Refusal::BlockNotSymmetric(_) => 14,
+        Refusal::BlockPivot(_) => 15,
+        Refusal::NoNode => 16,
+        Refusal::CoarseTooLarge(_) => 17,
+        Refusal::CoarseListTooShort(_) => 18,
+        Refusal::MissingDiagonal(_) => 19,
+        Refusal::ZeroDiagonal(_) => 20,
+        Refusal::NegativeDiagonal(_) => 21,
+        Refusal::EstimateFailed(_) => 22,
+        Refusal::CoarseScale => 23,
+        Refusal::CoarsePivot(_) => 24,
+        Refusal::WrongLength { .. } => 25,
+        Refusal::SetupMisfit => 26,
+        Refusal::NeighbourOffsets => 27,
+        Refusal::NeighbourOutside => 28,
+        Refusal::LogTooShort => 29,
     }
 }
 
-// Whether the recorded answer, and the case with it, is this refusal.
-pub(crate) fn refused(text: &[u8], at: usize, cause: Refusal) -> bool {
-    let t = told(cause);
-    let mut read = [0u64; 3];
-    let line = numbers(text, at, b"refused", false, &mut read);
-    if line.count != t.count {
-        return false;
+// Whether these are the values that the Rust tells with a refusal: it tells no row with 14, 15, 21 and 24, and does not know 1, 13, 17, 18 and
+// 26 to 29.
+fn told_with(cause: Refusal, values: &[u64]) -> bool {
+    match (cause, values) {
+        (
+            Refusal::MissingDiagonal(value)
+            | Refusal::ZeroDiagonal(value)
+            | Refusal::EstimateFailed(value),
+            [told],
+        ) => *told == value,
+        (Refusal::WrongLength { expected, actual }, [first, second]) => {
+            *first == expected && *second == actual
+        }
+        (
+            Refusal::MissingDiagonal(_)
+            | Refusal::ZeroDiagonal(_)
+            | Refusal::EstimateFailed(_)
+            | Refusal::WrongLength { .. },
+            _,
+        ) => false,
+        (_, values) => values.is_empty(),
     }
-    if read[0] != t.number {
-        return false;
-    }
-    if read[1] != t.first {
-        return false;
-    }
-    if read[2] != t.second {
-        return false;
-    }
-    closed(text, line.next)
 }
 
-fn wide(x: u32) -> u64 {
-    x as u64
+// The recorded answer, and the case with it, is this refusal.
+pub(crate) fn refused(mut lines: Lines<'_>, cause: Refusal) -> Result<(), Miss> {
+    let recorded = lines.numbers(b"refused", Base::Decimal)?;
+    let Some((number, values)) = recorded.as_slice().split_first() else {
+        return Err(Miss::Differs);
+    };
+    agree(*number == number_of(cause) && told_with(cause, values))?;
+    lines.end()
 }
 
-// Whether a list is the recorded one, with zeros behind.
-pub(crate) fn same_ints(recorded: &[u64], ours: &[u32]) -> bool {
-    if ours.len() < recorded.len() {
-        return false;
-    }
-    let mut i: usize = 0;
-    while i < ours.len() {
-        let mut expected: u64 = 0;
-        if i < recorded.len() {
-            expected = recorded[i];
-        }
-        if wide(ours[i]) != expected {
-            return false;
-        }
-        i += 1;
-    }
-    true
+// What the text records of a number: an index as it stands, a float by its pattern.
+pub trait Recorded: Copy {
+    fn recorded(self) -> u64;
 }
 
-// Whether a list is the recorded one bit for bit, NaNs alike, with zeros behind.
-pub(crate) fn same_floats(recorded: &[u64], ours: &[f64]) -> bool {
-    if ours.len() < recorded.len() {
-        return false;
+impl Recorded for u32 {
+    fn recorded(self) -> u64 {
+        u64::from(self)
     }
-    let mut i: usize = 0;
-    while i < ours.len() {
-        let mut expected: u64 = 0;
-        if i < recorded.len() {
-            expected = recorded[i];
-        }
-        if float_bits::bits_of(ours[i]) != expected {
-            return false;
-        }
-        i += 1;
+}
+
+impl Recorded for f64 {
+    fn recorded(self) -> u64 {
+        float_bits::bits_of(self)
     }
-    true
+}
+
+// Our list is the recorded one, bit for bit, NaNs alike, with zeros behind.
+pub(crate) fn same<T: Recorded>(recorded: &[u64], ours: &[T]) -> Result<(), Miss> {
+    let Some((front, behind)) = ours.split_at_checked(recorded.len()) else {
+        return Err(Miss::Differs);
+    };
+    for (expected, x) in recorded.iter().zip(front) {
+        agree(x.recorded() == *expected)?;
+    }
+    for x in behind {
+        agree(x.recorded() == 0)?;
+    }
+    Ok(())
 }
 
 // How long a list is without the zeros at its end. A factor and an inverse end in a positive number.
 pub(crate) fn filled(ours: &[f64]) -> usize {
-    let mut n = ours.len();
-    while 0 < n {
-        if float_bits::bits_of(ours[n - 1]) != 0 {
-            return n;
-        }
-        n -= 1;
-    }
-    n
+    let last = ours.iter().rposition(|&x| float_bits::bits_of(x) != 0);
+    last.map_or(0, |i| i + 1)
 }
 
-// The line of a word where its floats are ours, with zeros behind; else the text's end.
-pub(crate) fn floats_alike(text: &[u8], at: usize, word: &[u8], ours: &[f64]) -> Line {
-    let mut read = lists::patterns();
-    let line = numbers(text, at, word, true, &mut read);
-    let n = line.count;
-    if same_floats(&read[0..n], ours) {
-        return line;
-    }
-    Line {
-        count: 0,
-        next: text.len(),
-    }
+// The next line has these floats, `count` of them and zeros behind.
+pub(crate) fn floats_alike(
+    lines: &mut Lines<'_>,
+    word: &[u8],
+    count: usize,
+    ours: &[f64],
+) -> Result<(), Miss> {
+    let recorded = lines.numbers(word, Base::Hexadecimal)?;
+    agree(recorded.len() == count)?;
+    same(&recorded, ours)
 }
 
-// Whether the recorded answer, and the case with it, is this list of so many floats, with zeros behind.
-pub(crate) fn result(text: &[u8], at: usize, word: &[u8], count: usize, ours: &[f64]) -> bool {
-    let line = floats_alike(text, at, word, ours);
-    if line.count == count {
-        return closed(text, line.next);
-    }
-    false
+// The recorded answer, and the case with it, is this list of so many floats, with zeros behind.
+pub(crate) fn result(
+    mut lines: Lines<'_>,
+    word: &[u8],
+    count: usize,
+    ours: &[f64],
+) -> Result<(), Miss> {
+    floats_alike(&mut lines, word, count, ours)?;
+    lines.end()
 }
 
-// Whether the recorded answer, and the case with it, is this pair of floats.
-pub(crate) fn pair(text: &[u8], at: usize, word: &[u8], first: f64, second: f64) -> bool {
-    let ours = [first, second];
-    result(text, at, word, 2, &ours)
-}
-
-// Where the text goes on after a line with this one number; else the text's end.
-pub(crate) fn one(text: &[u8], at: usize, word: &[u8], hex: bool, ours: u64) -> usize {
-    let mut read = [0u64; 1];
-    let line = numbers(text, at, word, hex, &mut read);
-    if line.count == 1 {
-        if read[0] == ours {
-            return line.next;
-        }
-    }
-    text.len()
+// The next line has this one number.
+pub(crate) fn one(lines: &mut Lines<'_>, word: &[u8], base: Base, ours: u64) -> Result<(), Miss> {
+    agree(lines.one(word, base)? == ours)
 }

@@ -1,32 +1,18 @@
-// Lists to read into and to lend, full of numbers that must not matter. A proof sees no more of them than their length.
-ghost use Rattle.std.specs.Prelude.{◌≡◌, length};
+// Lists to lend, full of numbers that must not matter.
+use std::alloc::{AllocError, Global};
 
-pub(crate) fn patterns() -> [u64; 512]
-    ensures { 512 ≡ length result }
-{
-    [7; 512]
+pub(crate) fn ints(alloc: Global) -> Result<Vec<u32>, AllocError> {
+    vec![in alloc; 7; 512]
 }
 
-pub(crate) fn ints() -> [u32; 512]
-    ensures { 512 ≡ length result }
-{
-    [7; 512]
+pub(crate) fn work_ints(alloc: Global) -> Result<Vec<u32>, AllocError> {
+    vec![in alloc; 7; 2048]
 }
 
-pub(crate) fn work_ints() -> [u32; 2048]
-    ensures { 2048 ≡ length result }
-{
-    [7; 2048]
+pub(crate) fn floats(alloc: Global) -> Result<Vec<f64>, AllocError> {
+    vec![in alloc; 1.5; 512]
 }
 
-pub(crate) fn floats() -> [f64; 512]
-    ensures { 512 ≡ length result }
-{
-    [1.5; 512]
-}
-
-pub(crate) fn work_floats() -> [f64; 1024]
-    ensures { 1024 ≡ length result }
-{
-    [1.5; 1024]
+pub(crate) fn work_floats(alloc: Global) -> Result<Vec<f64>, AllocError> {
+    vec![in alloc; 1.5; 1024]
 }

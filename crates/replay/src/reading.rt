@@ -1,255 +1,190 @@
 // Reading the recorded text. A line is a word, then numbers with a blank before each.
-// A reader that does not find what it asks for says that the text goes on at its end; there every reader finds nothing.
-ghost use Rattle.std.specs.Prelude.{◌≤◌, ◌<◌, length};
+ghost use Rattle.std.specs.Prelude.{◌<◌, length};
 
-use crate::lists;
+use csr32::Csr;
+use std::alloc::{AllocError, Global};
 
-// How many numbers a line has, and where the next line begins.
+// Why a case is not answered as recorded. A text that is not what a case asks for differs too.
+#[derive(Clone, Copy, PartialEq, Eq)]
+pub enum Miss {
+    Differs,
+    NoMemory,
+}
+
+impl From<AllocError> for Miss {
+    fn from(_: AllocError) -> Miss {
+        Miss::NoMemory
+    }
+}
+
+// Numbers are decimal, and the patterns of floats hexadecimal, in capitals.
 #[derive(Clone, Copy)]
-pub struct Line {
-    pub count: usize,
-    pub next: usize,
+pub enum Base {
+    Decimal,
+    Hexadecimal,
 }
 
-#[derive(Clone, Copy)]
-struct Digits {
-    value: u64,
-    next: usize,
-}
-
-fn wide(b: u8) -> u64 {
-    b as u64
-}
-
-pub(crate) fn size(n: u64) -> usize {
-    n as usize
-}
-
-// Where the text goes on after a word.
-pub(crate) fn after(text: &[u8], at: usize, word: &[u8]) -> usize {
-    let mut i = at;
-    let mut k: usize = 0;
-    while k < word.len() {
-        if i < text.len() {
-            if text[i] == word[k] {
-                i += 1;
-                k += 1;
-            } else {
-                return text.len();
-            }
-        } else {
-            return text.len();
+impl Base {
+    fn radix(self) -> u64 {
+        match self {
+            Base::Decimal => 10,
+            Base::Hexadecimal => 16,
         }
     }
-    i
 }
 
-// Where the next line begins.
-pub(crate) fn next_line(text: &[u8], at: usize) -> usize
-    requires { at < length text.now }
-    ensures { at < result }
+// The first line, with the line feed that ends it, and what stands behind it.
+pub(crate) fn split_line(text: &[u8]) -> (&[u8], &[u8])
+    ensures { 0 < length text.now → length result.1.now < length text.now }
 {
-    let mut i = at;
-    while i < text.len() {
-        if text[i] == 10 {
-            return i + 1;
-        }
-        i += 1;
+    match text.iter().position(|&b| b == b'\n') {
+        Some(end) => text.split_at(end + 1),
+        None => (text, &[]),
     }
-    i
 }
 
-// Whether a case ends here.
-pub(crate) fn closed(text: &[u8], at: usize) -> bool {
-    let e = after(text, at, b"end");
-    if e < text.len() {
-        return text[e] == 10;
+fn digit(b: u8) -> Option<u64> {
+    match b {
+        b'0'..=b'9' => Some(u64::from(b - b'0')),
+        b'A'..=b'F' => Some(u64::from(b - b'A') + 10),
+        _ => None,
     }
-    false
 }
 
-// What a digit counts; 16 for any other byte.
-fn digit(b: u8) -> u64
-    ensures { result ≤ 16 }
-{
-    let n = wide(b);
-    if n < 48 {
-        return 16;
+// The number that these digits write. A value from 2^60 on takes no more of them.
+fn number(digits: &[u8], base: Base) -> Option<u64> {
+    let radix = base.radix();
+    if digits.is_empty() {
+        return None;
     }
-    if n < 58 {
-        return n - 48;
-    }
-    if n < 65 {
-        return 16;
-    }
-    if n < 71 {
-        return n - 55;
-    }
-    16
-}
-
-fn base(hex: bool) -> u64
-    ensures { result ≤ 16 }
-{
-    if hex { 16 } else { 10 }
-}
-
-// A number with one digit more.
-fn more(value: u64, d: u64, hex: bool) -> u64
-    requires { (value < 0x1000_0000_0000_0000) × (d < 16) }
-{
-    if hex { value * 16 + d } else { value * 10 + d }
-}
-
-// The number that begins here, and where it ends; one that is too large ends where it begins.
-fn number(text: &[u8], at: usize, hex: bool) -> Digits {
-    let limit = base(hex);
     let mut value: u64 = 0;
-    let mut i = at;
-    while i < text.len() {
-        let d = digit(text[i]);
-        if d < limit {
-            if value < 0x1000_0000_0000_0000 {
-                value = more(value, d, hex);
-                i += 1;
-            } else {
-                return Digits { value: 0, next: at };
-            }
-        } else {
-            return Digits {
-                value: value,
-                next: i,
-            };
+    for &b in digits {
+        let d = digit(b)?;
+        if d >= radix || value >= 0x1000_0000_0000_0000 {
+            return None;
         }
+        value = value.checked_mul(radix)?.checked_add(d)?;
     }
-    Digits {
-        value: value,
-        next: i,
-    }
+    Some(value)
 }
 
-// The line of a word: its numbers, decimal or hexadecimal.
-pub(crate) fn numbers(text: &[u8], at: usize, word: &[u8], hex: bool, list: &mut [u64]) -> Line
-    ensures { result.count ≤ length list.old }
-{
-    let mut i = after(text, at, word);
-    let mut count: usize = 0;
-    while i < text.len() {
-        let b = text[i];
-        if b == 10 {
-            return Line {
-                count: count,
-                next: i + 1,
-            };
-        }
-        if b != 32 {
-            break;
-        }
-        if list.len() <= count {
-            break;
-        }
-        let n = number(text, i + 1, hex);
-        let next = n.next;
-        if next <= i + 1 {
-            break;
-        }
-        list[count] = n.value;
-        count += 1;
-        i = next;
-    }
-    Line {
-        count: 0,
-        next: text.len(),
-    }
-}
-
-// The line of a word: its numbers, behind as many as are there already.
-pub(crate) fn more_numbers(
-    text: &[u8],
-    at: usize,
+// The numbers of a line behind its word, 512 at most.
+fn fields(
+    alloc: Global,
+    line: &[u8],
     word: &[u8],
-    hex: bool,
-    list: &mut [u64],
-    used: usize,
-) -> Line
-    requires { used ≤ length list.old }
-    ensures { result.count ≤ length list.old }
-{
-    let line = numbers(text, at, word, hex, &mut list[used..]);
-    Line {
-        count: used + line.count,
-        next: line.next,
+    base: Base,
+) -> Result<Option<Vec<u64>>, AllocError> {
+    let mut list = Vec::new(alloc);
+    for (i, field) in line.split(|&b| b == b' ').enumerate() {
+        if i == 0 {
+            if *field != *word {
+                return Ok(None);
+            }
+            continue;
+        }
+        let Some(n) = number(field, base) else {
+            return Ok(None);
+        };
+        if list.len() >= 512 {
+            return Ok(None);
+        }
+        list.push(n)?;
+    }
+    Ok(Some(list))
+}
+
+// The lines of a case that are left.
+#[derive(Clone, Copy)]
+pub struct Lines<'a> {
+    pub alloc: Global,
+    pub rest: &'a [u8],
+}
+
+impl<'a> Lines<'a> {
+    // The next line.
+    pub(crate) fn line(&mut self) -> Result<&'a [u8], Miss> {
+        let (line, rest) = split_line(self.rest);
+        self.rest = rest;
+        line.strip_suffix(b"\n").ok_or(Miss::Differs)
+    }
+
+    // The numbers of the next line, which begins with this word.
+    pub(crate) fn numbers(&mut self, word: &[u8], base: Base) -> Result<Vec<u64>, Miss> {
+        let line = self.line()?;
+        fields(self.alloc, line, word, base)?.ok_or(Miss::Differs)
+    }
+
+    // The one number of the next line.
+    pub(crate) fn one(&mut self, word: &[u8], base: Base) -> Result<u64, Miss> {
+        match self.numbers(word, base)?.as_slice() {
+            [n] => Ok(*n),
+            _ => Err(Miss::Differs),
+        }
+    }
+
+    // The next line's numbers as indices.
+    pub(crate) fn ints(&mut self, word: &[u8]) -> Result<Vec<u32>, Miss> {
+        let mut list = Vec::new(self.alloc);
+        for n in &self.numbers(word, Base::Decimal)? {
+            list.push(u32::try_from(*n).map_err(|_| Miss::Differs)?)
+                .map_err(|_| Miss::NoMemory)?;
+        }
+        Ok(list)
+    }
+
+    // The next line's numbers as floats, by their patterns.
+    pub(crate) fn floats(&mut self, word: &[u8]) -> Result<Vec<f64>, Miss> {
+        let read = self.numbers(word, Base::Hexadecimal)?;
+        Ok(
+            read.iter()
+                .map(|&n| float_bits::of_bits(n))
+                .collect(self.alloc)?,
+        )
+    }
+
+    // The case ends here.
+    pub(crate) fn end(&mut self) -> Result<(), Miss> {
+        agree(self.line()? == b"end".as_slice())
     }
 }
 
-// Copies numbers below 2^32; false where one is not, or there is no room.
-fn narrowed(from: &[u64], to: &mut [u32]) -> bool {
-    let mut i: usize = 0;
-    while i < from.len() {
-        if to.len() <= i {
-            return false;
-        }
-        let x = from[i];
-        if 0xffff_ffff < x {
-            return false;
-        }
-        to[i] = x as u32;
-        i += 1;
-    }
-    true
+pub(crate) fn agree(alike: bool) -> Result<(), Miss> {
+    if alike { Ok(()) } else { Err(Miss::Differs) }
 }
 
-// Copies the floats of patterns; false where there is no room.
-fn as_floats(from: &[u64], to: &mut [f64]) -> bool {
-    let mut i: usize = 0;
-    while i < from.len() {
-        if to.len() <= i {
-            return false;
-        }
-        to[i] = float_bits::of_bits(from[i]);
-        i += 1;
-    }
-    true
+// What the lists of a matrix are.
+#[derive(Drop)]
+pub struct Matrix {
+    pub rows: usize,
+    pub cols: usize,
+    pub row_ptr: Vec<u32>,
+    pub col_idx: Vec<u32>,
+    pub values: Vec<f64>,
 }
 
-// The line of a word whose numbers are indices.
-pub(crate) fn ints(text: &[u8], at: usize, word: &[u8], list: &mut [u32]) -> Line
-    ensures { result.count ≤ length list.old }
-{
-    let mut read = lists::patterns();
-    let line = numbers(text, at, word, false, &mut read);
-    let n = line.count;
-    if n <= list.len() {
-        if narrowed(&read[0..n], list) {
-            return Line {
-                count: n,
-                next: line.next,
-            };
+impl Matrix {
+    pub(crate) fn csr(&self) -> Csr<'_> {
+        Csr {
+            rows: self.rows,
+            cols: self.cols,
+            row_ptr: &self.row_ptr,
+            col_idx: &self.col_idx,
+            values: &self.values,
         }
     }
-    Line {
-        count: 0,
-        next: text.len(),
-    }
-}
 
-// The line of a word whose numbers are floats by their patterns.
-pub(crate) fn floats(text: &[u8], at: usize, word: &[u8], list: &mut [f64]) -> Line
-    ensures { result.count ≤ length list.old }
-{
-    let mut read = lists::patterns();
-    let line = numbers(text, at, word, true, &mut read);
-    let n = line.count;
-    if n <= list.len() {
-        if as_floats(&read[0..n], list) {
-            return Line {
-                count: n,
-                next: line.next,
-            };
-        }
-    }
-    Line {
-        count: 0,
-        next: text.len(),
+    pub(crate) fn read(lines: &mut Lines<'_>) -> Result<Matrix, Miss> {
+        let sizes = lines.numbers(b"matrix", Base::Decimal)?;
+        let [rows, cols] = sizes.as_slice() else {
+            return Err(Miss::Differs);
+        };
+        Ok(Matrix {
+            rows: *rows as usize,
+            cols: *cols as usize,
+            row_ptr: lines.ints(b"row_ptr")?,
+            col_idx: lines.ints(b"col_idx")?,
+            values: lines.floats(b"values")?,
+        })
     }
 }

@@ -1,210 +1,127 @@
 // Setup and the two-level apply: whether they answer a case as recorded.
-use crate::agreement::{filled, floats_alike, one, refused, same_floats, same_ints};
+use crate::agreement::{filled, floats_alike, one, refused, same};
 use crate::lists;
-use crate::reading::{after, closed, more_numbers, next_line, numbers};
-use definitions::{
-    Answer, Options, Setup, SetupAnswer, TwoLevelAggregation, TwoLevelBasis,
-    TwoLevelCoarseApplyPolicy,
-};
+use crate::reading::{Base, Lines, Matrix, Miss, agree};
+use definitions::{Options, Setup, TwoLevelAggregation, TwoLevelBasis, TwoLevelCoarseApplyPolicy};
 
-fn aggregation_of(n: u64) -> TwoLevelAggregation {
-    if n == 0 {
-        return TwoLevelAggregation::Contiguous;
-    }
-    if n == 1 {
-        return TwoLevelAggregation::Graph;
-    }
-    TwoLevelAggregation::StrongGraph
-}
-
-fn basis_of(n: u64) -> TwoLevelBasis {
-    if n == 0 {
-        return TwoLevelBasis::PiecewiseConstant;
-    }
-    TwoLevelBasis::JacobiSmoothed
-}
-
-fn policy_of(n: u64) -> TwoLevelCoarseApplyPolicy {
-    if n == 0 {
-        return TwoLevelCoarseApplyPolicy::Auto;
-    }
-    if n == 1 {
-        return TwoLevelCoarseApplyPolicy::FactorSolve;
-    }
-    TwoLevelCoarseApplyPolicy::ExplicitInverse
-}
-
-// Whether a basis has so many transfer pointers.
-fn pointers_fit(basis: TwoLevelBasis, rows: u64, count: usize) -> bool {
-    match basis {
-        TwoLevelBasis::PiecewiseConstant => count == 0,
-        TwoLevelBasis::JacobiSmoothed => {
-            if count == 0 {
-                return false;
-            }
-            (count - 1) as u64 == rows
-        }
+// A table for each policy: the enums share no variant, so that one function for all would hold the same three tables.
+fn aggregation_of(n: u64) -> Result<TwoLevelAggregation, Miss> {
+    match n {
+        0 => Ok(TwoLevelAggregation::Contiguous),
+        1 => Ok(TwoLevelAggregation::Graph),
+        2 => Ok(TwoLevelAggregation::StrongGraph),
+        _ => Err(Miss::Differs),
     }
 }
 
-// Whether ids end at a, pointers at b and columns at c.
-fn counts_fit(s: Setup, a: usize, b: usize, c: usize) -> bool {
-    let basis = s.basis;
-    if a <= b {
-        if b <= c {
-            if a as u64 == s.nodes {
-                if (c - b) as u64 == s.transfers {
-                    return pointers_fit(basis, s.rows, b - a);
-                }
-            }
-        }
+fn basis_of(n: u64) -> Result<TwoLevelBasis, Miss> {
+    match n {
+        0 => Ok(TwoLevelBasis::PiecewiseConstant),
+        1 => Ok(TwoLevelBasis::JacobiSmoothed),
+        _ => Err(Miss::Differs),
     }
-    false
 }
 
-// Ids, transfer pointers and columns: where the text goes on, if they are ours.
-fn ints_alike(text: &[u8], at: usize, s: Setup, ints: &[u32]) -> usize {
-    let mut recorded = lists::patterns();
-    let ids = numbers(text, at, b"ids", false, &mut recorded);
-    let a = ids.count;
-    let ptr = more_numbers(text, ids.next, b"transfer_ptr", false, &mut recorded, a);
-    let b = ptr.count;
-    let idx = more_numbers(text, ptr.next, b"transfer_idx", false, &mut recorded, b);
-    let c = idx.count;
-    if counts_fit(s, a, b, c) {
-        if same_ints(&recorded[0..c], ints) {
-            return idx.next;
-        }
+fn policy_of(n: u64) -> Result<TwoLevelCoarseApplyPolicy, Miss> {
+    match n {
+        0 => Ok(TwoLevelCoarseApplyPolicy::Auto),
+        1 => Ok(TwoLevelCoarseApplyPolicy::FactorSolve),
+        2 => Ok(TwoLevelCoarseApplyPolicy::ExplicitInverse),
+        _ => Err(Miss::Differs),
     }
-    text.len()
 }
 
-// Factors, transfer weights and the coarse part: where the text goes on, if they are ours.
-fn floats_all_alike(text: &[u8], at: usize, ours: &[f64]) -> usize {
-    let mut recorded = lists::patterns();
-    let factors = numbers(text, at, b"factors", true, &mut recorded);
-    let a = factors.count;
-    let weights = more_numbers(text, factors.next, b"weights", true, &mut recorded, a);
-    let b = weights.count;
-    let coarse = more_numbers(text, weights.next, b"coarse_part", true, &mut recorded, b);
-    let c = coarse.count;
-    if c == filled(ours) {
-        if same_floats(&recorded[0..c], ours) {
-            return coarse.next;
-        }
+// How many transfer pointers a basis has.
+fn pointers(s: Setup) -> u64 {
+    match s.basis {
+        TwoLevelBasis::PiecewiseConstant => 0,
+        TwoLevelBasis::JacobiSmoothed => s.rows.saturating_add(1),
     }
-    text.len()
 }
 
-// The record and its lists: where the text goes on, if they are ours.
-fn setup_alike(text: &[u8], at: usize, s: Setup, ints: &[u32], floats: &[f64]) -> usize {
-    let coarse = one(text, at, b"groups", false, s.groups);
-    let ids = one(text, coarse, b"coarse", false, s.coarse);
-    let factors = ints_alike(text, ids, s, ints);
-    let damping = floats_all_alike(text, factors, floats);
+// Ids, transfer pointers and columns are ours.
+fn ints_alike(lines: &mut Lines<'_>, s: Setup, ours: &[u32]) -> Result<(), Miss> {
+    let mut recorded = lines.numbers(b"ids", Base::Decimal)?;
+    let ptr = lines.numbers(b"transfer_ptr", Base::Decimal)?;
+    let idx = lines.numbers(b"transfer_idx", Base::Decimal)?;
+    agree(recorded.len() as u64 == s.nodes)?;
+    agree(ptr.len() as u64 == pointers(s))?;
+    agree(idx.len() as u64 == s.transfers)?;
+    recorded.extend_from_slice(&ptr)?;
+    recorded.extend_from_slice(&idx)?;
+    same(&recorded, ours)
+}
+
+// Factors, transfer weights and the coarse part are ours.
+fn floats_all_alike(lines: &mut Lines<'_>, ours: &[f64]) -> Result<(), Miss> {
+    let mut recorded = lines.numbers(b"factors", Base::Hexadecimal)?;
+    recorded.extend_from_slice(&lines.numbers(b"weights", Base::Hexadecimal)?)?;
+    recorded.extend_from_slice(&lines.numbers(b"coarse_part", Base::Hexadecimal)?)?;
+    agree(recorded.len() == filled(ours))?;
+    same(&recorded, ours)
+}
+
+// The record and its lists are ours.
+fn setup_alike(lines: &mut Lines<'_>, s: Setup, ints: &[u32], floats: &[f64]) -> Result<(), Miss> {
+    one(lines, b"groups", Base::Decimal, s.groups)?;
+    one(lines, b"coarse", Base::Decimal, s.coarse)?;
+    ints_alike(lines, s, ints)?;
+    floats_all_alike(lines, floats)?;
     one(
-        text,
-        damping,
+        lines,
         b"damping",
-        true,
+        Base::Hexadecimal,
         float_bits::bits_of(s.damping),
     )
 }
 
-// Where the text goes on after the recorded correction, if it is ours, in a list as long as the residual.
+// The recorded correction of this residual is ours.
 fn corrected(
-    text: &[u8],
-    at: usize,
+    lines: &mut Lines<'_>,
     s: Setup,
     ints: &[u32],
     floats: &[f64],
     residual: &[f64],
-    z: &mut [f64],
-) -> usize {
-    let mut work = lists::floats();
-    let answer = two_level_apply::apply(s, ints, floats, residual, z, &mut work);
+) -> Result<(), Miss> {
+    let n = residual.len();
+    let mut z = vec![in lines.alloc; 1.5; n]?;
+    let mut work = lists::floats(lines.alloc)?;
+    let answer = two_level_apply::apply(s, ints, floats, residual, &mut z, &mut work);
     match answer {
-        Answer::Refused(_) => text.len(),
-        Answer::Accepted => {
-            let line = floats_alike(text, at, b"corrected", &z[..]);
-            if line.count == z.len() {
-                return line.next;
-            }
-            text.len()
-        }
+        Err(_) => Err(Miss::Differs),
+        Ok(()) => floats_alike(lines, b"corrected", n, &z),
     }
 }
 
-// The same for the residual at r.
-fn correction(text: &[u8], r: usize, at: usize, s: Setup, ints: &[u32], floats: &[f64]) -> usize {
-    let mut residual = lists::floats();
-    let line = crate::reading::floats(text, r, b"residual", &mut residual);
-    if text.len() <= line.next {
-        return text.len();
-    }
-    let n = line.count;
-    let mut z = lists::floats();
-    corrected(text, at, s, ints, floats, &residual[0..n], &mut z[0..n])
-}
-
-// Whether all residuals from `first` on have the corrections recorded from `from` on, and these end the case.
-fn corrections(
-    text: &[u8],
-    first: usize,
-    from: usize,
-    s: Setup,
-    ints: &[u32],
-    floats: &[f64],
-) -> bool {
-    let mut r = first;
-    let mut at = from;
-    while r < text.len() {
-        if after(text, r, b"residual") == text.len() {
-            return closed(text, at);
-        }
-        at = correction(text, r, at, s, ints, floats);
-        r = next_line(text, r);
-    }
-    false
-}
-
-// Where the residuals end.
-fn behind_residuals(text: &[u8], first: usize) -> usize {
-    let mut r = first;
-    while r < text.len() {
-        if after(text, r, b"residual") == text.len() {
-            return r;
-        }
-        r = next_line(text, r);
-    }
-    r
-}
-
-fn answered(
-    text: &[u8],
-    first: usize,
-    rows: usize,
-    cols: usize,
-    row_ptr: &[u32],
-    col_idx: &[u32],
-    values: &[f64],
-    options: Options,
-) -> bool {
-    let at = behind_residuals(text, first);
+pub(crate) fn two_level(mut lines: Lines<'_>, a: &Matrix) -> Result<(), Miss> {
+    let read = lines.numbers(b"options", Base::Decimal)?;
+    let [block, group, aggregation, basis, policy] = read.as_slice() else {
+        return Err(Miss::Differs);
+    };
+    let options = Options {
+        block: *block,
+        group: *group,
+        aggregation: aggregation_of(*aggregation)?,
+        basis: basis_of(*basis)?,
+        policy: policy_of(*policy)?,
+    };
+    let mut residuals = lines;
+    let count = lines
+        .rest
+        .split(|&b| b == b'\n')
+        .take_while(|line| line.starts_with(b"residual"))
+        .count();
     // a case without a residual would try no apply
-    if at == first {
-        return false;
+    agree(count > 0)?;
+    for _ in 0..count {
+        lines.line()?;
     }
-    let mut ints = lists::ints();
-    let mut floats = lists::floats();
-    let mut work_ints = lists::work_ints();
-    let mut work_floats = lists::work_floats();
+    let mut ints = lists::ints(lines.alloc)?;
+    let mut floats = lists::floats(lines.alloc)?;
+    let mut work_ints = lists::work_ints(lines.alloc)?;
+    let mut work_floats = lists::work_floats(lines.alloc)?;
     let answer = two_level_setup::setup(
-        rows,
-        cols,
-        row_ptr,
-        col_idx,
-        values,
+        &a.csr(),
         options,
         &mut ints,
         &mut floats,
@@ -212,48 +129,14 @@ fn answered(
         &mut work_floats,
     );
     match answer {
-        SetupAnswer::Refused(cause) => refused(text, at, cause),
-        SetupAnswer::Built(s) => {
-            let next = setup_alike(text, at, s, &ints, &floats);
-            corrections(text, first, next, s, &ints, &floats)
+        Err(cause) => refused(lines, cause),
+        Ok(s) => {
+            setup_alike(&mut lines, s, &ints, &floats)?;
+            for _ in 0..count {
+                let residual = residuals.floats(b"residual")?;
+                corrected(&mut lines, s, &ints, &floats, &residual)?;
+            }
+            lines.end()
         }
     }
-}
-
-pub(crate) fn two_level(
-    text: &[u8],
-    at: usize,
-    rows: usize,
-    cols: usize,
-    row_ptr: &[u32],
-    col_idx: &[u32],
-    values: &[f64],
-) -> bool {
-    let mut read = [0u64; 5];
-    let line = numbers(text, at, b"options", false, &mut read);
-    if line.count != 5 {
-        return false;
-    }
-    if 2 < read[2] {
-        return false;
-    }
-    if 1 < read[3] {
-        return false;
-    }
-    if 2 < read[4] {
-        return false;
-    }
-    let aggregation = aggregation_of(read[2]);
-    let basis = basis_of(read[3]);
-    let policy = policy_of(read[4]);
-    let options = Options {
-        block: read[0],
-        group: read[1],
-        aggregation: aggregation,
-        basis: basis,
-        policy: policy,
-    };
-    answered(
-        text, line.next, rows, cols, row_ptr, col_idx, values, options,
-    )
 }

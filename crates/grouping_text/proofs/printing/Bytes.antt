@@ -8,7 +8,7 @@ use native.Mathlib.Omega.{arith}
 use borrow.Author.Tests.{leb-true, leb-false}
 use lib.Dec.{leb}
 use lib.ListN.{length, get_or, set, take, length-append}
-use lib.Seq.{sets, length-sets, set_out, take-suc, take_all, length-take-le}
+use lib.Seq.{sets, length-sets, set_out, take-suc, length-take-le}
 use Rattle.definitions.specs.Text.{decimal_in, decimal, line}
 use Rattle.grouping_text.specs.Puts.{Puts, lines_from}
 
@@ -26,12 +26,6 @@ sets_append l i (x ∷ xs) ys = let e : i + suc (length xs) ≡ suc i + length x
 
 pub puts_none : (l : List ℕ) (at : ℕ) → at ≤ length l → Puts l at [] l at
 puts_none l at h = record { list = refl; end = omega arith }
-
-pub puts_one : (l : List ℕ) (at b : ℕ) → at < length l → Puts l at (b ∷ []) (set l at b) (at + 1)
-puts_one l at b h = record { list = refl; end = omega arith }
-
-pub puts_over : (l : List ℕ) (at b : ℕ) → at ≤ length l → length l ≤ at → Puts l at (b ∷ []) l at
-puts_over l at b h k = record { list = sym (set_out l at b k); end = omega arith }
 
 module _ (l : List ℕ) (at : ℕ) (xs l₁ : List ℕ) (r₁ : ℕ) (p : Puts l at xs l₁ r₁) where
   pub puts_length : length l₁ ≡ length l
@@ -87,51 +81,18 @@ lines_none : (v : ℕ) → lines_from v [] ≡ []
 unfolding lines_from
 lines_none v = refl
 
--- the loop of `put_all`
-pub record Copying (out₀ : List ℕ) (at : ℕ) (bytes out : List ℕ) (end i : ℕ) : Type 0 where
-  pub upto : i ≤ length bytes
-  pub same : length out ≡ length out₀
-  pub within : end ≤ length out
-  pub puts : Puts out₀ at (take i bytes) out end
+-- a byte more, and a line more
+module _ (out₀ : List ℕ) (at : ℕ) (out : List ℕ) (end : ℕ) where
+  pub copy_next : (bytes : List ℕ) (i : ℕ) → Puts out₀ at (take i bytes) out end → i < length bytes → (out' : List ℕ) (r : ℕ) → Puts out end (get_or bytes i 0 ∷ []) out' r → Puts out₀ at (take (i + 1) bytes) out' r
+  copy_next bytes i p k out' r q = rw (add-one i, take-suc bytes i 0 k) (puts_then out₀ at (take i bytes) out end p (get_or bytes i 0 ∷ []) out' r q)
 
--- the loop of `put_ids`
-pub record Listing (out₀ : List ℕ) (at : ℕ) (ids out : List ℕ) (end v : ℕ) : Type 0 where
-  pub upto : v ≤ length ids
-  pub same : length out ≡ length out₀
-  pub within : end ≤ length out
-  pub puts : Puts out₀ at (lines_from 0 (take v ids)) out end
+  pub list_next : (ids : List ℕ) (v : ℕ) → Puts out₀ at (lines_from 0 (take v ids)) out end → v < length ids → (out' : List ℕ) (r : ℕ) → Puts out end (line (decimal v) (decimal (get_or ids v 0))) out' r
+      → Puts out₀ at (lines_from 0 (take (v + 1) ids)) out' r
+  list_next ids v p k out' r q =
+      let e : 0 + length (take v ids) ≡ v = omega (arith, length-take-le v ids (omega arith)) in
+      let s : lines_from 0 (take (v + 1) ids) ≡ lines_from 0 (take v ids) ++ line (decimal v) (decimal (get_or ids v 0)) =
+      ap (λ j. lines_from 0 (take j ids)) (add-one v) ∙ ap (lines_from 0) (take-suc ids v 0 k) ∙ lines_snoc 0 (take v ids) (get_or ids v 0) ∙ ap (λ j. lines_from 0 (take v ids) ++ line (decimal j) (decimal (get_or ids v 0))) e in
+      rw s (puts_then out₀ at (lines_from 0 (take v ids)) out end p (line (decimal v) (decimal (get_or ids v 0))) out' r q)
 
-module _ (out₀ : List ℕ) (at : ℕ) (h : at ≤ length out₀) where
-  pub copy_first : (bytes : List ℕ) → Copying out₀ at bytes out₀ at 0
-  copy_first bytes = record { upto = omega arith; same = refl; within = h; puts = puts_none out₀ at h }
-
-  pub list_first : (ids : List ℕ) → Listing out₀ at ids out₀ at 0
-  list_first ids = record { upto = omega arith; same = refl; within = h; puts = rw (lines_none 0) (puts_none out₀ at h) }
-
-  module _ (bytes out : List ℕ) (end i : ℕ) (inv : Copying out₀ at bytes out end i) where
-    pub copy_next : i < length bytes → (out' : List ℕ) (r : ℕ) → Puts out end (get_or bytes i 0 ∷ []) out' r → Copying out₀ at bytes out' r (i + 1)
-    copy_next k out' r p = record {
-      upto = omega arith;
-      same = puts_length out end (get_or bytes i 0 ∷ []) out' r p ∙ inv.same;
-      within = puts_within out end (get_or bytes i 0 ∷ []) out' r p;
-      puts = rw (add-one i, take-suc bytes i 0 k) (puts_then out₀ at (take i bytes) out end inv.puts (get_or bytes i 0 ∷ []) out' r p);
-    }
-
-    pub copy_last : length bytes ≤ i → Puts out₀ at bytes out end
-    copy_last k = rw (take_all i bytes k) at inv.puts
-
-  module _ (ids out : List ℕ) (end v : ℕ) (inv : Listing out₀ at ids out end v) where
-    pub list_next : v < length ids → (out' : List ℕ) (r : ℕ) → Puts out end (line (decimal v) (decimal (get_or ids v 0))) out' r → Listing out₀ at ids out' r (v + 1)
-    list_next k out' r p =
-        let e : 0 + length (take v ids) ≡ v = omega (arith, length-take-le v ids (omega arith)) in
-        let q : lines_from 0 (take (v + 1) ids) ≡ lines_from 0 (take v ids) ++ line (decimal v) (decimal (get_or ids v 0)) =
-        ap (λ j. lines_from 0 (take j ids)) (add-one v) ∙ ap (lines_from 0) (take-suc ids v 0 k) ∙ lines_snoc 0 (take v ids) (get_or ids v 0) ∙ ap (λ j. lines_from 0 (take v ids) ++ line (decimal j) (decimal (get_or ids v 0))) e in
-        record {
-          upto = omega arith;
-          same = puts_length out end (line (decimal v) (decimal (get_or ids v 0))) out' r p ∙ inv.same;
-          within = puts_within out end (line (decimal v) (decimal (get_or ids v 0))) out' r p;
-          puts = rw q (puts_then out₀ at (lines_from 0 (take v ids)) out end inv.puts (line (decimal v) (decimal (get_or ids v 0))) out' r p);
-        }
-
-    pub list_last : length ids ≤ v → Puts out₀ at (lines_from 0 ids) out end
-    list_last k = rw (take_all v ids k) at inv.puts
+pub list_first : (out₀ : List ℕ) (at : ℕ) → at ≤ length out₀ → Puts out₀ at (lines_from 0 []) out₀ at
+list_first out₀ at h = rw (lines_none 0) (puts_none out₀ at h)

@@ -1,11 +1,9 @@
 -- `put_head` puts the four pieces.
 use Rattle.definitions.specs.Text.{decimal}
 use Rattle.grouping_text.proofs.printing.Bytes.{puts_line, puts_decimal}
-use borrow.Author.Rules.{rules}
-use Rattle.grouping_text.proofs.printing.put_head.Statement.{statement}
-use Rattle.grouping_text.proofs.printing.put_head.Tie as tie
+use Rattle.grouping_text.proofs.printing.put_head.Goals as goal
 
-returns : tie.Need-returns
+pub returns : goal.returns
 returns c =
     let a = c.args in
     let p = c.put_all-first in
@@ -13,14 +11,3 @@ returns c =
     let r = c.put_decimal-third in
     let z = c.put in
     puts_line a.out.now 0 a.word.now (decimal a.n) p.new.out q.new.out r.new.out z.new.out p.result q.result r.result z.result p.ensures q.ensures (puts_decimal q.new.out q.result a.n r.new.out r.result r.ensures) z.ensures
-
-pub put_head_spec : {M : Type 1} → statement M
-put_head_spec =
-    tie.close
-    (tie.spec
-    (λ c κs. search rules)
-    (λ c κs. search rules)
-    (λ c κs. search rules)
-    (λ c κs. search rules)
-    (λ c. search rules)
-    returns)

@@ -1,2 +1,0 @@
--- The laws of reading that several proofs cite.
-pub mod Bytes

@@ -1,6 +1,0 @@
--- Each turn copies one.
-use Rattle.std.proofs.Common.{◌-◌, length}
-use Rattle.replay.proofs.reading.as_floats.Given as goal
-
-abbrev pub decreases-loop-i : goal.decreases-loop-i
-decreases-loop-i l = length l.from - l.i
