@@ -1,7 +1,6 @@
 -- A column of a packed factor that is kept at its rows: a walk down the column after it leaves it there.
-use Prim.Native.Nat.{ℕ, suc, ◌+◌, ◌-◌, ◌<◌, ◌≤◌}
-use mathlib.Core.Path.{◌≡◌, refl, sym, ◌∙◌}
-use mathlib.Core.Bool.{Bool, true, false, not, true≢false}
+use Prim.Native.Nat.{ℕ, ◌+◌, ◌-◌, ◌<◌}
+use mathlib.Core.Path.{◌≡◌, refl, ◌∙◌}
 use mathlib.Core.List.{List}
 use native.Mathlib.Omega.{arith}
 use native.Mathlib.Decide.{ℕ_discrete}
@@ -9,20 +8,9 @@ use lib.ListN.{length, get_or, set, length-set}
 use lib.Seq.{get_or-set_same, get_or-set_other}
 use lib.Ieee.{Float, nan}
 use Rattle.definitions.specs.Coarse.{packed, packed_entry, packed_length}
-use Rattle.definitions.specs.Setup.{max_coarse}
 use Rattle.laws.specs.Packed.{Column, KeptBefore}
 use Rattle.laws.proofs.Growing.{upto}
-use Rattle.laws.proofs.Packed.{tri_row, tri_back, triangle_small}
-
--- ---- the walk
-
--- both numbers that it reads at row j are the factor's
-pub walk_room : (at i j c : ℕ) → i < j → j < c → c ≤ max_coarse → at ≡ packed j i → (0 < at) × (at < packed_length c) × (packed_length c < 2_098_177)
-walk_room at i j c p q h e = (omega (arith, tri_row i j p), omega (arith, tri_row j c q), omega (arith, triangle_small c h))
-
--- and so are those at the end of row i
-pub end_room : (end i c : ℕ) → i < c → c ≤ max_coarse → end ≡ packed_length (i + 1) → (i < end) × (end ≤ packed_length c) × (packed_length c < 2_098_177)
-end_room end i c q h e = let z = (tri_back end i e).0 in (omega arith, omega (arith, tri_row i c q), omega (arith, triangle_small c h))
+use Rattle.laws.proofs.Packed.{tri_back}
 
 pub kept_none : (l kept : List Float) (i : ℕ) → KeptBefore l i (i + 1) kept kept
 kept_none l kept i = record { long = refl; before = λ j p q. absurd (omega arith) }
@@ -53,13 +41,3 @@ kept_column l kept₀ kept i c end h n e k j p q = step (ℕ_discrete j i)
     step (no d) =
         let z : packed j i - 1 ≡ packed j (i - 1) = omega arith in
         get_or-set_other kept i j x nan d ∙ k.before j (omega arith) q ∙ rw z
-
--- ---- from one column of the solve to the next, n the length of a list of c numbers
-
-module _ (l kept : List Float) (n c k i : ℕ) (en : n ≡ c) (ei : i ≡ c - suc k) where
-  pub kept_here : Column l (c - suc k) c kept → Column l i n kept
-  kept_here h = rw (en, ei) h
-
-  pub kept_next : (known : Bool) → (known ≡ false → 0 < i → Column l (i - 1) n kept) → not known ≡ true → k + 1 < c → Column l (c - suc (k + 1)) c kept
-  kept_next true f e h = absurd (true≢false (sym e))
-  kept_next false f e h = let z : i - 1 ≡ c - suc (k + 1) = omega arith in rw (z, en) at (f refl (omega arith))

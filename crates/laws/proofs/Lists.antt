@@ -8,7 +8,7 @@ use native.Mathlib.Omega.{arith}
 use lib.Dec.{T}
 use lib.Ieee.Fits.{and_i, and_l, and_r}
 use lib.ListN.{length, get_or, set, take, drop, replicate, length-append, get_or-append}
-use lib.Seq.{get_or-append-add, take_at, drop_at}
+use lib.Seq.{get_or-append-add, take_at, drop_at, take-nil}
 pub use Rattle.laws.specs.Every.{Each, none, more}
 use Rattle.definitions.specs.Lists.{tab, up_to, square, between, keep, any, all}
 
@@ -304,3 +304,10 @@ part_mid {A} p q r s e h g =
   where
     back : (x y z : ℕ) → y + x ≡ z → x ≡ z - y
     back x y z u = omega arith
+
+-- a list cut in front and behind, in either order
+pub take_drop : {A : Type 0} (m n : ℕ) (l : List A) → take (n - m) (drop m l) ≡ drop m (take n l)
+take_drop zero n l = let e : n - zero ≡ n = omega arith in rw e
+take_drop (suc m) zero l = let e : zero - suc m ≡ zero = omega arith in rw e
+take_drop (suc m) (suc n) [] = take-nil (suc n - suc m)
+take_drop (suc m) (suc n) (x ∷ l) = let e : suc n - suc m ≡ n - m = omega arith in rw e (take_drop m n l)

@@ -3,16 +3,15 @@ use Prim.Native.Nat.{ℕ, zero, suc, ◌+◌, ◌-◌, ◌*◌, ◌<◌, ◌≤�
 use mathlib.Core.Path.{◌≡◌, refl, ap, sym, ◌∙◌}
 use mathlib.Core.List.{List, [], ◌∷◌, ◌++◌, append-nil, append_assoc}
 use native.Mathlib.Omega.{arith}
-use native.Mathlib.Nat.{mul-add-div, mul-le-mul}
+use native.Mathlib.Nat.{mul-add-div}
 use native.Mathlib.Numerals.{add-one}
 use native.Mathlib.Decide.{ℕ_discrete}
 use lib.ListN.{length, get_or, set, take, drop, length-append, get_or-append}
-use lib.Seq.{drop-cons, drop-length, set_at, get_or_at, take-suc, take-length, length-take-le, get_or-append-add}
+use lib.Seq.{drop-cons, set_at, get_or_at, take-suc, take-length, length-take-le, get_or-append-add}
 use lib.Ieee.{Float, nan}
 use Rattle.definitions.specs.Lists.{tab}
 use Rattle.definitions.specs.Numbers.{◌-ᶠ◌, ◌*ᶠ◌, ◌/ᶠ◌, summed}
 use Rattle.definitions.specs.Coarse.{packed, packed_entry, packed_length, packed_forward, packed_backward, packed_solve}
-use Rattle.definitions.specs.Setup.{max_coarse}
 use Rattle.laws.specs.Packed.{ahead}
 use Rattle.laws.proofs.Lists.{tab_cong}
 
@@ -40,19 +39,6 @@ tri_back end i e = let q : end ≡ packed_length i + (i + 1) = e ∙ sym (tri_ne
 pub next_at : (at i j : ℕ) → at ≡ packed j i → at + (j + 1) ≡ packed (j + 1) i
 next_at at i j e = omega (arith, tri_next (packed_length j) j refl)
 
--- the row that a backward solve has come to, and where the row above it ends
-pub back_facts : (end k n i : ℕ) → k < n → i ≡ n - suc k → end ≡ packed_length (n - k) → (end ≡ packed_length (i + 1)) × (end ≡ packed_length i + (i + 1)) × (end ≤ packed_length n)
-back_facts end k n i h ei e =
-    let z : n - k ≡ i + 1 = omega arith in
-    let t = rw z at e in
-    (t, (tri_back end i t).0, omega (arith, (tri_back end i t).0, tri_row i n (omega arith)))
-
-pub back_end : (end k n i : ℕ) → i ≡ n - suc k → end ≡ packed_length i + (i + 1) → end - (i + 1) ≡ packed_length (n - (k + 1))
-back_end end k n i ei e = rw (add-one k, ← ei) (omega arith)
-
-pub triangle_small : (n : ℕ) → n ≤ max_coarse → n * (n + 1) ≤ 4_196_352
-triangle_small n h = let q : n + 1 ≤ 2_049 = omega arith in mul-le-mul h q
-
 -- ---- forward
 
 pub length_forward : (l b : List Float) (i : ℕ) → length (packed_forward l b i) ≡ i
@@ -79,9 +65,6 @@ module _ (l b y : List Float) (i : ℕ) (h : i < length b) (e : y ≡ ahead l b 
   forward_step sum v es ev =
       ap (λ t. set t i v) here ∙ set_at (packed_forward l b i) (get_or b i nan) (drop (suc i) b) v i (length_forward l b i)
       ∙ rw (add-one, ev, forward_at, es, forward_sum) (sym (append_assoc (packed_forward l b i) _ (drop (suc i) b)))
-
-pub forward_all : (l b y : List Float) (i : ℕ) → i ≡ length b → y ≡ ahead l b i → y ≡ packed_forward l b (length b)
-forward_all l b y i h e = rw (e, h, drop-length b, append-nil)
 
 -- ---- backward
 

@@ -1,8 +1,8 @@
 -- Places in a matrix stored row after row, c to a row: (i, j) stands at i * c + j, and no two stand at one place.
-use Prim.Native.Nat.{ℕ, ◌+◌, ◌*◌, ◌<◌, ◌≤◌}
+use Prim.Native.Nat.{ℕ, ◌+◌, ◌*◌, ◌<◌}
 use mathlib.Core.Path.{◌≡◌, ap}
 use native.Mathlib.Omega.{arith}
-use native.Mathlib.Nat.{mul-le-mul, mul-le-mul_right}
+use native.Mathlib.Nat.{mul-le-mul_right}
 
 pub same_row : (x i y j c : ℕ) → y < c → j < c → x * c + y ≡ i * c + j → x ≡ i
 same_row x i y j c hy hj e =
@@ -19,6 +19,3 @@ place i j n c h k = omega (arith, mul-le-mul_right c h)
 
 pub next_row : (j c : ℕ) → (j + 1) * c ≡ j * c + c
 next_row j c = omega arith
-
-pub square_small : (c : ℕ) → c ≤ 2_048 → c * c ≤ 4_194_304
-square_small c h = mul-le-mul h h

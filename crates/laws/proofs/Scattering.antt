@@ -17,7 +17,7 @@ use Rattle.definitions.specs.Matrix.{Entry, values_where}
 use Rattle.laws.proofs.Lists.{length_tab, get_d_tab, tab_is}
 use Rattle.laws.proofs.Growing.{up_to_snoc, flat_map_snoc, rows_none}
 use Rattle.laws.proofs.Kept.{where_hit, where_miss, where_none}
-use Rattle.laws.specs.Scatter.{put, bump, scatter, scattered, single}
+use Rattle.laws.specs.Scatter.{bump, scatter, scattered, single}
 
 -- ---- the law of scattering
 
@@ -82,12 +82,6 @@ none_step puts l₀ = refl
 pub rows_step : (puts : ℕ → List Entry) (l₀ l m : List Float) (i : ℕ) → l ≡ scattered puts i l₀ → m ≡ scatter (puts i) l → m ≡ scattered puts (i + 1) l₀
 unfolding scattered
 rows_step puts l₀ l m i e q = rw (q, e, add-one)
-
--- a row of one put more
-pub single_step : (p : ℕ → ℕ) (x : ℕ → Float) (l₀ l m : List Float) (i at : ℕ) (v : Float) → l ≡ scattered (single p x) i l₀ → at ≡ p i → v ≡ x i → m ≡ bump l (put at v)
-    → m ≡ scattered (single p x) (i + 1) l₀
-unfolding scatter
-single_step p x l₀ l m i at v e f g q = rows_step (single p x) l₀ l m i e (rw (q, f, g))
 
 scattered_add : (puts : ℕ → List Entry) (l : List Float) (m k : ℕ) → scattered puts (m + k) l ≡ scattered (λ j. puts (m + j)) k (scattered puts m l)
 unfolding scattered

@@ -57,6 +57,3 @@ tail_zeros c w z o h e =
     let all : take (length w - c) (drop c w) ≡ drop c w = take_all (length w - c) (drop c w) (omega arith) in
     let none : drop (length w - c) (drop c w) ≡ [] = drop_of_length-le (drop c w) {i = length w - c} (omega arith) in
     rw (none, append-nil, e, all, n)
-
-pub front_length : {A : Type 0} (w : List A) (c : ℕ) → c ≤ length w → length (take (c - 0) w) ≡ c
-front_length w c h = let q : c - 0 ≡ c = omega arith in rw q (length-take-le c w h)

@@ -1,2 +1,3 @@
+pub mod Finite
 pub mod Over
 pub mod Passing

@@ -7,7 +7,7 @@ use native.Mathlib.Numerals.{add-one}
 use native.Mathlib.Omega.{arith}
 use lib.Dec.{leb}
 use lib.ListN.{length, get_or, take, drop, length-drop}
-use lib.Seq.{drop-cons, drop-length, take-suc, take-length}
+use lib.Seq.{drop-cons, drop-length, take-suc}
 use lib.Ieee.{Float, nan}
 use borrow.Author.Tests.{lt-ltb, le-ltb, lt-leb}
 use Rattle.definitions.specs.Lists.{any, falls}
@@ -94,6 +94,3 @@ module _ (xs : List Float) (k : ℕ) (s : Float) (es : s ≡ largest (take k xs)
   pub largest_more : (u t : Float) → k < length xs → u ≡ magnitude (get_or xs k nan) → t ≡ larger s u → t ≡ largest (take (k + 1) xs)
   unfolding largest
   largest_more u t h eu et = et ∙ rw (add-one, take-suc xs k nan h, foldl-append (λ s x. larger s (magnitude x)) zeroᶠ (take k xs) (get_or xs k nan ∷ []), es, eu)
-
-  pub largest_all : k ≡ length xs → s ≡ largest xs
-  largest_all e = rw (e, take-length xs) at es

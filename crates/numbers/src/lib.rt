@@ -2,20 +2,12 @@
 #![tactic(auto)]
 
 ghost use Rattle.std.specs.Prelude.{◌≡◌, ◌/◌, length, replicate};
-ghost use Rattle.std.specs.Float.Ieee.Scale.{finite as is_finite};
 ghost use Rattle.definitions.specs.Numbers.{magnitude as magnitude_of, larger as larger_of, usable as usable_of, above as above_of};
 ghost use Rattle.numbers.specs.Copied.{copied};
 
 mod scan;
 
 pub use scan::{falls, largest, reaches};
-
-// Neither a NaN nor an infinity.
-pub fn finite(x: f64) -> bool
-    ensures { result ≡ is_finite x }
-{
-    x.is_finite()
-}
 
 // The magnitude. A -0 may stay: no comparison tells it from +0.
 pub fn magnitude(x: f64) -> f64
@@ -32,19 +24,19 @@ pub fn larger(x: f64, y: f64) -> f64
 }
 
 // Finite and not zero.
-#[tactic(auto, unfolding(definitions::specs::Numbers::usable))]
+#[tactic(auto, unfolding(definitions::specs::Numbers::usable), using(crate::proofs::Finite::same_finite))]
 pub fn usable(x: f64) -> bool
     ensures { result ≡ usable_of x }
 {
-    finite(x) && !(x == 0.0)
+    x.is_finite() && !(x == 0.0)
 }
 
 // Finite and above a bound.
-#[tactic(auto, unfolding(definitions::specs::Numbers::above))]
+#[tactic(auto, unfolding(definitions::specs::Numbers::above), using(crate::proofs::Finite::same_finite))]
 pub fn above(bound: f64, x: f64) -> bool
     ensures { result ≡ above_of bound x }
 {
-    finite(x) && !(x <= bound)
+    x.is_finite() && !(x <= bound)
 }
 
 // x / d; a small divisor is a constant here, by which the compiler multiplies instead. 0 where d is 0.

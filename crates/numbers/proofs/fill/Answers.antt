@@ -1,6 +1,6 @@
 -- The places passed hold x, the others what they held.
-use Rattle.std.proofs.Common.{arith, refl}
-use Rattle.numbers.proofs.Over.{filled_more, filled}
+use Rattle.std.proofs.Common.{arith}
+use Rattle.numbers.proofs.Over.{filled_more}
 use Rattle.numbers.proofs.fill.Goals as goal
 
 pub loop-place-preserved : goal.loop-place-preserved

@@ -1,13 +1,6 @@
 -- A fall was found, or is found in what is left.
-use mathlib.Core.Path.{◌≡◌, refl}
-use mathlib.Core.Bool.{◌||◌}
-use mathlib.Core.Logic.{⊎_elim}
-use Prim.Native.Nat.{◌-◌, ◌<◌}
 use native.Mathlib.Omega.{arith}
-use lib.ListN.{length, drop}
-use Rattle.definitions.specs.Lists.{falls}
 use Rattle.numbers.proofs.Passing.{falls_found, falls_passed, falls_end, went_hit, went_miss, went_end}
-use borrow.Author.Rules.{rules}
 use Rattle.numbers.proofs.scan.falls.Goals as goal
 use Rattle.numbers.proofs.scan.falls.Goals.{then-list-i, else-list-i}
 

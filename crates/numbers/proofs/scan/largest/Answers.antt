@@ -1,11 +1,6 @@
 -- The largest magnitude of the numbers passed.
-use mathlib.Core.Path.{◌≡◌}
 use native.Mathlib.Omega.{arith}
-use Prim.Native.Nat.{◌-◌, ◌≤◌}
-use lib.ListN.{length, take}
-use Rattle.definitions.specs.Numbers.{largest}
-use Rattle.numbers.proofs.Passing.{largest_none, largest_more, largest_all}
-use borrow.Author.Rules.{rules}
+use Rattle.numbers.proofs.Passing.{largest_none, largest_more}
 use Rattle.numbers.proofs.scan.largest.Goals as goal
 
 pub loop-x-init : goal.loop-x-init

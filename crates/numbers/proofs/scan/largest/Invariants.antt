@@ -1,11 +1,7 @@
 -- The largest magnitude of the numbers passed.
 use mathlib.Core.Path.{◌≡◌}
-use native.Mathlib.Omega.{arith}
-use Prim.Native.Nat.{◌-◌, ◌≤◌}
-use lib.ListN.{length, take}
+use lib.ListN.{take}
 use Rattle.definitions.specs.Numbers.{largest}
-use Rattle.numbers.proofs.Passing.{largest_none, largest_more, largest_all}
-use borrow.Author.Rules.{rules}
 use Rattle.numbers.proofs.scan.largest.Given as goal
 
 abbrev pub invariant-loop-x : goal.invariant-loop-x

@@ -1,7 +1,6 @@
 -- Every number of the list has 32 bits.
 use native.Mathlib.Omega.{arith}
 use mathlib.Core.Path.{sym}
-use borrow.Author.Rules.{rules}
 use Rattle.numbers.proofs.Passing.{none_reaches}
 use Rattle.numbers.proofs.scan.reaches.Goals as goal
 

@@ -1,15 +1,8 @@
 -- What was found, or is found in what is left.
-use mathlib.Core.Path.{◌≡◌, refl}
-use mathlib.Core.Bool.{◌||◌}
-use Prim.Native.Nat.{◌-◌, ◌≤◌}
 use native.Mathlib.Omega.{arith}
 use lib.Dec.{leb}
-use lib.ListN.{length, drop}
 use borrow.Author.Tests.{le-leb, lt-leb}
-use mathlib.Core.Logic.{⊎_elim}
-use Rattle.definitions.specs.Lists.{any}
 use Rattle.numbers.proofs.Passing.{scan_hit, scan_miss, scan_end}
-use borrow.Author.Rules.{rules}
 use Rattle.numbers.proofs.scan.reaches_narrow.Goals as goal
 use Rattle.numbers.proofs.scan.reaches_narrow.Goals.{then-top-x, else-top-x}
 

@@ -1,15 +1,9 @@
 -- What was found, or is found in what is left.
-use mathlib.Core.Path.{◌≡◌, refl}
+use mathlib.Core.Path.{◌≡◌}
 use mathlib.Core.Bool.{◌||◌}
-use Prim.Native.Nat.{◌-◌, ◌≤◌}
-use native.Mathlib.Omega.{arith}
 use lib.Dec.{leb}
-use lib.ListN.{length, drop}
-use borrow.Author.Tests.{le-leb, lt-leb}
-use mathlib.Core.Logic.{⊎_elim}
+use lib.ListN.{drop}
 use Rattle.definitions.specs.Lists.{any}
-use Rattle.numbers.proofs.Passing.{scan_hit, scan_miss, scan_end}
-use borrow.Author.Rules.{rules}
 use Rattle.numbers.proofs.scan.reaches_narrow.Given as goal
 
 abbrev pub invariant-loop-x : goal.invariant-loop-x
