@@ -6,3 +6,4 @@ pub mod Squares
 pub mod Calling
 pub mod Results
 pub mod Stored
+pub mod Parts

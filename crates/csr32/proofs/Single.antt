@@ -8,8 +8,11 @@ use lib.Bits.{bit_or}
 use lib.ListN.{length, get_or}
 use lib.Ieee.{Float, nan}
 use Rattle.definitions.specs.Numbers.{◌+ᶠ◌, zeroᶠ, total}
-use Rattle.csr32.proofs.Stored.{numbers_at, numbers_none, numbers_hit, numbers_miss}
-use Rattle.csr32.specs.Found.{some}
+use Rattle.csr32.proofs.Stored.{numbers_at, numbers_none, numbers_hit, numbers_miss, stored_all}
+use Rattle.csr32.specs.Found.{sum_found}
+use Rattle.csr32.specs.Parts.{entries}
+use Rattle.std.specs.Prelude.{Some}
+use Rattle.definitions.specs.Matrix.{values_where}
 
 pub record Single (p : ℕ → Bool) (idx : List ℕ) (vals : List Float) (a k count at : ℕ) : Type 0 where
   pub few : a + count ≤ k
@@ -41,7 +44,12 @@ module _ (p : ℕ → Bool) (idx : List ℕ) (vals : List Float) (a : ℕ) where
           one = λ z. (omega (arith, s.one z), numbers_miss p idx vals a k h l same e ∙ (s.one z).1);
         })
 
-  -- the sum of a single number
-  pub single_sum : (k at : ℕ) → Single p idx vals a k 1 at → (true ≡ some (numbers_at p idx vals a k)) × (zeroᶠ +ᶠ get_or vals at nan ≡ total (numbers_at p idx vals a k))
-  unfolding some total
-  single_sum k at s = let e = (s.one refl).1 in (rw e, rw e)
+-- the sum of a single number
+alone : (xs : List Float) (v : Float) → xs ≡ v ∷ [] → Some (zeroᶠ +ᶠ v) ≡ sum_found xs
+unfolding sum_found total
+alone xs v e = rw e
+
+pub single_found : (p : ℕ → Bool) (idx : List ℕ) (vals : List Float) (n count at : ℕ) → n ≡ length idx → length idx ≡ length vals → count ≡ 1 → Single p idx vals 0 n count at
+    → Some (zeroᶠ +ᶠ get_or vals at nan) ≡ sum_found (values_where p (entries idx vals))
+single_found p idx vals n count at e same one s =
+    alone (numbers_at p idx vals 0 n) (get_or vals at nan) (s.one one).1 ∙ ap (λ l. sum_found (values_where p l)) (stored_all idx vals n e same)

@@ -1,6 +1,6 @@
 -- Causes 1 to 9 in their order, and the square matrix that stands for an accepted one.
 use Rattle.std.specs.Prelude.{Ok, Err}
-use mathlib.Core.Path.{◌≡◌, refl, ap, sym, ◌∙◌}
+use mathlib.Core.Path.{◌≡◌, refl, sym, ◌∙◌}
 use lib.Dec.{eqb}
 use borrow.Author.Tests.{eq-eqb, ne_eqb}
 use Rattle.definitions.specs.Refusal.{Outcome, refused, done, ◌>>=◌, require, keeps_all, cause_of}
@@ -8,7 +8,7 @@ use Rattle.definitions.specs.Matrix.{Matrix, csr, valid_of}
 use Rattle.definitions.specs.Answers.{answer_of}
 use Rattle.definitions.specs.declared.Refusal.{Refusal}
 use Rattle.definitions.specs.declared.Refusal.TheVariants.{NotSquare}
-use Rattle.csr32.specs.Calls.{passed, failed, Keeps, keeps_require, keeps_then, keeps_refused}
+use Rattle.csr32.specs.Calls.{passed, failed, Keeps, keeps_require, keeps_then}
 use Rattle.csr32.specs.Rows.{Rows}
 use Rattle.csr32.specs.Seen.{square_call}
 use Rattle.csr32.specs.Valid.{accepted_rows, square_rows, valid_goes, valid_stops, valid_keeps}

@@ -1,14 +1,15 @@
 -- The entries stored from one position up to another, as a loop walks them: what is left at its head, and what is passed behind it.
 use Prim.Native.Nat.{ℕ, zero, suc, ◌+◌, ◌-◌, ◌≤◌, ◌<◌}
-use mathlib.Core.Path.{◌≡◌, ◌∙◌}
+use mathlib.Core.Path.{◌≡◌, ap, ◌∙◌}
 use mathlib.Core.Bool.{Bool, true, false}
 use mathlib.Core.List.{List, [], ◌∷◌, ◌++◌, zip_with, append-nil}
 use native.Mathlib.Omega.{arith}
 use native.Mathlib.Numerals.{add-one}
-use lib.ListN.{length, get_or}
-use lib.Seq.{slice_empty, slice-cons}
+use lib.ListN.{length, get_or, take}
+use lib.Seq.{slice_empty, slice-cons, take-length}
 use lib.Ieee.{Float, nan}
 use Rattle.definitions.specs.Matrix.{Matrix, Entry, stored, values_where}
+use Rattle.csr32.specs.Parts.{entries}
 use Rattle.csr32.specs.Rows.{Rows}
 pub use Rattle.laws.proofs.Kept.{where_hit, where_miss, where_none, where_append}
 
@@ -68,3 +69,9 @@ module _ (p : ℕ → Bool) (idx : List ℕ) (vals : List Float) (a : ℕ) where
     pub numbers_miss : p (get_or idx k 0) ≡ false → numbers_at p idx vals a (k + 1) ≡ numbers_at p idx vals a k
     numbers_miss e =
         rw (stored_more idx vals a k h l s, where_append p (stored idx vals a k) (entry_at idx vals k ∷ []), where_miss p (entry_at idx vals k) [] e, where_none p, append-nil)
+
+-- all entries of two lists of one length
+pub stored_all : (idx : List ℕ) (vals : List Float) (n : ℕ) → n ≡ length idx → length idx ≡ length vals → stored idx vals 0 n ≡ entries idx vals
+stored_all idx vals n e s =
+    let f : n ≡ length vals = e ∙ s in
+    ap (λ l. entries l (take n vals)) (ap (λ k. take k idx) e ∙ take-length idx) ∙ ap (λ l. entries idx l) (ap (λ k. take k vals) f ∙ take-length vals)

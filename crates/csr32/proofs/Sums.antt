@@ -1,51 +1,42 @@
--- The sum at one column, and the diagonal row by row.
+-- The sum at one column, an entry more, and the diagonal row by row.
 use mathlib.Core.Path.{◌≡◌, refl, ap, sym, ◌∙◌}
 use mathlib.Core.Bool.{Bool, true, false}
 use mathlib.Core.List.{List, [], ◌∷◌, ◌++◌, foldl-append}
-use Prim.Native.Nat.{ℕ, ◌+◌, ◌<◌, ◌≤◌}
+use Prim.Native.Nat.{ℕ, ◌+◌, ◌<◌}
+use native.Mathlib.Omega.{arith}
 use lib.ListN.{length, get_or}
 use lib.Ieee.{Float, nan}
+use Rattle.std.specs.Prelude.{Option, Some, None}
+use Rattle.std.specs.Option.{unwrap_or}
 use Rattle.definitions.specs.Numbers.{◌+ᶠ◌, zeroᶠ, total}
-use Rattle.csr32.proofs.Stored.{numbers_at, numbers_none, numbers_hit, numbers_miss}
-use Rattle.std.specs.Prelude.{Some, None}
+use Rattle.definitions.specs.Matrix.{values_where}
 use Rattle.csr32.specs.Found.{some, sum_found}
+use Rattle.csr32.specs.Parts.{entries}
+use Rattle.csr32.proofs.Stored.{numbers_at, numbers_none, numbers_hit, numbers_miss, stored_all}
 
-module _ (p : ℕ → Bool) (idx : List ℕ) (vals : List Float) (a : ℕ) where
-  pub sum_none : (false ≡ some (numbers_at p idx vals a a)) × (zeroᶠ ≡ total (numbers_at p idx vals a a))
-  unfolding some total
-  sum_none = (rw (numbers_none p idx vals a), rw (numbers_none p idx vals a))
+found_more : (xs : List Float) (v : Float) → Some (unwrap_or (sum_found xs) zeroᶠ +ᶠ v) ≡ sum_found (xs ++ (v ∷ []))
+unfolding sum_found total
+found_more [] v = refl
+found_more (x ∷ xs) v = ap Some (sym (foldl-append (λ s x. s +ᶠ x) zeroᶠ (x ∷ xs) (v ∷ [])))
 
-pub some_more : (xs : List Float) (v : Float) → true ≡ some (xs ++ (v ∷ []))
-unfolding some
-some_more [] v = refl
-some_more (x ∷ xs) v = refl
+module _ (p : ℕ → Bool) (idx : List ℕ) (vals : List Float) where
+  pub sums_none : None ≡ sum_found (numbers_at p idx vals 0 0)
+  unfolding sum_found
+  sums_none = rw (numbers_none p idx vals 0)
 
-pub total_more : (xs : List Float) (v s : Float) → s ≡ total xs → s +ᶠ v ≡ total (xs ++ (v ∷ []))
-unfolding total
-total_more xs v s e = rw (foldl-append (λ s x. s +ᶠ x), e)
+  -- one entry more
+  module _ (n m : ℕ) (c : ℕ) (em : m ≡ n + 1) (h : n < length idx) (l : n < length vals) (ec : c ≡ get_or idx n 0) where
+    pub sums_hit : (v : Float) (s : Option Float) (r : Float) → v ≡ get_or vals n nan → length idx ≡ length vals → p c ≡ true → s ≡ sum_found (numbers_at p idx vals 0 n) → r ≡ unwrap_or s zeroᶠ
+        → Some (r +ᶠ v) ≡ sum_found (numbers_at p idx vals 0 m)
+    sums_hit v s r ev same e es er =
+        rw (er, es, ev) (found_more (numbers_at p idx vals 0 n) (get_or vals n nan))
+        ∙ ap sum_found (sym (numbers_hit p idx vals 0 n (omega arith) h same (rw ec at e))) ∙ ap (λ k. sum_found (numbers_at p idx vals 0 k)) (sym em)
 
--- one entry more
-module _ (p : ℕ → Bool) (idx : List ℕ) (vals : List Float) (a k : ℕ) (h : a ≤ k) (l : k < length idx) (same : length idx ≡ length vals) (st st' : Bool) (s s' : Float)
-    (est : st ≡ some (numbers_at p idx vals a k)) (es : s ≡ total (numbers_at p idx vals a k)) where
-  pub sum_hit : p (get_or idx k 0) ≡ true → st' ≡ true → s' ≡ s +ᶠ get_or vals k nan → (st' ≡ some (numbers_at p idx vals a (k + 1))) × (s' ≡ total (numbers_at p idx vals a (k + 1)))
-  sum_hit e f g = (
-    f ∙ some_more (numbers_at p idx vals a k) (get_or vals k nan) ∙ ap some (sym (numbers_hit p idx vals a k h l same e)),
-    g ∙ total_more (numbers_at p idx vals a k) (get_or vals k nan) s es ∙ ap total (sym (numbers_hit p idx vals a k h l same e)),
-  )
+    pub sums_miss : (s : Option Float) → length idx ≡ length vals → p c ≡ false → s ≡ sum_found (numbers_at p idx vals 0 n) → s ≡ sum_found (numbers_at p idx vals 0 m)
+    sums_miss s same e es = es ∙ ap sum_found (sym (numbers_miss p idx vals 0 n (omega arith) h same (rw ec at e))) ∙ ap (λ k. sum_found (numbers_at p idx vals 0 k)) (sym em)
 
-  pub sum_miss : p (get_or idx k 0) ≡ false → st' ≡ st → s' ≡ s → (st' ≡ some (numbers_at p idx vals a (k + 1))) × (s' ≡ total (numbers_at p idx vals a (k + 1)))
-  sum_miss e f g = (f ∙ est ∙ ap some (sym (numbers_miss p idx vals a k h l same e)), g ∙ es ∙ ap total (sym (numbers_miss p idx vals a k h l same e)))
-
--- the sum, if there are any numbers
-pub found_is : (xs : List Float) (st : Bool) (s : Float) → st ≡ some xs → s ≡ total xs → st ≡ true → Some s ≡ sum_found xs
-unfolding some sum_found
-found_is [] st s e f g = cc
-found_is (x ∷ xs) st s e f g = ap Some f
-
-pub missing_is : (xs : List Float) (st : Bool) → st ≡ some xs → st ≡ false → None ≡ sum_found xs
-unfolding some sum_found
-missing_is [] st e g = refl
-missing_is (x ∷ xs) st e g = cc
+  pub sums_all : (n : ℕ) (s : Option Float) → n ≡ length idx → length idx ≡ length vals → s ≡ sum_found (numbers_at p idx vals 0 n) → s ≡ sum_found (values_where p (entries idx vals))
+  sums_all n s e same es = es ∙ ap (λ l. sum_found (values_where p l)) (stored_all idx vals n e same)
 
 pub found_some : (xs : List Float) (s : Float) → Some s ≡ sum_found xs → (true ≡ some xs) × (s ≡ total xs)
 unfolding some sum_found

@@ -4,3 +4,4 @@ pub mod Rows
 pub mod Valid
 pub mod Found
 pub mod Seen
+pub mod Parts

@@ -1,48 +1,33 @@
--- The sum is that of the numbers passed, and `stored` says whether there are any.
-use Rattle.csr32.proofs.Sums.{sum_hit, sum_miss}
-use mathlib.Core.Path.{◌≡◌, sym, ◌∙◌}
-use Prim.Native.Nat.{◌-◌, ◌<◌, ◌≤◌}
-use native.Mathlib.Omega.{arith}
-use lib.Dec.{eqb}
-use lib.ListN.{length}
-use borrow.Author.Tests.{eq-eqb, ne_eqb}
-use mathlib.Core.Logic.{⊎_elim}
-use Rattle.definitions.specs.Numbers.{total}
-use Rattle.csr32.specs.Found.{some}
-use Rattle.csr32.proofs.Stored.{numbers_at}
-use Rattle.csr32.proofs.Sums.{sum_none, found_is, missing_is}
+-- The pair that the loop is at holds the column and the value at the index that it has come to.
+use Rattle.std.proofs.Common.{length, arith, length-append}
+use Rattle.std.proofs.lemmas.Slice.Zip.{zip_turn, zip_end}
 use borrow.Author.Rules.{rules}
+use borrow.Author.Tests.{eq-eqb, ne_eqb}
+use lib.Dec.{eqb}
+use lib.Ieee.{nan}
+use Rattle.csr32.proofs.Sums.{sums_none, sums_hit, sums_miss, sums_all}
 use Rattle.csr32.proofs.diagonal.sum_each.Goals as goal
-use Rattle.csr32.proofs.diagonal.sum_each.Goals.{then-col_idx-k, else-col_idx-k}
 
-pub loop-k-init : goal.loop-k-init
-loop-k-init c = let a = c.args in sum_none (λ x. eqb x a.column) a.col_idx.now a.values.now a.from
+pub loop-c-init : goal.loop-c-init
+loop-c-init c = let a = c.args in sums_none (λ x. eqb x a.column) a.columns.now a.values.now
 
-pub loop-k-preserved : goal.loop-k-preserved
-loop-k-preserved c =
+pub loop-c-preserved-then-c-column : goal.loop-c-preserved-then-c-column
+loop-c-preserved-then-c-column c =
     let a = c.args in
-    let l = c.loop-k in
-    let h : l.k < length a.col_idx.now = omega arith in
-    let low : a.from ≤ l.k = omega arith in
-    elim c.if-col_idx-k.branch [
-      | then-col_idx-k w ↦
-          sum_hit (λ x. eqb x a.column) a.col_idx.now a.values.now a.from l.k low h c.requires.2 l.stored c.if-col_idx-k.stored l.sum c.if-col_idx-k.sum l.invariant.0 l.invariant.1
-          (eq-eqb _ _ w.if-col_idx-k.true) w.stored-is w.sum-is
-      | else-col_idx-k w ↦
-          sum_miss (λ x. eqb x a.column) a.col_idx.now a.values.now a.from l.k low h c.requires.2 l.stored c.if-col_idx-k.stored l.sum c.if-col_idx-k.sum l.invariant.0 l.invariant.1
-          (ne_eqb _ _ w.if-col_idx-k.false) w.stored-is w.sum-is
-    ]
+    let o = c.loop-c in
+    let t = zip_turn a.columns.now a.values.now o.yielded _ o.c-iterator c.next.new.self c.next.result (search rules) (search rules) o.yielded_by (c.in-Some.c, c.in-Some.value) c.in-Some.is c.next.ensures.steps in
+    sums_hit (λ x. eqb x a.column) a.columns.now a.values.now (length o.yielded) _ c.in-Some.c.now (length-append o.yielded _) t.0 t.1 (t.2 0) c.in-Some.value.now o.sum c.unwrap_or.result (t.3 nan) c.requires (eq-eqb _ _ c.if-c-column.true) o.invariant c.unwrap_or.ensures
 
-pub returns-then-stored : goal.returns-then-stored
-returns-then-stored c =
+pub loop-c-preserved : goal.loop-c-preserved
+loop-c-preserved c =
     let a = c.args in
-    let l = c.loop-k in
-    let e : l.k ≡ a.to = omega arith in
-    rw (← e) (found_is (numbers_at (λ x. eqb x a.column) a.col_idx.now a.values.now a.from l.k) l.stored l.sum l.invariant.0 l.invariant.1 c.if-stored.true)
+    let o = c.loop-c in
+    let t = zip_turn a.columns.now a.values.now o.yielded _ o.c-iterator c.next.new.self c.next.result (search rules) (search rules) o.yielded_by (c.in-Some.c, c.in-Some.value) c.in-Some.is c.next.ensures.steps in
+    sums_miss (λ x. eqb x a.column) a.columns.now a.values.now (length o.yielded) _ c.in-Some.c.now (length-append o.yielded _) t.0 t.1 (t.2 0) o.sum c.requires (ne_eqb _ _ c.if-c-column.false) o.invariant
 
-pub returns-else-stored : goal.returns-else-stored
-returns-else-stored c =
+pub returns : goal.returns
+returns c =
     let a = c.args in
-    let l = c.loop-k in
-    let e : l.k ≡ a.to = omega arith in
-    rw (← e) (missing_is (numbers_at (λ x. eqb x a.column) a.col_idx.now a.values.now a.from l.k) l.stored l.invariant.0 c.if-stored.false)
+    let o = c.loop-c in
+    let t = zip_end a.columns.now a.values.now o.yielded _ o.c-iterator c.next.new.self c.next.result (search rules) (search rules) o.yielded_by c.in-None.is c.next.ensures.steps in
+    sums_all (λ x. eqb x a.column) a.columns.now a.values.now (length o.yielded) o.sum (omega (arith, t, c.requires)) c.requires o.invariant
