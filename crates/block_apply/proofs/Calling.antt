@@ -1,6 +1,6 @@
 -- The checks, one after the other: the answer, and what the correction holds.
 use Rattle.std.specs.Prelude.{Err, Ok, Result}
-use Prim.Native.Nat.{ℕ, ◌-◌, ◌*◌, ◌≤◌}
+use Prim.Native.Nat.{ℕ, ◌-◌, ◌*◌}
 use mathlib.Core.Path.{◌≡◌, refl, sym, ◌∙◌}
 use mathlib.Core.Bool.{Bool, true, false, ◌&&◌}
 use mathlib.Core.List.{List, append-nil}
@@ -8,7 +8,7 @@ use native.Mathlib.Omega.{arith}
 use lib.Dec.{leb}
 use lib.ListN.{length}
 use lib.Ieee.{Float}
-use borrow.Author.Tests.{eq-eqb, ne_eqb, leb-true}
+use borrow.Author.Tests.{eq-eqb, ne_eqb}
 use Rattle.definitions.specs.Lists.{padded}
 use Rattle.definitions.specs.Numbers.{zeroᶠ}
 use Rattle.definitions.specs.Refusal.{Outcome, refused, done, require, ◌>>=◌, result_left, keeps_all, cause_of}
@@ -21,19 +21,6 @@ use Rattle.definitions.specs.declared.Refusal.TheVariants.{WrongLength, SetupMis
 -- the numbers that cause 26 tests
 abbrev pub fitting : ℕ → ℕ → ℕ → Bool
 fitting rows size room = leb rows max_rows && leb 1 size && leb size max_block && leb (rows * size) room
-
-module _ (rows size room : ℕ) where
-  -- what a call that fits has
-  pub fitting_facts : (b : Bool) → b ≡ fitting rows size room → b ≡ true → (rows ≤ max_rows) × (1 ≤ size) × (size ≤ max_block) × (rows * size ≤ room)
-  fitting_facts b e t =
-      let p = and_true _ _ (sym e ∙ t) in
-      let q = and_true _ _ p.0 in
-      let s = and_true _ _ q.0 in
-      (leb-true _ _ s.0, leb-true _ _ s.1, leb-true _ _ q.1, leb-true _ _ p.1)
-    where
-      and_true : (x y : Bool) → (x && y) ≡ true → (x ≡ true) × (y ≡ true)
-      and_true true y h = (refl, h)
-      and_true false y h = (h, cc)
 
 refuse_kept : (o : Outcome (List Float)) (lent : List Float) (c : Refusal) → o ≡ refused c → keeps_all c ≡ true → (Err c ≡ answer_of o) × (lent ≡ result_left zeroᶠ o lent)
 unfolding answer_of result_left

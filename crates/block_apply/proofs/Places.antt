@@ -1,13 +1,13 @@
 -- The blocks one after the other: their places, and the list that holds the blocks solved so far.
-use Prim.Native.Nat.{ℕ, zero, suc, ◌+◌, ◌-◌, ◌*◌, ◌/◌, ◌<◌, ◌≤◌}
-use mathlib.Core.Path.{◌≡◌, ap, sym, ◌∙◌}
+use Prim.Native.Nat.{ℕ, zero, suc, min, ◌+◌, ◌-◌, ◌*◌, ◌/◌, ◌<◌, ◌≤◌}
+use mathlib.Core.Path.{◌≡◌, refl, ap, sym, ◌∙◌}
 use mathlib.Core.List.{List, [], ◌++◌, flat_map, append-nil, append_assoc}
 use native.Mathlib.Omega.{arith}
 use native.Mathlib.Nat.{min-eq_left, min-eq_right, mul-le-mul, div-mul-le_self, div-eq_of_lt-le, lt-div-mul-add, suc-mul, le_refl}
 use native.Mathlib.Numerals.{add-one}
 use native.Mathlib.Decide.{dec_le}
 use lib.ListN.{length, take, drop, length-append, length-drop, drop_of_length-le}
-use lib.Seq.{take_at, drop_at, drop-drop, length-take-le}
+use lib.Seq.{take_at, drop_at, drop-drop, length-take-le, take-length}
 use lib.Ieee.{Float}
 use Rattle.definitions.specs.Lists.{up_to, tab}
 use Rattle.definitions.specs.Block.{width_of, block_count, block_solve, block_applied}
@@ -90,18 +90,18 @@ module _ (rows size : ℕ) (factors r : List Float) where
           drop_of_length-le z₀ a ∙ sym (drop_of_length-le z₀ b)
 
   -- a block more, put in place of what lay there
-  pub blocks_more : (z₀ z y : List Float) (k w n u m v : ℕ) → length z₀ ≡ rows → k * size < rows → w ≡ width_of rows size k → n ≡ w → u ≡ w → m ≡ w * w → v ≡ w
+  pub blocks_more : (z₀ z y : List Float) (k w n u m : ℕ) → length z₀ ≡ rows → k * size < rows → w ≡ width_of rows size k → n ≡ w → u ≡ w → m ≡ w * w
       → z ≡ solved_blocks rows size factors r k ++ drop (k * size) z₀
-      → y ≡ block_solve (take m (drop (k * size * size) factors)) v (take u (drop (k * size) r))
+      → y ≡ block_solve (take m (drop (k * size * size) factors)) w (take u (drop (k * size) r))
       → take (k * size) z ++ (y ++ drop n (drop (k * size) z)) ≡ solved_blocks rows size factors r (k + 1) ++ drop ((k + 1) * size) z₀
   unfolding solved_block
-  blocks_more z₀ z y k w n u m v l h ew en eu em ev e ey =
+  blocks_more z₀ z y k w n u m l h ew en eu em e ey =
       let a : k * size + w - k * size ≡ w = omega arith in
       let b : k * size * size + w * w - k * size * size ≡ w * w = omega arith in
       let c : length (solved_blocks rows size factors r k) ≡ k * size = length_blocks k (omega arith) in
       let t : take (k * size) z ≡ solved_blocks rows size factors r k = rw e (take_at (solved_blocks rows size factors r k) (drop (k * size) z₀) (k * size) c) in
       let d : drop (k * size) z ≡ drop (k * size) z₀ = rw e (drop_at (solved_blocks rows size factors r k) (drop (k * size) z₀) (k * size) c) in
-      let y' : y ≡ solved_block rows size factors r k = rw (ey, eu, em, ev, ← ew, a, b) in
+      let y' : y ≡ solved_block rows size factors r k = rw (ey, eu, em, ← ew, a, b) in
       rw (en, t, d, drop-drop w (k * size) z₀, past z₀ k w l h ew, y', add-one, blocks_snoc k)
       (sym (append_assoc (solved_blocks rows size factors r k) (solved_block rows size factors r k) (drop (suc k * size) z₀)))
 
@@ -115,3 +115,18 @@ module _ (rows size : ℕ) (factors r : List Float) where
       let t : rows + (size - 1) < (k + 1) * size = omega arith in
       let c : (rows + (size - 1)) / size ≡ k = div-eq_of_lt-le size b t in
       e ∙ rw (d, append-nil, c)
+
+-- a single block
+whole : (l : List Float) (n m : ℕ) → m ≡ 0 → n ≡ length l → take n (drop m l) ≡ l
+whole l n m e h = rw (e, h) (take-length l)
+
+pub one_block : (w : ℕ) (f r z : List Float) → length f ≡ w * w → length r ≡ w → length z ≡ w → solved_blocks (length r) w f r 1 ++ drop (1 * w) z ≡ block_solve f w r
+unfolding solved_blocks up_to tab flat_map solved_block width_of
+one_block w f r z ef er ez =
+    let a : 0 * w ≡ 0 = omega arith in
+    let b : 1 * w ≡ w = omega arith in
+    let m : min w (w - 0) ≡ w = min-eq_left (omega arith) in
+    let d : drop w z ≡ [] = drop_of_length-le z (omega arith) in
+    let x : take (0 * w + w * w - 0 * w) (drop (0 * w) f) ≡ f = whole f (0 * w + w * w - 0 * w) (0 * w) a (omega (arith, ef)) in
+    let y : take (0 + w - 0) (drop 0 r) ≡ r = whole r (0 + w - 0) 0 refl (omega (arith, er)) in
+    rw (er, a, b, m, d, append-nil, append-nil) (ap (λ t. block_solve t w (take (0 + w - 0) (drop 0 r))) x ∙ ap (λ t. block_solve f w t) y)

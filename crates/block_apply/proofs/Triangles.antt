@@ -1,5 +1,5 @@
 -- The solves with one block's factor, in place: forward from the front, backward from the end.
-use Prim.Native.Nat.{ℕ, zero, suc, ◌+◌, ◌-◌, ◌*◌, ◌<◌, ◌≤◌}
+use Prim.Native.Nat.{ℕ, zero, suc, ◌+◌, ◌-◌, ◌<◌, ◌≤◌}
 use mathlib.Core.Path.{◌≡◌, refl, ap, sym, ◌∙◌}
 use mathlib.Core.List.{List, [], ◌∷◌, ◌++◌, append-nil, append_assoc}
 use native.Mathlib.Omega.{arith}
@@ -12,15 +12,7 @@ use Rattle.definitions.specs.Numbers.{◌-ᶠ◌, ◌*ᶠ◌, ◌/ᶠ◌, reduce
 use Rattle.definitions.specs.Block.{lower, forward, backward, block_solve}
 use Rattle.laws.proofs.Lists.{tab_cong}
 use Rattle.laws.proofs.Growing.{reduced_none}
-use Rattle.std.proofs.lemmas.List.{get_or-take, get_or-drop}
-use Rattle.block_apply.proofs.Sums.{reduced_from, product}
-
--- the part of row i before its diagonal, by numbers of z
-pub row_products : (l z : List Float) (w i m n : ℕ) (x : Float) → m ≡ i → i ≤ n → reduced x (tab (product (take i (take n (drop (i * w) l))) (take i z)) m) ≡ reduced x (tab (λ k. lower l w i k *ᶠ get_or z k nan) i)
-row_products l z w i m n x e h =
-    rw e
-    (ap (reduced x) (tab_cong (product (take i (take n (drop (i * w) l))) (take i z)) (λ k. lower l w i k *ᶠ get_or z k nan) i
-    (λ k q. let p : k < n = omega arith in rw (get_or-take i (take n (drop (i * w) l)) k nan q, get_or-take n (drop (i * w) l) k nan p, get_or-drop (i * w) l k nan, get_or-take i z k nan q))))
+use Rattle.block_apply.proofs.Sums.{reduced_from}
 
 -- ---- forward
 
@@ -103,9 +95,9 @@ module _ (l z₀ z : List Float) (w i j : ℕ) (h : i < length z₀) (n : length
       ap (λ t. set t i v) back_here ∙ set_at (take i z₀) (get_or z₀ i nan) solved v i (length-take-le i z₀ (omega arith))
       ∙ rw (k, backward, q, ev, es, back_at, back_sum (get_or z₀ i nan))
 
-pub backward_none : (l z : List Float) → z ≡ take (length z) z ++ backward l (length z) z (length z - length z)
+pub backward_none : (l z : List Float) (w : ℕ) → length z ≡ w → z ≡ take w z ++ backward l w z (w - w)
 unfolding backward
-backward_none l z = let e : length z - length z ≡ 0 = omega arith in rw (e, take-length z, append-nil)
+backward_none l z w h = let e : w - w ≡ 0 = omega arith in rw (e, ← h, take-length z, append-nil)
 
 -- ---- both
 

@@ -13,6 +13,13 @@ solved_block rows size factors r k = let w = width_of rows size k in block_solve
 unfoldable pub solved_blocks : ℕ → ℕ → List Float → List Float → ℕ → List Float
 solved_blocks rows size factors r k = flat_map (λ j. solved_block rows size factors r j) (up_to k)
 
+-- the lists of one block, w wide
+pub record Fit (w : ℕ) (l r z : List Float) : Type 0 where
+  pub square : length l ≡ w * w
+  pub given : length r ≡ w
+  pub room : length z ≡ w
+  pub narrow : w ≤ max_block
+
 -- so many whole blocks lie within the lists
 pub record Whole (count size : ℕ) (factors r z : List Float) : Type 0 where
   pub wide : 1 ≤ size

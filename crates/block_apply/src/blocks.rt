@@ -6,7 +6,7 @@ ghost use Rattle.block_apply.specs.Solved.{Whole, solved_to};
 
 use crate::solve::solve;
 
-// The first blocks, all of the whole size. Each size is a constant: the compiler unrolls a block's loops, and neighbouring blocks overlap.
+// The first blocks, all of one size. Each size is a constant: the compiler unrolls a block's loops, and neighbouring blocks overlap.
 // By places, and not by `chunks_mut`: a proof knows nothing of a list whose chunks were lent.
 fn whole_blocks<const W: usize>(count: usize, factors: &[f64], r: &[f64], z: &mut [f64])
     requires { Whole count W factors.now r.now z.old }
@@ -15,7 +15,7 @@ fn whole_blocks<const W: usize>(count: usize, factors: &[f64], r: &[f64], z: &mu
     for k in 0..count {
         let first = k * W;
         let at = first * W;
-        solve(
+        solve::<W>(
             &factors[at..at + W * W],
             &r[first..first + W],
             &mut z[first..first + W],
@@ -49,6 +49,6 @@ pub(crate) fn solve_blocks(rows: usize, size: usize, factors: &[f64], r: &[f64],
     if first < rows {
         let w = rows - first;
         let at = first * size;
-        solve(&factors[at..at + w * w], &r[first..], &mut z[first..]);
+        blocks_by_size(1, w, &factors[at..at + w * w], &r[first..], &mut z[first..]);
     }
 }

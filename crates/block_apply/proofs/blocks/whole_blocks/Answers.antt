@@ -1,5 +1,5 @@
-use Rattle.std.proofs.Common.{◌+◌, ◌*◌, ◌≤◌, length, arith}
-use Rattle.block_apply.proofs.Places.{whole_end, whole_width, blocks_none, blocks_more, factor_end, length_part}
+use Rattle.std.proofs.Common.{◌+◌, ◌-◌, ◌*◌, ◌≤◌, length, arith}
+use Rattle.block_apply.proofs.Places.{whole_end, whole_width, blocks_none, blocks_more, factor_end}
 use Rattle.block_apply.proofs.blocks.whole_blocks.Goals as goal
 
 pub loop-k-init : goal.loop-k-init
@@ -19,5 +19,5 @@ loop-k-preserved g c =
     let first = o.k * w in
     let p = c.requires in
     let e : first + w ≤ length a.r.now = whole_end a.count w o.k _ (omega arith) p.inside in
-    blocks_more (length a.r.now) w a.factors.now a.r.now a.z.now o.z c.solve.new.z o.k w _ _ _ _ p.same
-    (omega (arith, e, p.wide)) (whole_width (length a.r.now) w o.k e) (omega arith) (omega arith) (omega arith) (length_part o.z first _ w (omega arith) (omega (arith, e, p.same))) o.invariant c.solve.ensures
+    blocks_more (length a.r.now) w a.factors.now a.r.now a.z.now o.z c.solve.new.z o.k w (first + w - first) (first + w - first) (first * w + w * w - first * w) p.same
+    (omega (arith, e, p.wide)) (whole_width (length a.r.now) w o.k e) (omega arith) (omega arith) (omega arith) o.invariant c.solve.ensures

@@ -5,4 +5,4 @@ use Rattle.definitions.specs.Block.{forward}
 use Rattle.block_apply.proofs.solve.forward.Given as goal
 
 abbrev pub invariant-loop-i : goal.invariant-loop-i
-invariant-loop-i l = l.z ≡ forward l.l l.w l.r l.i ++ drop l.i l.initial.z
+invariant-loop-i g l = l.z ≡ forward l.l g.row.W l.r l.i ++ drop l.i l.initial.z
