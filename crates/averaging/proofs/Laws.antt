@@ -134,11 +134,6 @@ strips_more c k end m₀ m r h q n s a b =
     averages_same c (Tile 0 end 0 c) (Tile 0 ((k + 1) * 8) 0 c) m₀ r (rows_more c (k * 8) end m₀ m r (omega arith) q a b)
     (λ i j g l t. (omega arith, s i l (omega (arith, t)), omega arith, t.3)) (λ i j g l t. (omega arith, omega (arith, t), omega arith, t.3))
 
-pub strips_end : (c k : ℕ) (m r : List Float) → c ≤ k * 8 → Averages c (Tile 0 (k * 8) 0 c) m r → Averages c (Tile 0 c 0 c) m r
-strips_end c k m r h a =
-    averages_same c (Tile 0 (k * 8) 0 c) (Tile 0 c 0 c) m r a
-    (λ i j g l t. (omega arith, omega arith, omega arith, t.3)) (λ i j g l t. (omega arith, l, omega arith, t.3))
-
 -- ---- the definition's three cases
 
 pub averaged_diagonal : (a : ℕ → ℕ → Float) (i : ℕ) → averaged a i i ≡ a i i

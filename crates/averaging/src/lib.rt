@@ -10,6 +10,8 @@ ghost use Rattle.averaging.specs.Averaging.{average_call, pair_averaged, Tile, A
 
 use definitions::{MAX_COARSE, Refusal};
 
+// The dimension and the list stay two parameters: of a struct with the lent list each contract would have to say that the dimension stays.
+
 // Both places of a pair become half of their sum, the lower entry first.
 fn average_pair(m: &mut [f64], low: usize, up: usize)
     requires { (low < length m.old) × (up < length m.old) }

@@ -123,8 +123,3 @@ module _ (c : ℕ) (m : List Float) (n : ℕ) where
 
 pub answer_cleared : (s : Float) (o : Outcome (List Float)) (w z : List Float) (r : Refusal) → o ≡ refused r → keeps_all r ≡ false → z ≡ replicate (length w) zeroᶠ → (Err r ≡ factor_answer s o) × (z ≡ result_left zeroᶠ o w)
 answer_cleared s o w z r e k ez = (answer_refused s o r e, ez ∙ sym (left_cleared zeroᶠ o w r e k))
-
-pub answer_fits : (c : ℕ) (m w z : List Float) (a : (Result Float Refusal)) (o : Outcome (List Float)) → o ≡ coarse_factor c (take (c * c) m)
-    → a ≡ factor_answer (largest (take (c * c) m)) (coarse_factor c (take (c * c) m)) → z ≡ result_left zeroᶠ (coarse_factor c (take (c * c) m)) w
-    → (a ≡ factor_answer (largest (take (c * c) m)) o) × (z ≡ result_left zeroᶠ o w)
-answer_fits c m w z a o eo ea ez = (ea ∙ rw eo, ez ∙ rw eo)

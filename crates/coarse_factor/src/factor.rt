@@ -1,5 +1,5 @@
 // Cholesky's factor of the coarse matrix, packed, row after row. A list w has the columns of eight rows side by side: their sums do not wait for one another.
-ghost use Rattle.std.specs.Prelude.{◌≡◌, ℕ, ◌+◌, ◌*◌, ◌<◌, ◌≤◌, length, get_or, Float};
+ghost use Rattle.std.specs.Prelude.{◌≡◌, ℕ, ◌+◌, ◌<◌, ◌≤◌, length, get_or, Float};
 ghost use Rattle.std.specs.Float.{nan};
 ghost use Rattle.definitions.specs.Lists.{tab};
 ghost use Rattle.definitions.specs.Numbers.{◌-ᶠ◌, ◌*ᶠ◌, ◌/ᶠ◌};
@@ -12,30 +12,12 @@ ghost use Rattle.coarse_factor.specs.Calls.{outcome_of};
 
 use definitions::{MAX_COARSE, Refusal};
 use numbers::above;
+use packed::Packed;
 use root::root;
 
-// The number of m at a place, NaN where it has none: eight rows may reach past the last.
-fn number_at(m: &[f64], at: usize) -> f64
-    ensures { result ≡ get_or m.now at nan }
-{
-    if at < m.len() { m[at] } else { f64::NAN }
-}
-
-// Column j of the eight rows of m from n on.
-fn eight_of(m: &[f64], c: usize, n: usize, j: usize) -> [f64; 8]
-    requires { (n ≤ max_coarse) × (j ≤ max_coarse) × (c ≤ max_coarse) }
-    ensures { result ≡ tab (λ r. entry_in m.now c (n + r) j) 8 }
-{
-    let mut x = [0.0; 8];
-    for r in 0..8 {
-        x[r] = number_at(m, (n + r) * c + j);
-    }
-    x
-}
-
 // Eight numbers, less eight others by y.
+#[tactic(auto, using(laws::proofs::Growing::tab_none, laws::proofs::Growing::tab_more, laws::proofs::Growing::tab_unread))]
 fn take_eight(x: &mut [f64; 8], w: &[f64; 8], y: f64)
-    requires { length x.old ≡ 8 }
     ensures { x.new ≡ tab (λ r. get_or x.old r nan -ᶠ get_or w.now r nan *ᶠ y) 8 }
 {
     for r in 0..8 {
@@ -43,30 +25,8 @@ fn take_eight(x: &mut [f64; 8], w: &[f64; 8], y: f64)
     }
 }
 
-// The columns j and j + 1 of the eight rows of m from n on, less their products in the first j columns, with the rows `row` and `next`.
-fn pair_rest(
-    m: &[f64],
-    w: &[[f64; 8]; MAX_COARSE],
-    c: usize,
-    n: usize,
-    j: usize,
-    row: &[f64],
-    next: &[f64],
-) -> ([f64; 8], [f64; 8])
-    requires { (n ≤ max_coarse) × (j < max_coarse) × (c ≤ max_coarse) × (j ≤ length row.now) × (j ≤ length next.now) }
-    ensures { let a = entry_in m.now c in
-        (result.0 ≡ tab (less_row a (λ t. get_or row.now t nan) w.now n j j) 8) × (result.1 ≡ tab (less_row a (λ t. get_or next.now t nan) w.now n (j + 1) j) 8) }
-{
-    let mut x = eight_of(m, c, n, j);
-    let mut y = eight_of(m, c, n, j + 1);
-    for k in 0..j {
-        take_eight(&mut x, &w[k], row[k]);
-        take_eight(&mut y, &w[k], next[k]);
-    }
-    (x, y)
-}
-
 // Eight numbers over the pivot.
+#[tactic(auto, using(laws::proofs::Growing::tab_none, laws::proofs::Growing::tab_more))]
 fn over(x: &[f64; 8], pivot: f64) -> [f64; 8]
     ensures { result ≡ tab (λ r. get_or x.now r nan /ᶠ pivot) 8 }
 {
@@ -75,44 +35,6 @@ fn over(x: &[f64; 8], pivot: f64) -> [f64; 8]
         y[r] = x[r] / pivot;
     }
     y
-}
-
-// The columns j and j + 1 of the eight rows from n on: the second waits for the first in its last product.
-fn put_columns(m: &[f64], l: &[f64], w: &mut [[f64; 8]; MAX_COARSE], c: usize, n: usize, j: usize)
-    requires { (n ≤ max_coarse) × (j + 1 < c) × (c ≤ max_coarse) × (length l.now ≡ packed_length c) × (length w.old ≡ max_coarse) }
-    ensures { let a = entry_in m.now c in (length w.new ≡ max_coarse)
-        × (Fronts a l.now w.old n j → Fronts a l.now w.new n (j + 2)) }
-{
-    let start = j * (j + 1) / 2;
-    let end = start + (j + 1);
-    let row = &l[start..end];
-    let next = &l[end..end + (j + 2)];
-    let (x, mut y) = pair_rest(m, w, c, n, j, row, next);
-    let first = over(&x, row[j]);
-    take_eight(&mut y, &first, next[j]);
-    w[j] = first;
-    w[j + 1] = over(&y, next[j + 1]);
-}
-
-// The first of the eight rows that w has, up to column i, row i among them: those there were, or those from i on.
-fn renew(
-    m: &[f64],
-    l: &[f64],
-    w: &mut [[f64; 8]; MAX_COARSE],
-    c: usize,
-    i: usize,
-    n: usize,
-) -> usize
-    requires { (i < c) × (n ≤ i) × (length l.now ≡ packed_length c) × (c ≤ max_coarse) × (length w.old ≡ max_coarse) × Fronts (entry_in m.now c) l.now w.old n i }
-    ensures { (result ≤ i) × (i < result + 8) × (length w.new ≡ max_coarse) × Fronts (entry_in m.now c) l.now w.new result i }
-{
-    if i < n + 8 {
-        return n;
-    }
-    for pair in 0..i.div_ceil(2) {
-        put_columns(m, l, w, c, i, pair * 2);
-    }
-    i
 }
 
 // Row i left of the diagonal, from its lane of w; it begins at `start`. It takes the whole list, as what it promises speaks of the rows before too.
@@ -125,30 +47,118 @@ fn put_row(l: &mut [f64], w: &[[f64; 8]; MAX_COARSE], i: usize, start: usize, la
     }
 }
 
-// The rows one after the other; a pivot that is not finite or at most tol is refused.
-pub(crate) fn factor_rows(m: &[f64], l: &mut [f64], c: usize, tol: f64) -> Result<(), Refusal>
-    requires { (length m.now ≡ c * c) × (length l.old ≡ packed_length c) × (c ≤ max_coarse) }
-    ensures { (length l.new ≡ length l.old)
-        × (outcome_of result l.new ≡ factor_rows packed (λ i. CoarsePivot i) (entry_in m.now c) tol c 0 l.old) }
-{
-    let mut w = [[0.0; 8]; MAX_COARSE];
-    let mut n = 0;
-    let mut start = 0;
-    for i in 0..c {
-        n = renew(m, l, &mut w, c, i, n);
-        let lane = i - n;
-        put_row(l, &w, i, start, lane);
-        // Of the two columns the first is used: what is left of row i in it is the pivot.
-        let row = &l[start..start + i];
-        let (x, _) = pair_rest(m, &w, c, n, i, row, row);
-        let pivot = x[lane];
-        if !above(tol, pivot) {
-            return Err(Refusal::CoarsePivot(i as u64));
-        }
-        let p = root(pivot);
-        l[start + i] = p;
-        w[i] = over(&x, p);
-        start += i + 1;
+// The coarse matrix, row after row.
+#[derive(Clone, Copy)]
+pub(crate) struct Square<'a> {
+    pub m: &'a [f64],
+    pub c: usize,
+    ghost few: { c ≤ max_coarse },
+}
+
+impl Square<'_> {
+    // The entry (i, j), NaN where the list has none: eight rows may reach past the last.
+    fn entry(&self, i: usize, j: usize) -> f64
+        requires { (i < max_coarse + 8) × (j ≤ max_coarse) }
+        ensures { result ≡ entry_in self.now.m.now self.now.c i j }
+    {
+        self.m.get(i * self.c + j).copied().unwrap_or(f64::NAN)
     }
-    Ok(())
+
+    // Column j of the eight rows from n on.
+    #[tactic(auto, using(laws::proofs::Growing::tab_none, laws::proofs::Growing::tab_more))]
+    fn eight(&self, n: usize, j: usize) -> [f64; 8]
+        requires { (n ≤ max_coarse) × (j ≤ max_coarse) }
+        ensures { result ≡ tab (λ r. entry_in self.now.m.now self.now.c (n + r) j) 8 }
+    {
+        let mut x = [0.0; 8];
+        for r in 0..8 {
+            x[r] = self.entry(n + r, j);
+        }
+        x
+    }
+
+    // The columns j and j + 1 of the eight rows from n on, less their products in the first j columns, with the rows `row` and `next`.
+    fn pair_rest(
+        &self,
+        w: &[[f64; 8]; MAX_COARSE],
+        n: usize,
+        j: usize,
+        row: &[f64],
+        next: &[f64],
+    ) -> ([f64; 8], [f64; 8])
+        requires { (n ≤ max_coarse) × (j < max_coarse) × (j ≤ length row.now) × (j ≤ length next.now) }
+        ensures { let a = entry_in self.now.m.now self.now.c in
+            (result.0 ≡ tab (less_row a (λ t. get_or row.now t nan) w.now n j j) 8) × (result.1 ≡ tab (less_row a (λ t. get_or next.now t nan) w.now n (j + 1) j) 8) }
+    {
+        let mut x = self.eight(n, j);
+        let mut y = self.eight(n, j + 1);
+        for k in 0..j {
+            take_eight(&mut x, &w[k], row[k]);
+            take_eight(&mut y, &w[k], next[k]);
+        }
+        (x, y)
+    }
+
+    // The columns j and j + 1 of the eight rows from n on: the second waits for the first in its last product.
+    fn put_columns(&self, factor: &Packed<'_>, w: &mut [[f64; 8]; MAX_COARSE], n: usize, j: usize)
+        requires { (n ≤ max_coarse) × (j + 1 < factor.now.n) × (length w.old ≡ max_coarse) }
+        ensures { let a = entry_in self.now.m.now self.now.c in (length w.new ≡ max_coarse)
+            × (Fronts a factor.now.l.now w.old n j → Fronts a factor.now.l.now w.new n (j + 2)) }
+    {
+        let row = factor.row(j);
+        let next = factor.row(j + 1);
+        let (x, mut y) = self.pair_rest(w, n, j, row, next);
+        let first = over(&x, row[j]);
+        take_eight(&mut y, &first, next[j]);
+        w[j] = first;
+        w[j + 1] = over(&y, next[j + 1]);
+    }
+
+    // The first of the eight rows that w has, up to column i, row i among them: those there were, or those from i on.
+    fn renew(
+        &self,
+        factor: &Packed<'_>,
+        w: &mut [[f64; 8]; MAX_COARSE],
+        i: usize,
+        n: usize,
+    ) -> usize
+        requires { (i < factor.now.n) × (n ≤ i) × (length w.old ≡ max_coarse) × Fronts (entry_in self.now.m.now self.now.c) factor.now.l.now w.old n i }
+        ensures { (result ≤ i) × (i < result + 8) × (length w.new ≡ max_coarse) × Fronts (entry_in self.now.m.now self.now.c) factor.now.l.now w.new result i }
+    {
+        if i < n + 8 {
+            return n;
+        }
+        for pair in 0..i.div_ceil(2) {
+            self.put_columns(factor, w, i, pair * 2);
+        }
+        i
+    }
+
+    // The rows one after the other; a pivot that is not finite or at most tol is refused.
+    pub(crate) fn factor_rows(&self, l: &mut [f64], tol: f64) -> Result<(), Refusal>
+        requires { length l.old ≡ packed_length self.now.c }
+        ensures { (length l.new ≡ length l.old)
+            × (outcome_of result l.new ≡ factor_rows packed (λ i. CoarsePivot i) (entry_in self.now.m.now self.now.c) tol self.now.c 0 l.old) }
+    {
+        let mut w = [[0.0; 8]; MAX_COARSE];
+        let mut n = 0;
+        let mut start = 0;
+        for i in 0..self.c {
+            n = self.renew(&Packed { l, n: self.c }, &mut w, i, n);
+            let lane = i - n;
+            put_row(l, &w, i, start, lane);
+            // Of the two columns the first is used: what is left of row i in it is the pivot.
+            let row = &l[start..start + i];
+            let (x, _) = self.pair_rest(&w, n, i, row, row);
+            let pivot = x[lane];
+            if !above(tol, pivot) {
+                return Err(Refusal::CoarsePivot(i as u64));
+            }
+            let p = root(pivot);
+            l[start + i] = p;
+            w[i] = over(&x, p);
+            start += i + 1;
+        }
+        Ok(())
+    }
 }

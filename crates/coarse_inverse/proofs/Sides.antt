@@ -16,7 +16,7 @@ use Rattle.definitions.specs.Coarse.{packed_entry, packed_forward, packed_backwa
 use Rattle.laws.proofs.Lists.{tab_cong, tab_same, get_d_tab}
 use Rattle.laws.proofs.Growing.{summed_none, summed_more, upto}
 use Rattle.laws.specs.Packed.{Column, ahead}
-use Rattle.laws.proofs.Packed.{forward_step, forward_all, backward_none, backward_step}
+use Rattle.laws.proofs.Packed.{forward_step, backward_none, backward_step}
 use Rattle.coarse_inverse.specs.Lanes.{lane, EachLane, LanesStart, lane_sums, lanes_less, Units, Solved}
 use Rattle.coarse_inverse.proofs.Rows.{unit_of}
 
@@ -100,11 +100,6 @@ module _ (m : ℕ) (l : List Float) (c first : ℕ) (w₀ : List (List Float)) (
 
       less : get_or y i nan -ᶠ get_or sums r nan ≡ get_or y i nan -ᶠ summed (tab (λ k. packed_entry l i k *ᶠ get_or y k nan) i)
       less = rw sum (rw (f r q) ((begins r q).less i from h))
-
-  pub ahead_all : (w : List (List Float)) (i : ℕ) → i ≡ c → EachLane m (λ b. ahead l b i) w₀ w → EachLane m (λ b. packed_forward l b c) w₀ w
-  ahead_all w i e f r q =
-      let n : length (lane w₀ r) ≡ c = length_lane w₀ r ∙ n₀ in
-      forward_all l (lane w₀ r) (lane w r) i (e ∙ sym n) (f r q) ∙ rw n
 
 -- ---- backward
 

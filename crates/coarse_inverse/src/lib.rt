@@ -11,7 +11,6 @@ use definitions::{MAX_COARSE, Refusal};
 
 mod inverse;
 mod lanes;
-mod packed;
 
 // The inverse from the packed factor in the first elements of lower, averaged with its transpose, with zeros after it.
 pub fn coarse_inverse(c: usize, lower: &[f64], inverse: &mut [f64]) -> Result<(), Refusal>

@@ -1,14 +1,17 @@
 -- The solve by policy: with the packed factor or with the inverse, and zeros after the solution.
-use Prim.Native.Nat.{ℕ, ◌-◌, ◌*◌}
+use Prim.Native.Nat.{ℕ, ◌-◌, ◌*◌, ◌≤◌}
 use mathlib.Core.Path.{◌≡◌, ◌∙◌}
 use mathlib.Core.Logic.{◌⊎◌, inl, inr}
 use mathlib.Core.List.{List, ◌++◌}
 use lib.ListN.{length, take, replicate}
 use lib.Seq.{take_at}
 use lib.Ieee.{Float}
+use borrow.Author.Tests.{le-leb}
 use Rattle.definitions.specs.Lists.{padded}
 use Rattle.definitions.specs.Numbers.{zeroᶠ}
 use Rattle.definitions.specs.Coarse.{packed_length, packed_solve, coarse_length, coarse_solve}
+use Rattle.definitions.specs.Setup.{max_coarse}
+use Rattle.layout.specs.Layout.{part_length}
 use Rattle.coarse_solve.specs.RowSums.{inverse_solve}
 use Rattle.definitions.specs.declared.TwoLevelCoarseApplyPolicy.{TwoLevelCoarseApplyPolicy}
 use Rattle.definitions.specs.declared.TwoLevelCoarseApplyPolicy.TheVariants.{Auto, FactorSolve, ExplicitInverse}
@@ -17,6 +20,10 @@ abbrev ByFactor : TwoLevelCoarseApplyPolicy → Type 0
 ByFactor p = (p ≡ Auto) ⊎ (p ≡ FactorSolve)
 
 module _ (p : TwoLevelCoarseApplyPolicy) (c : ℕ) where
+  pub stored_length : c ≤ max_coarse → part_length p c ≡ coarse_length p c
+  unfolding part_length
+  stored_length h = rw (le-leb c max_coarse h, part_length)
+
   pub factor_length : ByFactor p → coarse_length p c ≡ packed_length c
   unfolding coarse_length
   factor_length (inl e) = rw e

@@ -1,18 +1,18 @@
 -- The solves with a packed factor in place, a number more: the sums that they take, and how far they have come.
 use Prim.Native.Nat.{ℕ, suc, ◌+◌, ◌-◌, ◌<◌, ◌≤◌}
-use mathlib.Core.Path.{◌≡◌, refl, ap, ◌∙◌}
+use mathlib.Core.Path.{◌≡◌, ap, ◌∙◌}
 use mathlib.Core.List.{List}
 use native.Mathlib.Omega.{arith}
 use native.Mathlib.Numerals.{add-one}
 use lib.ListN.{length, get_or, set, take, drop, length-append, length-drop}
-use lib.Seq.{get_or-set_other, get_or-set_same, get_or-take, get_or-drop, length-take-le}
+use lib.Seq.{get_or-set_other, get_or-take, get_or-drop, length-take-le}
 use lib.Ieee.{Float, nan}
 use Rattle.definitions.specs.Lists.{tab}
 use Rattle.definitions.specs.Numbers.{◌+ᶠ◌, ◌-ᶠ◌, ◌*ᶠ◌, ◌/ᶠ◌, minus_zero, summed}
 use Rattle.definitions.specs.Coarse.{packed, packed_entry, packed_length, packed_forward, packed_backward, packed_solve}
 use Rattle.laws.specs.Packed.{ahead, Column}
 use Rattle.laws.proofs.Lists.{get_d_tab, tab_cong}
-use Rattle.laws.proofs.Growing.{upto, summed_none, summed_from}
+use Rattle.laws.proofs.Growing.{summed_none, summed_from}
 use Rattle.laws.proofs.Packed.{tri_row, length_forward, forward_step}
 use Rattle.coarse_solve.specs.RowSums.{added, product, row_sums, col_sum}
 use Rattle.coarse_solve.proofs.Sums.{added_on, products_are, sum_at}
@@ -57,9 +57,6 @@ pub record ForwardOn (l y₀ y : List Float) (i j : ℕ) : Type 0 where
   pub kept : (k : ℕ) → k < i → get_or y k nan ≡ get_or y₀ k nan
   pub solved : (b : List Float) → y₀ ≡ ahead l b i → y ≡ ahead l b j
 
-pub on_none : (l y : List Float) (i j : ℕ) → j ≡ i → ForwardOn l y y i j
-on_none l y i j e = record { kept = λ k h. refl; solved = λ b s. rw e s }
-
 pub ahead_inside : (l b y : List Float) (k : ℕ) → k < length y → y ≡ ahead l b k → k < length b
 ahead_inside l b y k h e = omega (arith, simp (length-append, length_forward, length-drop) at (ap length e))
 
@@ -72,25 +69,6 @@ on_more l y₀ y i j k s v p h o es ev ek =
     }
 
 -- ---- a column
-
--- the column i - 1 stands in kept, below the diagonal, as far as row j
-abbrev pub KeptTo : List Float → ℕ → ℕ → List Float → Type 0
-KeptTo l i j kept = 0 < i → (m : ℕ) → i - 1 < m → m < j → get_or kept m nan ≡ packed_entry l m (i - 1)
-
-pub kept_first : (l kept : List Float) (i at : ℕ) → i < length kept → at ≡ packed i i → KeptTo l i (i + 1) (set kept i (get_or l (at - 1) nan))
-kept_first l kept i at h ea p m q b =
-    let e : m ≡ i = omega arith in
-    let z : at - 1 ≡ packed i (i - 1) = omega arith in
-    rw e (get_or-set_same kept i (get_or l (at - 1) nan) nan h ∙ rw z)
-
-pub kept_more : (l kept : List Float) (i j at : ℕ) → j < length kept → at ≡ packed j i → KeptTo l i j kept → KeptTo l i (j + 1) (set kept j (get_or l (at - 1) nan))
-kept_more l kept i j at h ea k p m q b =
-    upto (λ n. i - 1 < n → get_or (set kept j x) n nan ≡ packed_entry l n (i - 1)) j
-    (λ n r c. get_or-set_other kept j n x nan (λ e. omega arith) ∙ k p n c r)
-    (λ c. let z : at - 1 ≡ packed j (i - 1) = omega arith in get_or-set_same kept j x nan h ∙ rw z) m b q
-  where
-    x : Float
-    x = get_or l (at - 1) nan
 
 module _ (l y : List Float) (i : ℕ) where
   abbrev pub col_term : ℕ → Float

@@ -8,8 +8,8 @@ ghost use Rattle.definitions.specs.Answers.{answer_of};
 ghost use Rattle.coarse_solve.specs.Calls.{coarse_solve_call};
 
 use definitions::{MAX_COARSE, Refusal, TwoLevelCoarseApplyPolicy};
+use layout::part_length;
 
-mod packed;
 mod rows;
 mod solve;
 mod stored;
@@ -28,7 +28,7 @@ pub fn coarse_solve(
         work.fill(0.0);
         return Err(Refusal::CoarseTooLarge(c as u64));
     }
-    let count = stored::stored_length(policy, c);
+    let count = part_length(policy, c);
     let room = 2 * c;
     if part.len() < count || work.len() < room {
         work.fill(0.0);

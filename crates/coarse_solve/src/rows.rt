@@ -17,6 +17,7 @@ pub(crate) fn add_products(sum: f64, a: &[f64], b: &[f64]) -> f64
 }
 
 // Their sum, from -0.
+#[tactic(auto, using(crate::proofs::Sums::from_minus_zero))]
 pub(crate) fn dot(a: &[f64], b: &[f64]) -> f64
     requires { length a.now ≡ length b.now }
     ensures { result ≡ summed (tab (product a.now b.now) (length b.now)) }
@@ -25,6 +26,7 @@ pub(crate) fn dot(a: &[f64], b: &[f64]) -> f64
 }
 
 // The product at k of each of eight rows, to its sum: the compiler unrolls the loop.
+#[tactic(auto, using(laws::proofs::Growing::tab_none, crate::proofs::Sums::terms_more))]
 fn add_terms(sums: &mut [f64; 8], l: &[f64], starts: &[usize; 8], k: usize, x: f64)
     requires { RowsWithin l.now (k + 1) starts.now 8 }
     ensures { sums.new ≡ with_terms sums.old l.now starts.now k x 8 }
@@ -35,6 +37,7 @@ fn add_terms(sums: &mut [f64; 8], l: &[f64], starts: &[usize; 8], k: usize, x: f
 }
 
 // The rows of l that begin at eight starts, by y: sums that do not wait for one another.
+#[tactic(auto, using(crate::proofs::Sums::sums_none, crate::proofs::Sums::sums_more))]
 pub(crate) fn row_sums(l: &[f64], starts: &[usize; 8], y: &[f64]) -> [f64; 8]
     requires { RowsWithin l.now (length y.now) starts.now 8 }
     ensures { result ≡ row_sums l.now y.now (length y.now) starts.now 8 }

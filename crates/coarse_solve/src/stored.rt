@@ -6,19 +6,13 @@ ghost use Rattle.definitions.specs.Coarse.{coarse_length, coarse_solve};
 ghost use Rattle.definitions.specs.Setup.{max_coarse};
 ghost use Rattle.coarse_solve.specs.RowSums.{inverse_solve};
 
-use crate::packed::Packed;
 use crate::rows::{dot, row_sums};
+use crate::solve::solve;
 use definitions::TwoLevelCoarseApplyPolicy;
-
-// How many numbers are stored.
-pub(crate) fn stored_length(policy: TwoLevelCoarseApplyPolicy, c: usize) -> usize
-    requires { c ≤ max_coarse }
-    ensures { result ≡ coarse_length policy c }
-{
-    layout::part_length(policy, c)
-}
+use packed::Packed;
 
 // Where the eight rows of c numbers from row i on begin.
+#[tactic(auto, using(laws::proofs::Growing::tab_none, laws::proofs::Growing::tab_more))]
 fn starts(c: usize, i: usize) -> [usize; 8]
     requires { (i + 8 ≤ c) × (c ≤ max_coarse) }
     ensures { result ≡ tab (λ r. (i + r) * c) 8 }
@@ -58,7 +52,7 @@ pub(crate) fn solve_stored(
     let (b, rest) = work.split_at_mut(c);
     match policy {
         TwoLevelCoarseApplyPolicy::Auto | TwoLevelCoarseApplyPolicy::FactorSolve => {
-            Packed { l: part, n: c }.solve(b);
+            solve(&Packed { l: part, n: c }, b, rest);
         }
         TwoLevelCoarseApplyPolicy::ExplicitInverse => {
             by_inverse(part, b, &mut rest[..c]);
