@@ -66,22 +66,22 @@ module _ (f : ℕ → List ℕ) where
       take_both (suc m) n (z ∷ x) y e = let p : suc m + n ≡ suc (m + n) = omega arith in rw p (ap (λ l. z ∷ l) (take_both m n x y (omega arith)))
 
 -- the loop over the nodes
-pub record Graphed (strong : Bool) (a : Matrix) (size nodes v at : ℕ) (stamps offsets names : List ℕ) (sums norms strengths : List Float) : Type 0 where
-  pub between : Between strong a size nodes v stamps sums norms strengths
+pub record Graphed (strong : Bool) (a : Matrix) (size nodes v at : ℕ) (stamps offsets names : List ℕ) (sums strengths : List Float) : Type 0 where
+  pub between : Between strong nodes v stamps sums strengths
   pub lined : Lined (list_of strong a size nodes) v at offsets names
   pub used : at ≤ get_or a.row_ptr (v * size) 0
 
-pub graphed_first : {strong : Bool} {a : Matrix} {size nodes : ℕ} {stamps : List ℕ} (offsets names : List ℕ) {sums norms strengths : List Float} → Between strong a size nodes 0 stamps sums norms strengths → 0 < length offsets
-    → Graphed strong a size nodes 0 0 stamps (set offsets 0 0) names sums norms strengths
+pub graphed_first : {strong : Bool} {a : Matrix} {size nodes : ℕ} {stamps : List ℕ} (offsets names : List ℕ) {sums strengths : List Float} → Between strong nodes 0 stamps sums strengths → 0 < length offsets
+    → Graphed strong a size nodes 0 0 stamps (set offsets 0 0) names sums strengths
 graphed_first {strong} {a} {size} {nodes} offsets names b h = record { between = b; lined = lined_first (list_of strong a size nodes) offsets names h; used = omega arith }
 
 module _ {strong : Bool} {nodes size : ℕ} {ptr cols : List ℕ} {vals : List Float} (w : WellFormed strong nodes size ptr cols vals) where
   abbrev a : Matrix
   a = csr (nodes * size) (nodes * size) ptr cols vals
 
-  module _ {v at : ℕ} {stamps offsets names : List ℕ} {sums norms strengths : List Float} (g : Graphed strong a size nodes v at stamps offsets names sums norms strengths) (h : v < nodes) (long : length cols ≤ length names) where
-    module _ (count : ℕ) (new stamps₁ : List ℕ) (sums₁ strengths₁ : List Float) (l : Listed strong a size nodes v count new stamps₁ sums₁ norms strengths₁) where
-      pub graphed_more : v + 1 < length offsets → length new ≡ length (drop at names) → (names₁ : List ℕ) → names₁ ≡ take at names ++ new → Graphed strong a size nodes (v + 1) (at + count) stamps₁ (set offsets (v + 1) (at + count)) names₁ sums₁ norms strengths₁
+  module _ {v at : ℕ} {stamps offsets names : List ℕ} {sums strengths : List Float} (g : Graphed strong a size nodes v at stamps offsets names sums strengths) (h : v < nodes) (long : length cols ≤ length names) where
+    module _ (count : ℕ) (new stamps₁ : List ℕ) (sums₁ strengths₁ : List Float) (l : Listed strong a size nodes v count new stamps₁ sums₁ strengths₁) where
+      pub graphed_more : v + 1 < length offsets → length new ≡ length (drop at names) → (names₁ : List ℕ) → names₁ ≡ take at names ++ new → Graphed strong a size nodes (v + 1) (at + count) stamps₁ (set offsets (v + 1) (at + count)) names₁ sums₁ strengths₁
       graphed_more i m names₁ e = record {
         between = l.next;
         lined = rw e (lined_more (list_of strong a size nodes) count new g.lined i l.list l.long (omega (arith, m, length-drop at names, l.most, g.used, span_within w h)));

@@ -1,4 +1,4 @@
--- The loop that makes strengths, and one strength.
+-- The loop that makes strengths.
 use mathlib.Core.Path.{◌≡◌, refl, sym, ◌∙◌}
 use mathlib.Core.Bool.{true, false}
 use mathlib.Core.List.{List, ◌∷◌}
@@ -12,27 +12,6 @@ use Rattle.definitions.specs.Numbers.{◌*ᶠ◌, ◌/ᶠ◌, rootᶠ, zeroᶠ}
 use Rattle.definitions.specs.Neighbours.{divides}
 use Rattle.adjacency.specs.Strengths.{strong_of, measured}
 use Rattle.adjacency.proofs.Steps.{get_d_any}
-
-module _ (s p q n d : Float) (e : n ≡ rootᶠ s) (g : d ≡ rootᶠ (p *ᶠ q)) where
-  divided : divides (rootᶠ (p *ᶠ q)) ≡ true → rootᶠ s /ᶠ rootᶠ (p *ᶠ q) ≡ strong_of s p q
-  unfolding strong_of
-  divided h = rw (strong_of, h)
-
-  undivided : divides (rootᶠ (p *ᶠ q)) ≡ false → rootᶠ s ≡ strong_of s p q
-  unfolding strong_of
-  undivided h = rw (strong_of, h)
-
-  pub strong_divided : finite d ≡ true → lt zeroᶠ d ≡ true → n /ᶠ d ≡ strong_of s p q
-  unfolding divides
-  strong_divided a b = rw (e, g) (divided (rw (← g, a, b)))
-
-  pub strong_not_above : finite d ≡ true → lt zeroᶠ d ≡ false → n ≡ strong_of s p q
-  unfolding divides
-  strong_not_above a b = e ∙ undivided (rw (← g, a, b))
-
-  pub strong_not_finite : finite d ≡ false → n ≡ strong_of s p q
-  unfolding divides
-  strong_not_finite a = e ∙ undivided (rw (← g, a))
 
 measured_on : (v w : ℕ) (ws : List ℕ) (sums norms l : List Float) → measured v (w ∷ ws) sums norms l ≡ measured v ws sums norms (set l w (strong_of (get_or sums w nan) (get_or norms v nan) (get_or norms w nan)))
 unfolding measured

@@ -16,6 +16,7 @@ use Rattle.laws.specs.Bounds.{Below}
 use Rattle.adjacency.specs.Collect.{gather, marked, nodes_in, paired}
 use Rattle.adjacency.specs.WellFormed.{WellFormed, part_of}
 use Rattle.adjacency.specs.Lists.{list_of, Between, Listed}
+use Rattle.adjacency.specs.Norms.{Normed}
 use Rattle.adjacency.specs.Order.{before, sort_by, Weak}
 use Rattle.adjacency.specs.Strengths.{AllPlain, squares_in, cleared, weighed, strong_of, measured}
 use Rattle.adjacency.proofs.Steps.{get_d_any}
@@ -59,7 +60,7 @@ module _ {strong : Bool} {nodes size : ℕ} {ptr cols : List ℕ} {vals : List F
     unfolding squares_in squares_towards
     squares_are u = rw (← entries_are w s)
 
-    module _ {stamps : List ℕ} {sums norms strengths : List Float} (b : Between strong a size nodes v stamps sums norms strengths) where
+    module _ {stamps : List ℕ} {sums strengths : List Float} (b : Between strong nodes v stamps sums strengths) where
       -- ---- the strengths
       module _ (g : List ℕ) (ga : Each (λ x. x < nodes) g) where
         pub weighted_not : strong ≡ false → Weighted strong a size nodes v g sums strengths
@@ -72,44 +73,45 @@ module _ {strong : Bool} {nodes size : ℕ} {ptr cols : List ℕ} {vals : List F
           even = b.even;
         }
 
-        abbrev sums' : List Float
-        sums' = weighed size es (cleared g sums)
+        module _ (norms : List Float) (normed : strong ≡ true → Normed a size nodes norms) where
+          abbrev sums' : List Float
+          sums' = weighed size es (cleared g sums)
 
-        abbrev strengths' : List Float
-        strengths' = measured v g sums' norms strengths
+          abbrev strengths' : List Float
+          strengths' = measured v g sums' norms strengths
 
-        cleared_long : nodes ≤ length (cleared g sums)
-        cleared_long = omega (arith, length_cleared g sums, b.summed)
+          cleared_long : nodes ≤ length (cleared g sums)
+          cleared_long = omega (arith, length_cleared g sums, b.summed)
 
-        summed' : length sums' ≡ nodes
-        summed' = length_weighed size es (cleared g sums) ∙ length_cleared g sums ∙ b.summed
+          summed' : length sums' ≡ nodes
+          summed' = length_weighed size es (cleared g sums) ∙ length_cleared g sums ∙ b.summed
 
-        -- the strengths are the definition's
-        strength_at : strong ≡ true → (u : ℕ) → u < nodes → Names g u → get_or strengths' u nan ≡ strength a size v u
-        unfolding total
-        strength_at t u h m =
-            let i : u < length strengths = omega (arith, b.compared) in
-            let k : u < length sums = omega (arith, b.summed) in
-            let p : get_or norms v nan ≡ norm_towards a size v v = b.norms_are t v s in
-            let q : get_or norms u nan ≡ norm_towards a size u u = b.norms_are t u h in
-            let r : get_or sums' u nan ≡ total (squares_towards a size v u) = weighed_at nodes size u es (cleared g sums) (span_towards w s) cleared_long ∙ rw (cleared_named g sums u k m, squares_are u) in
-            measured_named v sums' norms g strengths u i m ∙ rw (r, p, q) (sym (strength_is a size v u))
+          -- the strengths are the definition's
+          strength_at : strong ≡ true → (u : ℕ) → u < nodes → Names g u → get_or strengths' u nan ≡ strength a size v u
+          unfolding total
+          strength_at t u h m =
+              let i : u < length strengths = omega (arith, b.compared) in
+              let k : u < length sums = omega (arith, b.summed) in
+              let p : get_or norms v nan ≡ norm_towards a size v v = normed t v s in
+              let q : get_or norms u nan ≡ norm_towards a size u u = normed t u h in
+              let r : get_or sums' u nan ≡ total (squares_towards a size v u) = weighed_at nodes size u es (cleared g sums) (span_towards w s) cleared_long ∙ rw (cleared_named g sums u k m, squares_are u) in
+              measured_named v sums' norms g strengths u i m ∙ rw (r, p, q) (sym (strength_is a size v u))
 
-        made : strong ≡ true → Weighted strong a size nodes v g sums' strengths'
-        made t =
-            let z : AllPlain sums' = plain_weighed nodes size es (cleared g sums) (span_towards w s) cleared_long (span_finite w s t) (plain_cleared g sums b.plain_sums) in
-            let n : length strengths' ≡ nodes = length_measured v sums' norms g strengths ∙ b.compared in
-            record {
-              summed = summed';
-              compared = n;
-              plain_sums = z;
-              plains = plain_measured v sums' norms g strengths (each_imp (λ x h. omega (arith, summed', h)) ga) z b.plains;
-              each = λ _. each_named g (λ u m. let h : u < nodes = named_below nodes g u ga m in let i : u < length strengths' = omega (arith, n) in get_d_any strengths' u zeroᶠ nan i ∙ strength_at t u h m);
-              even = λ e. absurd (let y : ◌≡◌ {A = Bool} true false = sym t ∙ e in let x : ◌≡◌ {A = ℕ} 0 1 = cc in omega arith);
-            }
+          made : strong ≡ true → Weighted strong a size nodes v g sums' strengths'
+          made t =
+              let z : AllPlain sums' = plain_weighed nodes size es (cleared g sums) (span_towards w s) cleared_long (span_finite w s t) (plain_cleared g sums b.plain_sums) in
+              let n : length strengths' ≡ nodes = length_measured v sums' norms g strengths ∙ b.compared in
+              record {
+                summed = summed';
+                compared = n;
+                plain_sums = z;
+                plains = plain_measured v sums' norms g strengths (each_imp (λ x h. omega (arith, summed', h)) ga) z b.plains;
+                each = λ _. each_named g (λ u m. let h : u < nodes = named_below nodes g u ga m in let i : u < length strengths' = omega (arith, n) in get_d_any strengths' u zeroᶠ nan i ∙ strength_at t u h m);
+                even = λ e. absurd (let y : ◌≡◌ {A = Bool} true false = sym t ∙ e in let x : ◌≡◌ {A = ℕ} 0 1 = cc in omega arith);
+              }
 
-        weighted : strong ≡ true → (sums₁ strengths₁ : List Float) → sums₁ ≡ sums' → strengths₁ ≡ measured v g sums₁ norms strengths → Weighted strong a size nodes v g sums₁ strengths₁
-        weighted t sums₁ strengths₁ p q = rw (q, p) (made t)
+          weighted : strong ≡ true → (sums₁ strengths₁ : List Float) → sums₁ ≡ sums' → strengths₁ ≡ measured v g sums₁ norms strengths → Weighted strong a size nodes v g sums₁ strengths₁
+          weighted t sums₁ strengths₁ p q = rw (q, p) (made t)
 
       -- ---- the list
       abbrev g : List ℕ
@@ -130,13 +132,12 @@ module _ {strong : Bool} {nodes size : ℕ} {ptr cols : List ℕ} {vals : List F
         omega (arith, gather_short (v + 1) (set stamps v (v + 1)) ws, length-map (part_of size v ptr cols) (λ c. c / size), columns_length w s, span_rises w s),
       )
 
-      -- ---- as a node's entries are told
-      module _ (b' : ℕ) (cs : List ℕ) (vs : List Float) (eb : b' ≡ size) (ec : cs ≡ part_of size v ptr cols) (ev : vs ≡ part_of size v ptr vals) where
-        pub found_is : (l : List ℕ) → l ≡ gather (v + 1) (set stamps v (v + 1)) (nodes_in b' cs) → l ≡ g
-        found_is l e = rw (eb, ec) at e
+      pub weighted_as : (norms : List Float) → (strong ≡ true → Normed a size nodes norms) → strong ≡ true → (l : List ℕ) → l ≡ g → (sums₁ strengths₁ : List Float) → sums₁ ≡ weighed size es (cleared l sums) → strengths₁ ≡ measured v l sums₁ norms strengths → Weighted strong a size nodes v g sums₁ strengths₁
+      weighted_as norms normed t l e sums₁ strengths₁ p q = weighted g found_in norms normed t sums₁ strengths₁ (rw e at p) (rw e at q)
 
-        pub weighted_as : strong ≡ true → (l : List ℕ) → l ≡ g → (sums₁ strengths₁ : List Float) → sums₁ ≡ weighed b' (paired cs vs) (cleared l sums) → strengths₁ ≡ measured v l sums₁ norms strengths → Weighted strong a size nodes v g sums₁ strengths₁
-        weighted_as t l e sums₁ strengths₁ p q = weighted g found_in t sums₁ strengths₁ (rw (eb, ec, ev, e) at p) (rw e at q)
+      -- as a node's entries are told
+      pub found_is : (b' : ℕ) (cs : List ℕ) → b' ≡ size → cs ≡ part_of size v ptr cols → (l : List ℕ) → l ≡ gather (v + 1) (set stamps v (v + 1)) (nodes_in b' cs) → l ≡ g
+      found_is b' cs eb ec l e = rw (eb, ec) at e
 
       module _ {sums₁ strengths₁ : List Float} (f : Weighted strong a size nodes v g sums₁ strengths₁) where
         pub weak : Weak (before strengths₁)
@@ -153,7 +154,7 @@ module _ {strong : Bool} {nodes size : ℕ} {ptr cols : List ℕ} {vals : List F
         sorted_as false t = found_ascending nodes v stamps ws b.marks s b.stamped ws_each (before strengths₁) (even_before strengths₁ (f.even t)) ∙ neighbours_are w s
 
         done : (count : ℕ) (names stamps₁ : List ℕ) → take count names ≡ sort_by (before strengths₁) g → count ≡ length g → stamps₁ ≡ marked (v + 1) (set stamps v (v + 1)) ws
-            → Listed strong a size nodes v count names stamps₁ sums₁ norms strengths₁
+            → Listed strong a size nodes v count names stamps₁ sums₁ strengths₁
         done count names stamps₁ p q r =
             let is : sort_by (before strengths₁) g ≡ list_of strong a size nodes v = sorted_as strong refl in
             let e : marked (v + 1) (set stamps v (v + 1)) ws ≡ stamps₁ = sym r in
@@ -162,11 +163,9 @@ module _ {strong : Bool} {nodes size : ℕ} {ptr cols : List ℕ} {vals : List F
                 stamped = after stamps₁ e;
                 marks = ap length r ∙ length_marked (v + 1) (set stamps v (v + 1)) ws ∙ simp length-set b.marks;
                 summed = f.summed;
-                normed = b.normed;
                 compared = f.compared;
                 plain_sums = f.plain_sums;
                 plains = f.plains;
-                norms_are = b.norms_are;
                 even = f.even;
               };
               list = p ∙ is;
@@ -180,7 +179,7 @@ module _ {strong : Bool} {nodes size : ℕ} {ptr cols : List ℕ} {vals : List F
                 rw e at below
 
         pub listed : (b' : ℕ) (cs l y rest stamps₁ : List ℕ) (count : ℕ) → b' ≡ size → cs ≡ part_of size v ptr cols → l ≡ g → count ≡ length (gather (v + 1) (set stamps v (v + 1)) (nodes_in b' cs))
-            → stamps₁ ≡ marked (v + 1) (set stamps v (v + 1)) (nodes_in b' cs) → y ≡ sort_by (before strengths₁) l → Listed strong a size nodes v count (y ++ rest) stamps₁ sums₁ norms strengths₁
+            → stamps₁ ≡ marked (v + 1) (set stamps v (v + 1)) (nodes_in b' cs) → y ≡ sort_by (before strengths₁) l → Listed strong a size nodes v count (y ++ rest) stamps₁ sums₁ strengths₁
         listed b' cs l y rest stamps₁ count eb ec e q r p =
             let p' : y ≡ sort_by (before strengths₁) g = rw e at p in
             let q' : count ≡ length g = rw (eb, ec) at q in

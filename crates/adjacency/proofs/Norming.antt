@@ -63,10 +63,9 @@ blank_take (suc n) z (x ∷ l) h (suc i) = blank_take n z l (λ k. h (suc k)) i
 blank_drop : {A : Type 0} (n : ℕ) (z : A) (l : List A) → Blank z l → Blank z (drop n l)
 blank_drop n z l h i = get_or-drop n l i z ∙ h (n + i)
 
-pub ready : (strong : Bool) (a : Matrix) (size nodes m n : ℕ) (stamps : List ℕ) (floats sums rest norms strengths : List Float) → stamps ≡ replicate m 0 → m ≡ nodes → floats ≡ replicate n zeroᶠ
-    → sums ≡ take nodes floats → rest ≡ drop nodes floats → strengths ≡ drop nodes rest → length sums ≡ nodes → length strengths ≡ nodes → length norms ≡ nodes
-    → (strong ≡ true → Normed a size nodes norms) → Between strong a size nodes 0 stamps sums norms strengths
-ready strong a size nodes m n stamps floats sums rest norms strengths e em f es er et p q r k =
+pub ready : (strong : Bool) (nodes m n : ℕ) (stamps : List ℕ) (floats sums rest strengths : List Float) → stamps ≡ replicate m 0 → m ≡ nodes → floats ≡ replicate n zeroᶠ
+    → sums ≡ take nodes floats → rest ≡ drop nodes floats → strengths ≡ drop nodes rest → length sums ≡ nodes → length strengths ≡ nodes → Between strong nodes 0 stamps sums strengths
+ready strong nodes m n stamps floats sums rest strengths e em f es er et p q =
     let b : Blank zeroᶠ floats = λ i. ap (λ l. get_or l i zeroᶠ) f ∙ blank_all n zeroᶠ i in
     let s : Blank zeroᶠ sums = rw es (blank_take nodes zeroᶠ floats b) in
     let t : Blank zeroᶠ strengths = rw (et, er) (blank_drop nodes zeroᶠ (drop nodes floats) (blank_drop nodes zeroᶠ floats b)) in
@@ -74,10 +73,8 @@ ready strong a size nodes m n stamps floats sums rest norms strengths e em f es 
       stamped = λ i h. let z : get_or stamps i 0 ≡ 0 = ap (λ l. get_or l i 0) e ∙ blank_all {A = ℕ} m 0 i in omega arith;
       marks = ap length e ∙ length-replicate {A = ℕ} m 0 ∙ em;
       summed = p;
-      normed = r;
       compared = q;
       plain_sums = λ i. rw (s i) plain_zero;
       plains = λ i. rw (t i) plain_zero;
-      norms_are = k;
       even = λ _. t;
     }

@@ -8,7 +8,7 @@ use native.Mathlib.Numerals.{add-one}
 use native.Mathlib.Nat.{suc-mul, mul-le-mul_right}
 use lib.Dec.{eqb}
 use lib.ListN.{length, get_or, take, drop, take-append-drop}
-use lib.Seq.{slice, take-nil, take-take, drop-append-le, get_or-drop, get_or-take, length-slice, length-take-le}
+use lib.Seq.{slice, take-take, drop-append-le, get_or-drop, get_or-take, length-slice, length-take-le}
 use lib.Ieee.{Float}
 use Rattle.definitions.specs.Lists.{any}
 use Rattle.definitions.specs.Matrix.{Entry, csr, stored, row_of, entries_of}
@@ -41,12 +41,6 @@ stored_join cols vals p q r a b c e =
     let k : r ≤ length vals = omega arith in
     zip_join (λ c v. record { col = c; value = v }) (slice p q cols) (slice q r cols) (slice p q vals) (slice q r vals) (length-slice p q cols i ∙ sym (length-slice p q vals j))
     ∙ rw (slice_join p q r cols a b c, slice_join p q r vals a b k)
-
-pub take_drop : {A : Type 0} (m n : ℕ) (l : List A) → take (n - m) (drop m l) ≡ drop m (take n l)
-take_drop zero n l = let e : n - zero ≡ n = omega arith in rw e
-take_drop (suc m) zero l = let e : zero - suc m ≡ zero = omega arith in rw e
-take_drop (suc m) (suc n) [] = take-nil (suc n - suc m)
-take_drop (suc m) (suc n) (x ∷ l) = let e : suc n - suc m ≡ n - m = omega arith in rw e (take_drop m n l)
 
 slice_at : (p q k : ℕ) (l : List ℕ) → p + k < q → get_or (slice p q l) k 0 ≡ get_or l (p + k) 0
 slice_at p q k l h = get_or-drop p (take q l) k 0 ∙ get_or-take q l (p + k) 0 h

@@ -9,7 +9,7 @@ ghost use Rattle.adjacency.specs.Within.{compares};
 
 use super::blocks::Blocks;
 use super::graph::all_lists;
-use super::norms::fill_norms;
+use super::norms::{NormedBlocks, fill_norms};
 use definitions::TwoLevelAggregation;
 
 // The lists, by strength if that is wanted, from the start of `lists` on, and zeros behind them.
@@ -33,9 +33,12 @@ fn linked(
     if a.strong {
         fill_norms(a, norms, &table);
     }
-    let end = all_lists(
-        a, stamps, room, offsets, names, sums, norms, strengths, &table,
-    );
+    let normed = NormedBlocks {
+        blocks: *a,
+        norms,
+        table: &table,
+    };
+    let end = all_lists(&normed, stamps, room, offsets, names, sums, strengths);
     names[end..].fill(0);
 }
 

@@ -8,6 +8,7 @@ use csr32::Csr;
 use definitions::{MAX_BLOCK, Refusal};
 
 // Room for stamps and sorting before base, for the offsets and the neighbours behind it, and for the floats.
+#[tactic(auto, unfolding(crate::specs::Fits::enough))]
 fn long_enough(nodes: usize, entries: usize, base: usize, ints: usize, floats: usize) -> bool
     requires { (nodes ≤ max_rows) × (entries ≤ max_entries) }
     ensures { result ≡ enough nodes entries base ints floats }
@@ -19,6 +20,7 @@ fn long_enough(nodes: usize, entries: usize, base: usize, ints: usize, floats: u
 }
 
 // 9, 10, 12 and 13.
+#[tactic(auto, unfolding(crate::specs::Fits::fits_of, crate::specs::Fits::four, definitions::specs::Refusal::require, definitions::specs::Answers::answer_of), using(crate::proofs::Fitting::require_then))]
 pub(crate) fn fits(
     a: &Csr<'_>,
     block_size: usize,

@@ -25,6 +25,7 @@ use build::build;
 use checks::fits;
 use csr32::Csr;
 use definitions::{Refusal, TwoLevelAggregation};
+use links::reciprocal_of;
 
 // The causes 1 to 7, and 8 where strengths are compared: the other policies look at no value.
 #[tactic(auto, unfolding(crate::specs::Within::read_of))]
@@ -52,9 +53,11 @@ pub fn neighbours(
 {
     readable(a, aggregation)?;
     fits(a, block_size, base, work_ints.len(), work_floats.len())?;
+    let size = block_size as u32;
     let blocks = Blocks {
         strong: matches!(aggregation, TwoLevelAggregation::StrongGraph),
-        size: block_size as u32,
+        size,
+        reciprocal: reciprocal_of(size),
         nodes: a.rows / block_size,
         row_ptr: a.row_ptr,
         col_idx: a.col_idx,

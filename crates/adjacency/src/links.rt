@@ -1,5 +1,5 @@
 // The nodes that a node's entries name.
-ghost use Rattle.std.specs.Prelude.{◌≡◌, ◌*◌, ◌/◌, ◌^◌, ◌<◌, ◌≤◌, length, take};
+ghost use Rattle.std.specs.Prelude.{◌≡◌, ◌^◌, ◌<◌, ◌≤◌, length, take};
 ghost use Rattle.adjacency.specs.Collect.{gather, marked, nodes_in, reciprocal_of};
 
 use super::entries::Entries;
@@ -12,13 +12,6 @@ pub(crate) fn reciprocal_of(size: u32) -> usize
     (0xffff_ffff / size) as usize + 1
 }
 
-pub(crate) fn node_of(column: u32, size: u32, reciprocal: usize) -> usize
-    requires { (0 < size) × (column * size < 2 ^ 32) × (reciprocal ≡ reciprocal_of size) }
-    ensures { result ≡ column / size }
-{
-    (column as usize * reciprocal) >> 32
-}
-
 // Puts the nodes that the entries name and that don't bear the stamp at the front of names, each once, stamps them, and returns how many.
 pub(crate) fn collect(e: &Entries<'_>, stamp: u32, stamps: &mut [u32], names: &mut [u32]) -> usize
     requires { (length stamps.old ≡ e.now.nodes) × (e.now.nodes < 2 ^ 32) × (length e.now.col_idx.now ≤ length names.old) }
@@ -26,10 +19,9 @@ pub(crate) fn collect(e: &Entries<'_>, stamp: u32, stamps: &mut [u32], names: &m
     ensures names_after { take result names.new ≡ gather stamp stamps.old (nodes_in e.now.size e.now.col_idx.now) }
     ensures stamps_after { stamps.new ≡ marked stamp stamps.old (nodes_in e.now.size e.now.col_idx.now) }
 {
-    let reciprocal = reciprocal_of(e.size);
     let mut count = 0;
     for column in e.col_idx {
-        let w = node_of(*column, e.size, reciprocal);
+        let w = e.node_of(*column);
         if stamps[w] != stamp {
             stamps[w] = stamp;
             names[count] = w as u32;

@@ -4,9 +4,9 @@ ghost use Rattle.adjacency.specs.Blocks.{matrix};
 ghost use Rattle.adjacency.specs.Collect.{gather, marked, nodes_in};
 ghost use Rattle.adjacency.specs.Lists.{Between, Listed};
 
-use super::blocks::Blocks;
 use super::entries::Entries;
 use super::links::collect;
+use super::norms::NormedBlocks;
 use super::order::sort;
 use super::strengths::measure;
 
@@ -25,26 +25,23 @@ fn find(e: &Entries<'_>, v: usize, stamps: &mut [u32], names: &mut [u32]) -> usi
 
 // Puts node v's list at the front of names, by strength if that is wanted, and returns how many nodes it has.
 pub(crate) fn node_list(
-    a: &Blocks<'_>,
+    a: &NormedBlocks<'_>,
     v: usize,
     stamps: &mut [u32],
     room: &mut [u32],
     names: &mut [u32],
     sums: &mut [f64],
-    norms: &[f64],
     strengths: &mut [f64],
-    table: &root::StartTable,
 ) -> usize
-    requires between { Between a.now.strong (matrix a.now) a.now.size a.now.nodes v stamps.old sums.old norms.now strengths.old }
-    requires v_lt_nodes { (v < a.now.nodes) × (a.now.nodes ≤ length room.old) }
-    requires room_left { get_or a.now.row_ptr.now ((v + 1) * a.now.size) 0 ≤ get_or a.now.row_ptr.now (v * a.now.size) 0 + length names.old }
-    ensures { Listed a.now.strong (matrix a.now) a.now.size a.now.nodes v result names.new stamps.new sums.new norms.now strengths.new }
+    requires between { let b = a.now.blocks in Between b.strong b.nodes v stamps.old sums.old strengths.old }
+    requires v_lt_nodes { (v < a.now.blocks.nodes) × (a.now.blocks.nodes ≤ length room.old) }
+    requires room_left { let b = a.now.blocks in get_or b.row_ptr.now ((v + 1) * b.size) 0 ≤ get_or b.row_ptr.now (v * b.size) 0 + length names.old }
+    ensures { let b = a.now.blocks in Listed b.strong (matrix b) b.size b.nodes v result names.new stamps.new sums.new strengths.new }
 {
-    let e = a.entries(v);
-    let found = find(&e, v, stamps, names);
+    let found = find(&a.blocks.entries(v), v, stamps, names);
     let list = &mut names[..found];
-    if a.strong {
-        measure(&e, v, list, sums, norms, strengths, table);
+    if a.blocks.strong {
+        measure(a, v, list, sums, strengths);
     }
     sort(strengths, list, room);
     found

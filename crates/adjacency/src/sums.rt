@@ -6,7 +6,6 @@ ghost use Rattle.adjacency.specs.Collect.{paired};
 ghost use Rattle.adjacency.specs.Strengths.{cleared, weighed, squares_in};
 
 use super::entries::Entries;
-use super::links::{node_of, reciprocal_of};
 
 // Sets the sums of the listed nodes to zero.
 pub(crate) fn clear(list: &[u32], sums: &mut [f64])
@@ -23,9 +22,8 @@ pub(crate) fn weigh(e: &Entries<'_>, sums: &mut [f64])
     requires { length sums.old ≡ e.now.nodes }
     ensures { sums.new ≡ weighed e.now.size (paired e.now.col_idx.now e.now.values.now) sums.old }
 {
-    let reciprocal = reciprocal_of(e.size);
     for (column, x) in e.col_idx.iter().zip(e.values) {
-        sums[node_of(*column, e.size, reciprocal)] += *x * *x;
+        sums[e.node_of(*column)] += *x * *x;
     }
 }
 
@@ -33,10 +31,9 @@ pub(crate) fn weigh(e: &Entries<'_>, sums: &mut [f64])
 pub(crate) fn own(e: &Entries<'_>, v: usize) -> f64
     ensures { result ≡ total (squares_in e.now.size v (paired e.now.col_idx.now e.now.values.now)) }
 {
-    let reciprocal = reciprocal_of(e.size);
     let mut sum = 0.0;
     for (column, x) in e.col_idx.iter().zip(e.values) {
-        if node_of(*column, e.size, reciprocal) == v {
+        if e.node_of(*column) == v {
             sum += *x * *x;
         }
     }

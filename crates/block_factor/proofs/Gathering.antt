@@ -14,60 +14,61 @@ use borrow.Author.Tests.{eqb-true, eqb-false, eq-eqb, ne_eqb}
 use borrow.Rule.Slice.PartMut.{put_mid}
 use Rattle.definitions.specs.Lists.{tab, up_to, square}
 use Rattle.definitions.specs.Numbers.{◌+ᶠ◌, zeroᶠ, total}
-use Rattle.definitions.specs.Matrix.{Matrix, row_of, entries_of, stored, stored_at, values_where}
-use Rattle.definitions.specs.Block.{block_entry, block_of}
-use Rattle.csr32.proofs.Stored.{numbers_none, numbers_hit, numbers_miss}
-use Rattle.laws.proofs.Lists.{tab_is, length_tab, get_d_tab}
+use Rattle.definitions.specs.Matrix.{Matrix, entries_of, stored, stored_at, values_where}
+use Rattle.definitions.specs.Block.{block_entry}
+use Rattle.csr32.specs.Parts.{entries}
+use Rattle.csr32.proofs.Stored.{numbers_none, numbers_hit, numbers_miss, stored_all}
+use Rattle.laws.proofs.Lists.{tab_is, tab_cong, length_tab, get_d_tab}
 use Rattle.laws.proofs.Growing.{flat_map_snoc, up_to_snoc}
 use Rattle.block_factor.specs.Dense.{blank, dense}
 
 -- ---- one row
 
--- the sum of what the entries from one position up to another store at column first + j
-unfoldable pub sum_at : List ℕ → List Float → ℕ → ℕ → ℕ → ℕ → Float
-sum_at idx vals from to first j = total (values_where (λ c. eqb c (first + j)) (stored idx vals from to))
+-- the sum of what the first k entries store at column first + j
+unfoldable pub sum_at : List ℕ → List Float → ℕ → ℕ → ℕ → Float
+sum_at idx vals k first j = total (values_where (λ c. eqb c (first + j)) (stored idx vals 0 k))
 
-module _ (idx : List ℕ) (vals : List Float) (from first : ℕ) where
-  none_sum : (j : ℕ) → sum_at idx vals from from first j ≡ zeroᶠ
+module _ (idx : List ℕ) (vals : List Float) (first : ℕ) where
+  none_sum : (j : ℕ) → sum_at idx vals 0 first j ≡ zeroᶠ
   unfolding sum_at total
-  none_sum j = rw (numbers_none (λ c. eqb c (first + j)) idx vals from)
+  none_sum j = rw (numbers_none (λ c. eqb c (first + j)) idx vals 0)
 
-  pub gather_none : (row : List Float) → row ≡ replicate (length row) zeroᶠ → row ≡ tab (sum_at idx vals from from first) (length row)
+  pub gather_none : (row : List Float) → row ≡ replicate (length row) zeroᶠ → row ≡ tab (sum_at idx vals 0 first) (length row)
   gather_none row e =
-      tab_is nan row (sum_at idx vals from from first) (length row) refl
+      tab_is nan row (sum_at idx vals 0 first) (length row) refl
       (λ j h. ap (λ l. get_or l j nan) e ∙ get_or-replicate (length row) j zeroᶠ nan h ∙ sym (none_sum j))
 
-  module _ (k : ℕ) (a : from ≤ k) (l : k < length idx) (s : length idx ≡ length vals) where
-    hit_sum : (j : ℕ) → get_or idx k 0 ≡ first + j → sum_at idx vals from (k + 1) first j ≡ sum_at idx vals from k first j +ᶠ get_or vals k nan
+  module _ (k m c : ℕ) (x : Float) (em : m ≡ k + 1) (l : k < length idx) (s : length idx ≡ length vals) (ec : c ≡ get_or idx k 0) (ex : x ≡ get_or vals k nan) where
+    hit_sum : (j : ℕ) → c ≡ first + j → sum_at idx vals m first j ≡ sum_at idx vals k first j +ᶠ x
     unfolding sum_at total
-    hit_sum j e = rw (numbers_hit (λ c. eqb c (first + j)) idx vals from k a l s (eq-eqb _ _ e), foldl-append (λ s x. s +ᶠ x))
+    hit_sum j e = rw (em, ex, numbers_hit (λ c. eqb c (first + j)) idx vals 0 k (omega arith) l s (eq-eqb _ _ (sym ec ∙ e)), foldl-append (λ s x. s +ᶠ x))
 
-    miss_sum : (j : ℕ) → (get_or idx k 0 ≡ first + j → ⊥) → sum_at idx vals from (k + 1) first j ≡ sum_at idx vals from k first j
+    miss_sum : (j : ℕ) → (c ≡ first + j → ⊥) → sum_at idx vals m first j ≡ sum_at idx vals k first j
     unfolding sum_at
-    miss_sum j e = rw (numbers_miss (λ c. eqb c (first + j)) idx vals from k a l s (ne_eqb _ _ e))
+    miss_sum j e = rw (em, numbers_miss (λ c. eqb c (first + j)) idx vals 0 k (omega arith) l s (ne_eqb _ _ (λ q. e (ec ∙ q))))
 
-    module _ (n : ℕ) (row row' : List Float) (er : row ≡ tab (sum_at idx vals from k first) n) where
+    module _ (n : ℕ) (row row' : List Float) (er : row ≡ tab (sum_at idx vals k first) n) where
       row_length : length row ≡ n
-      row_length = ap length er ∙ length_tab (sum_at idx vals from k first) n
+      row_length = ap length er ∙ length_tab (sum_at idx vals k first) n
 
-      row_at : (j : ℕ) → j < n → get_or row j nan ≡ sum_at idx vals from k first j
-      row_at j h = ap (λ t. get_or t j nan) er ∙ get_d_tab (sum_at idx vals from k first) n j nan h
+      row_at : (j : ℕ) → j < n → get_or row j nan ≡ sum_at idx vals k first j
+      row_at j h = ap (λ t. get_or t j nan) er ∙ get_d_tab (sum_at idx vals k first) n j nan h
 
-      pub gather_miss : row' ≡ row → ((j : ℕ) → j < n → get_or idx k 0 ≡ first + j → ⊥) → row' ≡ tab (sum_at idx vals from (k + 1) first) n
-      gather_miss e f = e ∙ tab_is nan row (sum_at idx vals from (k + 1) first) n row_length (λ j h. row_at j h ∙ sym (miss_sum j (f j h)))
+      pub gather_miss : row' ≡ row → ((j : ℕ) → j < n → c ≡ first + j → ⊥) → row' ≡ tab (sum_at idx vals m first) n
+      gather_miss e f = e ∙ tab_is nan row (sum_at idx vals m first) n row_length (λ j h. row_at j h ∙ sym (miss_sum j (f j h)))
 
-      pub gather_hit : (p : ℕ) → p < n → get_or idx k 0 ≡ first + p → row' ≡ set row p (get_or row p nan +ᶠ get_or vals k nan) → row' ≡ tab (sum_at idx vals from (k + 1) first) n
+      pub gather_hit : (p : ℕ) → p < n → c ≡ first + p → row' ≡ set row p (get_or row p nan +ᶠ x) → row' ≡ tab (sum_at idx vals m first) n
       gather_hit p hp ep e =
-          e ∙ tab_is nan (set row p (get_or row p nan +ᶠ get_or vals k nan)) (sum_at idx vals from (k + 1) first) n (length-set row p _ ∙ row_length) (λ j h. at j h (eqb j p) refl)
+          e ∙ tab_is nan (set row p (get_or row p nan +ᶠ x)) (sum_at idx vals m first) n (length-set row p _ ∙ row_length) (λ j h. at j h (eqb j p) refl)
         where
-          at : (j : ℕ) → j < n → (b : Bool) → eqb j p ≡ b → get_or (set row p (get_or row p nan +ᶠ get_or vals k nan)) j nan ≡ sum_at idx vals from (k + 1) first j
+          at : (j : ℕ) → j < n → (b : Bool) → eqb j p ≡ b → get_or (set row p (get_or row p nan +ᶠ x)) j nan ≡ sum_at idx vals m first j
           at j h true q =
               let z : j ≡ p = eqb-true j p q in
-              ap (λ m. get_or (set row p (get_or row p nan +ᶠ get_or vals k nan)) m nan) z ∙ get_or-set_same row p (get_or row p nan +ᶠ get_or vals k nan) nan (rw row_length hp)
-              ∙ ap (λ v. v +ᶠ get_or vals k nan) (row_at p hp) ∙ sym (hit_sum p ep) ∙ ap (sum_at idx vals from (k + 1) first) (sym z)
+              ap (λ i. get_or (set row p (get_or row p nan +ᶠ x)) i nan) z ∙ get_or-set_same row p (get_or row p nan +ᶠ x) nan (rw row_length hp)
+              ∙ ap (λ v. v +ᶠ x) (row_at p hp) ∙ sym (hit_sum p ep) ∙ ap (sum_at idx vals m first) (sym z)
           at j h false q =
               let z : j ≡ p → ⊥ = eqb-false j p q in
-              get_or-set_other row p j (get_or row p nan +ᶠ get_or vals k nan) nan z ∙ row_at j h ∙ sym (miss_sum j (λ m. z (omega arith)))
+              get_or-set_other row p j (get_or row p nan +ᶠ x) nan z ∙ row_at j h ∙ sym (miss_sum j (λ i. z (omega arith)))
 
 -- ---- the block
 
@@ -126,15 +127,12 @@ module _ (f : ℕ → ℕ → Float) (w : ℕ) where
   unfolding square
   block_all i a e ea = ap (λ l. take (w * w) l) ea ∙ rw e (take_at (rows_up_to f w w) (replicate (64 - w * w) zeroᶠ) (w * w) (length_rows w))
 
--- a row's sums are the block's entries
-pub row_is : (m : Matrix) (first i from to n : ℕ) (row : List Float) → from ≡ get_or m.row_ptr (first + i) 0 → to ≡ get_or m.row_ptr (first + i + 1) 0
-    → row ≡ tab (sum_at m.col_idx m.values from to first) n → row ≡ tab (block_entry m first i) n
-unfolding sum_at block_entry stored_at entries_of row_of
-row_is m first i from to n row ef et e = e ∙ rw (ef, et, add-one (first + i))
+-- a whole row's sums are the block's entries
+row_sums : (m : Matrix) (first i : ℕ) (idx : List ℕ) (vals : List Float) (k : ℕ) → entries idx vals ≡ entries_of m (first + i) → k ≡ length idx → length idx ≡ length vals
+    → (j : ℕ) → sum_at idx vals k first j ≡ block_entry m first i j
+unfolding sum_at block_entry stored_at
+row_sums m first i idx vals k ee ek s j = rw (stored_all idx vals k ek s, ee)
 
-pub block_is : (m : Matrix) (first w : ℕ) (d : List Float) → d ≡ square w (block_entry m first) → d ≡ block_of m first w
-unfolding block_of
-block_is m first w d e = e
-
-pub block_length : (f : ℕ → ℕ → Float) (w i : ℕ) (a : List Float) → i * w + w ≤ 64 → a ≡ rows_up_to f w i ++ replicate (64 - i * w) zeroᶠ → length a ≡ 64
-block_length f w i a h e = ap length e ∙ simp (length-append, length_rows f w i, length-replicate) (omega arith)
+pub row_is : (m : Matrix) (first i : ℕ) (idx : List ℕ) (vals : List Float) (k n : ℕ) (row : List Float) → entries idx vals ≡ entries_of m (first + i) → k ≡ length idx → length idx ≡ length vals
+    → row ≡ tab (sum_at idx vals k first) n → row ≡ tab (block_entry m first i) n
+row_is m first i idx vals k n row ee ek s e = e ∙ tab_cong (sum_at idx vals k first) (block_entry m first i) n (λ j h. row_sums m first i idx vals k ee ek s j)

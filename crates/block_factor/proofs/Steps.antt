@@ -4,7 +4,6 @@ use mathlib.Core.Path.{◌≡◌, refl, ap, sym, ◌∙◌}
 use mathlib.Core.Bool.{Bool, true, false}
 use mathlib.Core.List.{List}
 use native.Mathlib.Omega.{arith}
-use native.Mathlib.Nat.{sub-zero}
 use native.Mathlib.Numerals.{add-one}
 use lib.ListN.{get_or, set}
 use lib.Ieee.{Float, nan}
@@ -50,9 +49,6 @@ module _ (place : ℕ → ℕ → ℕ) (a : ℕ → ℕ → Float) where
 module _ (w : ℕ) (a : List Float) (tol : Float) where
   abbrev pub RowsLeft : ℕ → List Float → Type 0
   RowsLeft i l = (first : ℕ) → factor_rows (in_block w) (pivot_row first) (dense_entry w a) tol (w - i) i l ≡ factor_rows (in_block w) (pivot_row first) (dense_entry w a) tol w 0 blank
-
-  pub rows_begin : (l : List Float) → l ≡ blank → RowsLeft 0 l
-  rows_begin l e first = rw (sub-zero, e)
 
   pub rows_step : (i : ℕ) (l m n : List Float) (d : Float) (t : Bool) (r : Float) → RowsLeft i l → i < w → m ≡ below_diagonal (in_block w) (dense_entry w a) i i l → d ≡ rest (in_block w) (dense_entry w a) m i i → t ≡ above tol d
       → t ≡ true → r ≡ rootᶠ d → n ≡ set m (in_block w i i) r → RowsLeft (i + 1) n

@@ -53,7 +53,7 @@ pub record PairTurn (rows size k : ℕ) : Type 0 where
   pub next : k * size * size + 2 * (size * size) ≡ (k + 2) * size * size
   pub ends : k * size * size + 2 * (size * size) ≤ rows * size
 
-pub pair_turn : (rows size k : ℕ) → 0 < size → (k + 2) * size ≤ rows → PairTurn rows size k
+pair_turn : (rows size k : ℕ) → 0 < size → (k + 2) * size ≤ rows → PairTurn rows size k
 unfolding width_of block_count
 pair_turn rows size k p h =
     let q : (k + 2) * size ≡ k * size + 2 * size = add-mul k 2 size in

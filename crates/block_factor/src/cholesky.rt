@@ -11,6 +11,7 @@ use super::symmetry::{skewed, top};
 use definitions::Refusal;
 
 // What is left of the entry (i, j) once the columns of l before j are taken off. Both are as wide as a: so the compiler reads one width.
+#[tactic(auto, unfolding(definitions::specs::Factor::rest, definitions::specs::Factor::products), using(laws::proofs::Growing::reduced_none, laws::proofs::Growing::reduced_more, crate::proofs::Shape::entry_is))]
 pub(crate) fn rest(a: &Block, l: &Block, i: usize, j: usize) -> f64
     requires { (i < a.now.size) × (j < a.now.size) × (l.now.size ≡ a.now.size) }
     ensures { result ≡ rest_of (in_block a.now.size) (dense_entry a.now.size a.now.a) l.now.a i j }
@@ -24,6 +25,7 @@ pub(crate) fn rest(a: &Block, l: &Block, i: usize, j: usize) -> f64
 }
 
 // The entries of row i left of the diagonal.
+#[tactic(auto, using(crate::proofs::Steps::left_none, crate::proofs::Steps::left_more))]
 pub(crate) fn fill_row(a: &Block, l: &mut Block, i: usize)
     requires { (i < a.now.size) × (l.old.size ≡ a.now.size) }
     ensures { (l.new.a ≡ below_diagonal (in_block a.now.size) (dense_entry a.now.size a.now.a) i i l.old.a) × (l.new.size ≡ l.old.size) }

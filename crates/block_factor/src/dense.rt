@@ -14,6 +14,7 @@ pub struct Block {
 
 impl Block {
     // Zeros alone.
+    #[tactic(auto, unfolding(crate::specs::Dense::blank))]
     pub(crate) fn blank(size: usize) -> Self
         requires { size ≤ max_block }
         ensures { (result.a ≡ blank) × (result.size ≡ size) }

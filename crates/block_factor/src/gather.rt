@@ -10,22 +10,23 @@ use super::dense::Block;
 use csr32::SquareCsr;
 
 // Row i of the block whose first row is `first`, of whose places as many as row has; row holds zeros before.
+#[tactic(auto, using(crate::proofs::Gathering::gather_none))]
 fn gather_row(a: &SquareCsr<'_>, first: usize, i: usize, row: &mut [f64])
     requires in_rows { first + i < a.now.rows }
     requires row_value { row.old ≡ replicate (length row.old) zeroᶠ }
     ensures { row.new ≡ tab (block_entry (square a.now) first i) (length row.old) }
 {
-    let from = a.row_ptr[first + i] as usize;
-    let to = a.row_ptr[first + i + 1] as usize;
-    for k in from..to {
-        let c = a.col_idx[k] as usize;
+    let (columns, values) = a.row(first + i);
+    for (column, value) in columns.iter().zip(values) {
+        let c = *column as usize;
         if first <= c && c - first < row.len() {
-            row[c - first] += a.values[k];
+            row[c - first] += *value;
         }
     }
 }
 
 // The block w wide whose first row is `first`.
+#[tactic(auto, unfolding(crate::specs::Dense::blank, definitions::specs::Block::block_of), using(crate::proofs::Gathering::block_none, crate::proofs::Gathering::place_zeros, crate::proofs::Gathering::block_more, crate::proofs::Gathering::block_all, crate::proofs::Shape::row_fits))]
 pub(crate) fn gather(a: &SquareCsr<'_>, first: usize, w: usize) -> Block
     requires { (first + w ≤ a.now.rows) × (w ≤ max_block) }
     ensures { (dense w result.a ≡ block_of (square a.now) first w) × (result.size ≡ w) }

@@ -6,6 +6,7 @@ ghost use Rattle.block_factor.specs.Dense.{dense, apart_at, row_apart};
 use super::dense::Block;
 
 // The largest magnitude of a block, taken as 1 where it is smaller.
+#[tactic(auto, unfolding(definitions::specs::Block::top_of))]
 pub(crate) fn top(b: &Block) -> f64
     ensures { result ≡ top_of (dense b.now.size b.now.a) }
 {
@@ -22,6 +23,7 @@ fn apart(b: &Block, i: usize, j: usize, tol: f64) -> bool
     d > tol
 }
 
+#[tactic(auto, using(crate::proofs::Tabs::up_to_found, crate::proofs::Tabs::up_to_passed, crate::proofs::Tabs::up_to_end))]
 fn row_skewed(b: &Block, i: usize, tol: f64) -> bool
     requires { i < b.now.size }
     ensures { result ≡ row_apart (dense b.now.size b.now.a) b.now.size tol i }
@@ -34,6 +36,7 @@ fn row_skewed(b: &Block, i: usize, tol: f64) -> bool
     false
 }
 
+#[tactic(auto, unfolding(definitions::specs::Block::skewed), using(crate::proofs::Tabs::up_to_found, crate::proofs::Tabs::up_to_passed, crate::proofs::Tabs::up_to_end))]
 pub(crate) fn skewed(b: &Block, tol: f64) -> bool
     ensures { result ≡ skewed_of (dense b.now.size b.now.a) b.now.size tol }
 {

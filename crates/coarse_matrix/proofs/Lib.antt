@@ -1,3 +1,4 @@
+pub mod Passing
 pub mod Squares
 pub mod Causes
 pub mod Marking

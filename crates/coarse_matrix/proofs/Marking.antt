@@ -1,11 +1,12 @@
 -- The accumulator of a row of A P: its stamps, the list of touched columns and the sums, one number more.
-use Prim.Native.Nat.{ℕ, zero, suc, ◌+◌, ◌<◌, ◌≤◌}
+use Prim.Native.Nat.{ℕ, zero, suc, ◌+◌, ◌<◌}
 use mathlib.Core.Path.{◌≡◌, refl, sym, ◌∙◌}
 use mathlib.Core.Bool.{Bool, true, false}
-use mathlib.Core.List.{List, [], ◌∷◌, ◌++◌, flat_map, foldl-append, append-nil, append_assoc, map-append}
+use mathlib.Core.List.{List, [], ◌∷◌, ◌++◌, foldl-append, append-nil, append_assoc, map-append}
 use native.Mathlib.Omega.{arith}
 use native.Mathlib.Numerals.{add-one}
 use native.Mathlib.Decide.{ℕ_discrete}
+use denote.Ref.{Bor}
 use lib.Dec.{eqb}
 use lib.ListN.{length, get_or, set, take, length-set}
 use lib.Seq.{get_or-set_same, get_or-set_other, take-suc-set}
@@ -13,11 +14,12 @@ use lib.Ieee.{Float, nan}
 use borrow.Author.Tests.{eq-eqb, ne_eqb}
 use Rattle.definitions.specs.Lists.{keep}
 use Rattle.definitions.specs.Numbers.{◌+ᶠ◌, ◌*ᶠ◌, zeroᶠ, total}
-use Rattle.definitions.specs.Matrix.{Entry, stored, row_of}
-use Rattle.csr32.proofs.Stored.{stored_none, stored_more, where_hit, where_miss, where_none, where_append}
+use Rattle.definitions.specs.Matrix.{Entry}
+use Rattle.csr32.proofs.Stored.{where_hit, where_miss, where_none, where_append}
 use Rattle.laws.proofs.Growing.{flat_map_snoc}
 use Rattle.laws.proofs.Kept.{keep_append}
 use Rattle.laws.specs.Scatter.{put}
+use Rattle.coarse_matrix.proofs.Passing.{passed, passed_more}
 use Rattle.coarse_matrix.specs.Galerkin.{others, Room, Told, Seen, Put, mark, put_at, scaled, product_puts}
 
 -- ---- the numbers put at a column, one entry more
@@ -183,40 +185,18 @@ pub put_then : {c token : ℕ} {s₀ s₁ s₂ t₀ t₁ t₂ : List ℕ} {u₀ 
     → Put c token s₀ t₀ u₀ n₀ s₁ t₁ u₁ n₁ es → Put c token s₁ t₁ u₁ n₁ s₂ t₂ u₂ n₂ fs → Put c token s₀ t₀ u₀ n₀ s₂ t₂ u₂ n₂ (es ++ fs)
 put_then es fs p q = record { room = q.room; seen = λ b s. rw (← append_assoc b es fs) (q.seen (b ++ es) (p.seen b s)) }
 
--- ---- stored entries, one more at the end
-
--- the loop over weights
-pub scaled_none : (idx : List ℕ) (w : List Float) (v : Float) (a : ℕ) → scaled v (stored idx w a a) ≡ []
-scaled_none idx w v a = rw (stored_none idx w a)
-
-pub scaled_more : (idx : List ℕ) (w : List Float) (v : Float) (a e : ℕ) → a ≤ e → e < length w → length idx ≡ length w
-    → scaled v (stored idx w a e) ++ (put (get_or idx e 0) (v *ᶠ get_or w e nan) ∷ []) ≡ scaled v (stored idx w a (e + 1))
-scaled_more idx w v a e h k s = rw (stored_more idx w a e h (omega arith) s) (sym (map-append (λ u. put u.col (v *ᶠ u.value)) (stored idx w a e) (put (get_or idx e 0) (get_or w e nan) ∷ [])))
-
 -- ---- the steps of the loops that put
 
-module _ {c token : ℕ} {s₀ s₁ s₂ t₀ t₁ t₂ : List ℕ} {u₀ u₁ u₂ : List Float} {n₀ n₁ n₂ : ℕ} where
-  pub weights_more : (idx : List ℕ) (w : List Float) (v : Float) (from q k : ℕ) → from ≤ q → q < length w → length idx ≡ length w → k ≡ get_or idx q 0
-      → Put c token s₀ t₀ u₀ n₀ s₁ t₁ u₁ n₁ (scaled v (stored idx w from q)) → Put c token s₁ t₁ u₁ n₁ s₂ t₂ u₂ n₂ (put k (v *ᶠ get_or w q nan) ∷ [])
-      → Put c token s₀ t₀ u₀ n₀ s₂ t₂ u₂ n₂ (scaled v (stored idx w from (q + 1)))
-  weights_more idx w v from q k h l s ek p r =
-      rw (← scaled_more idx w v from q h l s) (rw ek at (put_then (scaled v (stored idx w from q)) (put k (v *ᶠ get_or w q nan) ∷ []) p r))
+module _ {c token : ℕ} {s₀ s₁ s₂ t₀ t₁ t₂ : List ℕ} {u₀ u₁ u₂ : List Float} {n₀ n₁ n₂ : ℕ} (ps : List (Bor ℕ × Bor Float)) (p : Bor ℕ × Bor Float) where
+  -- a weight of a transfer row more, times a value
+  pub weights_more : (v : Float) → Put c token s₀ t₀ u₀ n₀ s₁ t₁ u₁ n₁ (scaled v (passed ps)) → Put c token s₁ t₁ u₁ n₁ s₂ t₂ u₂ n₂ (put p.0.now (v *ᶠ p.1.now) ∷ [])
+      → Put c token s₀ t₀ u₀ n₀ s₂ t₂ u₂ n₂ (scaled v (passed (ps ++ (p ∷ []))))
+  weights_more v a b =
+      rw (passed_more ps p, map-append (λ u. put u.col (v *ᶠ u.value)) (passed ps) (put p.0.now p.1.now ∷ [])) (put_then (scaled v (passed ps)) (put p.0.now (v *ᶠ p.1.now) ∷ []) a b)
 
-  -- a stored entry and the transfer row of its column
-  pub entries_more : (tptr tidx : List ℕ) (tw : List Float) (idx : List ℕ) (vals : List Float) (from p col first last : ℕ) → from ≤ p → p < length vals → length idx ≡ length vals
-      → col ≡ get_or idx p 0 → first ≡ get_or tptr col 0 → last ≡ get_or tptr (col + 1) 0
-      → Put c token s₀ t₀ u₀ n₀ s₁ t₁ u₁ n₁ (product_puts (row_of tptr tidx tw) (stored idx vals from p)) → Put c token s₁ t₁ u₁ n₁ s₂ t₂ u₂ n₂ (scaled (get_or vals p nan) (stored tidx tw first last))
-      → Put c token s₀ t₀ u₀ n₀ s₂ t₂ u₂ n₂ (product_puts (row_of tptr tidx tw) (stored idx vals from (p + 1)))
-  unfolding product_puts row_of
-  entries_more tptr tidx tw idx vals from p col first last h l s ec ef el a b =
-      let row : stored tidx tw first last ≡ stored tidx tw (get_or tptr (get_or idx p 0) 0) (get_or tptr (suc (get_or idx p 0)) 0) = rw (ef, el, ec, add-one) in
-      let b' = rw row at b in
-      rw (
-        stored_more idx vals from p h (omega arith) s,
-        flat_map_snoc (λ e. scaled e.value (stored tidx tw (get_or tptr e.col 0) (get_or tptr (suc e.col) 0))) (stored idx vals from p) (put (get_or idx p 0) (get_or vals p nan)),
-      )
-      (put_then (flat_map (λ e. scaled e.value (stored tidx tw (get_or tptr e.col 0) (get_or tptr (suc e.col) 0))) (stored idx vals from p)) (scaled (get_or vals p nan) (stored tidx tw (get_or tptr (get_or idx p 0) 0) (get_or tptr (suc (get_or idx p 0)) 0))) a b')
-
-pub products_none : (tptr tidx : List ℕ) (tw : List Float) (idx : List ℕ) (vals : List Float) (from : ℕ) → product_puts (row_of tptr tidx tw) (stored idx vals from from) ≡ []
-unfolding product_puts flat_map
-products_none tptr tidx tw idx vals from = rw (stored_none idx vals from)
+  -- an entry of the matrix more, times the weights of its column's transfer row
+  pub entries_more : (transfer : ℕ → List Entry) → Put c token s₀ t₀ u₀ n₀ s₁ t₁ u₁ n₁ (product_puts transfer (passed ps)) → Put c token s₁ t₁ u₁ n₁ s₂ t₂ u₂ n₂ (scaled p.1.now (transfer p.0.now))
+      → Put c token s₀ t₀ u₀ n₀ s₂ t₂ u₂ n₂ (product_puts transfer (passed (ps ++ (p ∷ []))))
+  unfolding product_puts
+  entries_more transfer a b =
+      rw (passed_more ps p, flat_map_snoc (λ e. scaled e.value (transfer e.col)) (passed ps) (put p.0.now p.1.now)) (put_then (product_puts transfer (passed ps)) (scaled p.1.now (transfer p.0.now)) a b)

@@ -12,7 +12,7 @@ use lib.Ieee.{Float, nan}
 use borrow.Author.Tests.{eqb-true, eqb-false, eq-eqb}
 use Rattle.definitions.specs.Lists.{up_to, keep, square, padded}
 use Rattle.definitions.specs.Numbers.{◌*ᶠ◌, zeroᶠ, total}
-use Rattle.definitions.specs.Matrix.{Matrix, Entry, values_where, entries_of, row_of, stored, csr}
+use Rattle.definitions.specs.Matrix.{Matrix, Entry, values_where, entries_of}
 use Rattle.definitions.specs.Coarse.{weighted_sum, weights_at, product_terms, galerkin_terms, galerkin_entry, averaged_square}
 use Rattle.definitions.specs.Refusal.{result_left}
 use Rattle.averaging.specs.Averaging.{average_call}
@@ -201,13 +201,3 @@ galerkin_law a transfer c k s f rest v h lf lk p ev =
     let front : take (c * c) (f ++ rest) ≡ square c (galerkin_entry a transfer) =
     take_at f rest (c * c) lf ∙ square_is nan c (galerkin_entry a transfer) f lf (λ i j hi hj. p.entries i j hi hj) in
     ev ∙ average_fits c (f ++ rest) h (omega (arith, length-append f rest)) ∙ rw (front, lk)
-
--- ---- rows by their pointers
-
-pub row_is : (ptr idx : List ℕ) (vals : List Float) (r : ℕ) → stored idx vals (get_or ptr r 0) (get_or ptr (r + 1) 0) ≡ row_of ptr idx vals r
-unfolding row_of
-row_is ptr idx vals r = rw add-one
-
-pub entries_are : (n : ℕ) (ptr idx : List ℕ) (vals : List Float) (r : ℕ) → stored idx vals (get_or ptr r 0) (get_or ptr (r + 1) 0) ≡ entries_of (csr n n ptr idx vals) r
-unfolding entries_of
-entries_are n ptr idx vals r = row_is ptr idx vals r

@@ -2,12 +2,11 @@
 use Prim.Native.Nat.{ℕ, suc, ◌+◌, ◌*◌, ◌<◌, ◌≤◌}
 use mathlib.Core.Path.{◌≡◌, refl, ap, sym, ◌∙◌}
 use mathlib.Core.Bool.{Bool, true, false}
-use mathlib.Core.List.{List, [], ◌∷◌, ◌++◌, flat_map, zip_with}
+use mathlib.Core.List.{List, [], ◌∷◌, ◌++◌, flat_map}
 use native.Mathlib.Omega.{arith}
-use native.Mathlib.Numerals.{add-one}
 use lib.Dec.{eqb}
 use lib.ListN.{length, get_or, take, drop, replicate, length-append, length-drop, length-replicate, get_or-replicate}
-use lib.Seq.{slice, slice-cons, slice_empty, get_or-take, length-take-le, take_all, take_at}
+use lib.Seq.{slice, get_or-take, length-take-le, take_all, take_at}
 use lib.Ieee.{Float, nan}
 use borrow.Author.Tests.{eqb-true, eqb-false, eq-eqb, ne_eqb}
 use Rattle.definitions.specs.Lists.{up_to, square, padded}
@@ -17,13 +16,12 @@ use Rattle.laws.proofs.Squares.{square_is, take_zeros}
 use Rattle.averaging.proofs.Laws.{average_fits}
 use Rattle.laws.proofs.Places.{same_row, place}
 use Rattle.definitions.specs.Numbers.{zeroᶠ, total}
-use Rattle.definitions.specs.Matrix.{Entry, values_where, row_of, entries_of, csr, stored}
+use Rattle.definitions.specs.Matrix.{Matrix, Entry, values_where, row_of, entries_of, stored}
 use Rattle.definitions.specs.Coarse.{constant_terms, constant_entry, averaged_square}
 use Rattle.csr32.proofs.Stored.{where_hit, where_miss, where_none}
 use Rattle.laws.proofs.Kept.{flat_map_keep}
 use Rattle.laws.proofs.Lists.{Each, each_head, each_tail, each_imp, each_by, each_take, each_drop, each_zip_with}
-use Rattle.laws.specs.Bounds.{Compressed}
-use Rattle.laws.specs.Scatter.{put, bump, scatter, scattered}
+use Rattle.laws.specs.Scatter.{put, scatter, scattered}
 use Rattle.coarse_matrix.specs.Scatter.{moved, row_puts}
 use Rattle.laws.proofs.Scattering.{length_scattered, scattered_at, puts_at, rows_step}
 
@@ -75,66 +73,37 @@ square_law puts n c k f h same =
 
 -- ---- the coarse matrix, PiecewiseConstant
 
-module _ (n c : ℕ) (ptr idx : List ℕ) (vals : List Float) (column : ℕ → ℕ) (within : (k : ℕ) → k < length idx → column (get_or idx k 0) < c) where
-  pub constant_terms_lem : (i j : ℕ) → j < c
-      → flat_map (λ r. puts_at (i * c + j) (row_puts column c (row_of ptr idx vals) r)) (up_to n) ≡ constant_terms (csr n n ptr idx vals) column i j
+-- a row more
+pub matrix_step : (column : ℕ → ℕ) (c : ℕ) (row : ℕ → List Entry) (i at : ℕ) (l₀ l m : List Float) → l ≡ scattered (row_puts column c row) i l₀ → at ≡ column i
+    → m ≡ scatter (moved (λ k. at * c + column k) (row i)) l → m ≡ scattered (row_puts column c row) (i + 1) l₀
+matrix_step column c row i at l₀ l m e ea em = rows_step (row_puts column c row) l₀ l m i e (rw (em, ea))
+
+module _ (a : Matrix) (c : ℕ) (column : ℕ → ℕ) (within : (k : ℕ) → k < length a.col_idx → column (get_or a.col_idx k 0) < c) where
+  pub constant_terms_lem : (i j : ℕ) → j < c → flat_map (λ r. puts_at (i * c + j) (row_puts column c (entries_of a) r)) (up_to a.rows) ≡ constant_terms a column i j
   unfolding constant_terms entries_of row_of
   constant_terms_lem i j hj =
-      flat_map_keep (λ r. eqb (column r) i) (λ r. puts_at (i * c + j) (row_puts column c (row_of ptr idx vals) r)) (λ r. values_where (λ k. eqb (column k) j) (row_of ptr idx vals r))
-      (λ r q. where_moved (λ k. eqb k (i * c + j)) (λ k. eqb (column k) j) (λ k. column r * c + column k) (row_of ptr idx vals r)
+      flat_map_keep (λ r. eqb (column r) i) (λ r. puts_at (i * c + j) (row_puts column c (entries_of a) r)) (λ r. values_where (λ k. eqb (column k) j) (entries_of a r))
+      (λ r q. where_moved (λ k. eqb k (i * c + j)) (λ k. eqb (column k) j) (λ k. column r * c + column k) (entries_of a r)
       (each_imp (λ e h. at_row (column r) i (column e.col) j c h hj (eqb-true (column r) i q)) (in_row r)))
-      (λ r q. where_moved (λ k. eqb k (i * c + j)) (λ _. false) (λ k. column r * c + column k) (row_of ptr idx vals r)
+      (λ r q. where_moved (λ k. eqb k (i * c + j)) (λ _. false) (λ k. column r * c + column k) (entries_of a r)
       (each_imp (λ e h. off_row (column r) i (column e.col) j c h hj (eqb-false (column r) i q)) (in_row r))
-      ∙ where_never (row_of ptr idx vals r))
-      (up_to n)
+      ∙ where_never (entries_of a r))
+      (up_to a.rows)
     where
-      in_row : (r : ℕ) → Each (λ e. column e.col < c) (row_of ptr idx vals r)
-      in_row r = each_stored (λ k. column k < c) idx vals (get_or ptr r 0) (get_or ptr (suc r) 0) within
+      in_row : (r : ℕ) → Each (λ e. column e.col < c) (entries_of a r)
+      in_row r = each_stored (λ k. column k < c) a.col_idx a.values (get_or a.row_ptr r 0) (get_or a.row_ptr (suc r) 0) within
 
   -- averaged, with zeros after it
-  pub constant_law : (w z l u v : List Float) → c ≤ 2_048 → c * c ≤ length w → z ≡ replicate (length w) zeroᶠ → l ≡ scattered (row_puts column c (row_of ptr idx vals)) n (take (c * c) z)
-      → u ≡ l ++ drop (c * c) z → v ≡ result_left zeroᶠ (average_call c u) u → v ≡ padded zeroᶠ (length w) (averaged_square c (square c (constant_entry (csr n n ptr idx vals) column)))
+  pub constant_law : (w z l u v : List Float) → c ≤ 2_048 → c * c ≤ length w → z ≡ replicate (length w) zeroᶠ → l ≡ scattered (row_puts column c (entries_of a)) a.rows (take (c * c) z)
+      → u ≡ l ++ drop (c * c) z → v ≡ result_left zeroᶠ (average_call c u) u → v ≡ padded zeroᶠ (length w) (averaged_square c (square c (constant_entry a column)))
   unfolding constant_entry
   constant_law w z l u v h k ez el eu ev =
       let tz : take (c * c) z ≡ replicate (c * c) zeroᶠ = rw ez (take_zeros (c * c) (length w) zeroᶠ k) in
-      let el' : l ≡ scattered (row_puts column c (row_of ptr idx vals)) n (replicate (c * c) zeroᶠ) = el ∙ rw tz in
-      let nl : length l ≡ c * c = ap length el' ∙ length_scattered (row_puts column c (row_of ptr idx vals)) (replicate (c * c) zeroᶠ) n ∙ length-replicate (c * c) zeroᶠ in
+      let el' : l ≡ scattered (row_puts column c (entries_of a)) a.rows (replicate (c * c) zeroᶠ) = el ∙ rw tz in
+      let nl : length l ≡ c * c = ap length el' ∙ length_scattered (row_puts column c (entries_of a)) (replicate (c * c) zeroᶠ) a.rows ∙ length-replicate (c * c) zeroᶠ in
       let all : take (c * c) l ≡ l = take_all (c * c) l (omega arith) in
-      let is : l ≡ square c (constant_entry (csr n n ptr idx vals) column) = sym all ∙ rw el' (square_law (row_puts column c (row_of ptr idx vals)) n c (c * c) (constant_entry (csr n n ptr idx vals) column) (omega arith) (λ i j p g. ap total (constant_terms_lem i j g))) in
+      let is : l ≡ square c (constant_entry a column) = sym all ∙ rw el' (square_law (row_puts column c (entries_of a)) a.rows c (c * c) (constant_entry a column) (omega arith) (λ i j p g. ap total (constant_terms_lem i j g))) in
       let nz : length z ≡ length w = ap length ez ∙ length-replicate (length w) zeroᶠ in
       let nu : length u ≡ length w = rw eu (rw (length-append l (drop (c * c) z), nl, length-drop (c * c) z) (omega arith)) in
       let tu : take (c * c) u ≡ l = rw eu (take_at l (drop (c * c) z) (c * c) nl) in
       ev ∙ average_fits c u h (omega arith) ∙ rw (tu, is, nu)
-
--- ---- steps of loops over stored entries
-
-module _ (idx : List ℕ) (vals : List Float) (g : ℕ → ℕ) (to : ℕ) where
-  -- what the entries from k on put
-  abbrev pub rest : ℕ → List Float → List Float
-  rest k l = scatter (moved g (stored idx vals k to)) l
-
-  pub span_step : (k : ℕ) (l : List Float) → k < to → to ≤ length idx → to ≤ length vals → rest k l ≡ rest (k + 1) (bump l (put (g (get_or idx k 0)) (get_or vals k nan)))
-  unfolding scatter zip_with
-  span_step k l h p q = rw (add-one, slice-cons k to idx 0 h p, slice-cons k to vals nan h q)
-
-  pub span_done : (l : List Float) → rest to l ≡ l
-  unfolding scatter zip_with
-  span_done l = rw (slice_empty to idx)
-
-  pub entry_step : (from k at w : ℕ) (l₀ l m : List Float) → k < to → to ≤ length idx → to ≤ length vals
-      → rest k l ≡ rest from l₀ → w ≡ get_or idx k 0 → at ≡ g w → m ≡ bump l (put at (get_or vals k nan)) → rest (k + 1) m ≡ rest from l₀
-  entry_step from k at w l₀ l m h p q inv ew ea em = rw (em, ea, ew) (sym (span_step k l h p q) ∙ inv)
-
--- ---- steps of the loop over rows
-
-pub row_stored : {n w m : ℕ} {ptr idx : List ℕ} (i from to : ℕ) → Compressed n w ptr idx m → i < n → from ≡ get_or ptr i 0 → to ≡ get_or ptr (i + 1) 0 → (from ≤ to) × (to ≤ m)
-row_stored i from to h l ef et =
-    let e = rw add-one at et in
-    (omega (arith, h.rises i l, e), omega (arith, h.ends (suc i) (omega arith), e))
-
-pub matrix_step : (column : ℕ → ℕ) (c : ℕ) (ptr idx : List ℕ) (vals : List Float) (i at from to : ℕ) (l₀ l m : List Float)
-    → l ≡ scattered (row_puts column c (row_of ptr idx vals)) i l₀ → at ≡ column i → from ≡ get_or ptr i 0 → to ≡ get_or ptr (i + 1) 0
-    → m ≡ scatter (moved (λ k. at * c + column k) (stored idx vals from to)) l → m ≡ scattered (row_puts column c (row_of ptr idx vals)) (i + 1) l₀
-unfolding row_of
-matrix_step column c ptr idx vals i at from to l₀ l m e ea ef et em =
-    rows_step (row_puts column c (row_of ptr idx vals)) l₀ l m i e (rw (em, ea, ef, et, add-one))

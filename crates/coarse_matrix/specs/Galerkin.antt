@@ -4,9 +4,14 @@ use mathlib.Core.List.{List, [], ◌∷◌, ◌++◌, map, flat_map, foldl}
 use Rattle.std.specs.Float.{nan}
 use Rattle.definitions.specs.Lists.{up_to, keep}
 use Rattle.definitions.specs.Numbers.{◌+ᶠ◌, ◌*ᶠ◌, total}
-use Rattle.definitions.specs.Matrix.{Matrix, Entry, values_where}
+use Rattle.definitions.specs.Matrix.{Matrix, Entry, row_of, values_where}
 use Rattle.definitions.specs.Coarse.{weighted_sum, weights_at, product_terms}
 use Rattle.laws.specs.Scatter.{put}
+use Rattle.csr32.specs.declared.rows.CompressedRows.{CompressedRows}
+
+-- the weights of each row of a transfer
+abbrev pub weights_of : CompressedRows → ℕ → List Entry
+weights_of t = row_of t.row_ptr.now t.col_idx.now t.values.now
 
 -- a value times the weights of a transfer row
 abbrev pub scaled : Float → List Entry → List Entry

@@ -1,9 +1,9 @@
 // The coarse matrix of the basis that is constant over a group.
-ghost use Rattle.std.specs.Prelude.{◌≡◌, ◌+◌, ◌*◌, ◌<◌, ◌≤◌, length, get_or};
+ghost use Rattle.std.specs.Prelude.{◌≡◌, ◌+◌, ◌*◌, ◌≤◌, length};
 ghost use Rattle.definitions.specs.Lists.{square as square_of, padded};
 ghost use Rattle.definitions.specs.Numbers.{zeroᶠ};
 ghost use Rattle.definitions.specs.Transfer.{coarse_column};
-ghost use Rattle.definitions.specs.Matrix.{row_of, stored};
+ghost use Rattle.definitions.specs.Matrix.{entries_of};
 ghost use Rattle.definitions.specs.Coarse.{constant_entry, averaged_square};
 ghost use Rattle.csr32.specs.Seen.{square};
 ghost use Rattle.laws.specs.Scatter.{scattered, scatter};
@@ -14,27 +14,23 @@ use averaging::average;
 
 // The entries of row r, added into the row of a matrix that begins at base: each at base + the coarse column of its column.
 fn add_entries(m: &GroupedMatrix<'_>, r: usize, base: usize, coarse: &mut [f64])
-    requires { (r < m.now.a.rows) × (base + m.now.groups.coarse ≤ length coarse.old) }
-    ensures { let a = m.now.a in
-        let entries = stored a.col_idx.now a.values.now (get_or a.row_ptr.now r 0) (get_or a.row_ptr.now (r + 1) 0) in
-        coarse.new ≡ scatter (moved (λ k. base + coarse_column m.now.groups.size m.now.groups.ids.now k) entries) coarse.old }
+    requires { base + m.now.groups.coarse ≤ length coarse.old }
+    ensures { coarse.new ≡ scatter (moved (λ k. base + coarse_column m.now.groups.size m.now.groups.ids.now k) (entries_of (square m.now.a) r)) coarse.old }
 {
-    let from = m.a.row_ptr[r] as usize;
-    let to = m.a.row_ptr[r + 1] as usize;
-    for k in from..to {
-        let at = base + m.groups.column_of(m.a.col_idx[k] as usize);
-        coarse[at] += m.a.values[k];
+    let (columns, values) = m.a.row(r);
+    for (column, value) in columns.iter().zip(values) {
+        let at = base + m.column_of(*column as usize);
+        coarse[at] += *value;
     }
 }
 
 // The same for each row.
 fn add_matrix(m: &GroupedMatrix<'_>, coarse: &mut [f64])
     requires { m.now.groups.coarse * m.now.groups.coarse ≤ length coarse.old }
-    ensures { let row = row_of m.now.a.row_ptr.now m.now.a.col_idx.now m.now.a.values.now in
-        coarse.new ≡ scattered (row_puts (coarse_column m.now.groups.size m.now.groups.ids.now) m.now.groups.coarse row) m.now.a.rows coarse.old }
+    ensures { coarse.new ≡ scattered (row_puts (coarse_column m.now.groups.size m.now.groups.ids.now) m.now.groups.coarse (entries_of (square m.now.a))) m.now.a.rows coarse.old }
 {
     for r in 0..m.a.rows {
-        let at = m.groups.column_of(r);
+        let at = m.column_of(r);
         add_entries(m, r, at * m.groups.coarse, coarse);
     }
 }

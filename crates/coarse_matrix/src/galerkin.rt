@@ -3,20 +3,20 @@ ghost use Rattle.std.specs.Prelude.{◌≡◌, suc, ◌+◌, ◌*◌, ◌<◌, �
 ghost use Rattle.definitions.specs.Lists.{square as square_of, padded};
 ghost use Rattle.definitions.specs.Numbers.{zeroᶠ};
 ghost use Rattle.definitions.specs.Coarse.{averaged_square, galerkin_entry};
-ghost use Rattle.definitions.specs.Matrix.{row_of, stored};
+ghost use Rattle.definitions.specs.Matrix.{entries_of};
 ghost use Rattle.csr32.specs.Seen.{square};
 ghost use Rattle.laws.specs.Bounds.{Below};
 ghost use Rattle.laws.specs.Scatter.{scatter};
-ghost use Rattle.coarse_matrix.specs.Galerkin.{Room, Put, scaled, product_puts, weight_puts, weighed_puts, RowAdded, RowsAdded};
+ghost use Rattle.coarse_matrix.specs.Galerkin.{weights_of, Room, Put, scaled, product_puts, weight_puts, weighed_puts, RowAdded, RowsAdded};
 
 use crate::smoothed::SmoothedMatrix;
-use crate::transfer::Transfer;
 use averaging::average;
+use csr32::CompressedRows;
 
 // A value times the weights of transfer row `row`, into the sums. A column without the token gets it, a place in the list of touched
 // columns and a zero first. Returns how many are touched.
 fn add_products(
-    transfer: &Transfer<'_>,
+    m: &SmoothedMatrix<'_>,
     row: usize,
     value: f64,
     token: u32,
@@ -25,25 +25,22 @@ fn add_products(
     touched: &mut [u32],
     sums: &mut [f64],
 ) -> usize
-    requires row { row < transfer.now.rows }
-    requires long { (length stamps.old ≡ transfer.now.coarse) × (length touched.old ≡ transfer.now.coarse) × (length sums.old ≡ transfer.now.coarse) }
+    requires row { row < m.now.a.rows }
+    requires long { (length stamps.old ≡ m.now.transfer.cols) × (length touched.old ≡ m.now.transfer.cols) × (length sums.old ≡ m.now.transfer.cols) }
     requires room { Room token stamps.old count }
-    ensures { let t = transfer.now in
-        let entries = stored t.col_idx.now t.weights.now (get_or t.row_ptr.now row 0) (get_or t.row_ptr.now (row + 1) 0) in
-        Put t.coarse token stamps.old touched.old sums.old count stamps.new touched.new sums.new result (scaled value entries) }
+    ensures { Put m.now.transfer.cols token stamps.old touched.old sums.old count stamps.new touched.new sums.new result (scaled value (weights_of m.now.transfer row)) }
 {
+    let (columns, weights) = m.weights(row);
     let mut n = count;
-    let from = transfer.row_ptr[row] as usize;
-    let to = transfer.row_ptr[row + 1] as usize;
-    for q in from..to {
-        let k = transfer.col_idx[q] as usize;
+    for (column, weight) in columns.iter().zip(weights) {
+        let k = *column as usize;
         if stamps[k] != token {
             stamps[k] = token;
             touched[n] = k as u32;
             sums[k] = 0.0;
             n += 1;
         }
-        sums[k] += value * transfer.weights[q];
+        sums[k] += value * *weight;
     }
     n
 }
@@ -57,28 +54,16 @@ fn add_row(
     touched: &mut [u32],
     sums: &mut [f64],
 ) -> usize
-    requires row { r < m.now.a.rows }
-    requires long { (length stamps.old ≡ m.now.transfer.coarse) × (length touched.old ≡ m.now.transfer.coarse) × (length sums.old ≡ m.now.transfer.coarse) }
+    requires long { (length stamps.old ≡ m.now.transfer.cols) × (length touched.old ≡ m.now.transfer.cols) × (length sums.old ≡ m.now.transfer.cols) }
     requires room { Room token stamps.old 0 }
     ensures { let t = m.now.transfer in
-        let entries = stored m.now.a.col_idx.now m.now.a.values.now (get_or m.now.a.row_ptr.now r 0) (get_or m.now.a.row_ptr.now (r + 1) 0) in
-        Put t.coarse token stamps.old touched.old sums.old 0 stamps.new touched.new sums.new result (product_puts (row_of t.row_ptr.now t.col_idx.now t.weights.now) entries) }
+        Put t.cols token stamps.old touched.old sums.old 0 stamps.new touched.new sums.new result (product_puts (weights_of t) (entries_of (square m.now.a) r)) }
 {
+    let (columns, values) = m.a.row(r);
     let mut count = 0;
-    let from = m.a.row_ptr[r] as usize;
-    let to = m.a.row_ptr[r + 1] as usize;
-    for p in from..to {
-        let col = m.a.col_idx[p] as usize;
-        count = add_products(
-            &m.transfer,
-            col,
-            m.a.values[p],
-            token,
-            count,
-            stamps,
-            touched,
-            sums,
-        );
+    for (column, value) in columns.iter().zip(values) {
+        let row = *column as usize;
+        count = add_products(m, row, *value, token, count, stamps, touched, sums);
     }
     count
 }
@@ -96,25 +81,21 @@ fn weigh(touched: &[u32], sums: &[f64], weight: f64, dst: usize, coarse: &mut [f
 }
 
 // The same for each weight of transfer row r.
-fn weigh_row(transfer: &Transfer<'_>, r: usize, touched: &[u32], sums: &[f64], coarse: &mut [f64])
-    requires row { r < transfer.now.rows }
-    requires long { (length sums.now ≡ transfer.now.coarse) × (length coarse.old ≡ transfer.now.coarse * transfer.now.coarse) }
+fn weigh_row(
+    transfer: &CompressedRows<'_>,
+    r: usize,
+    touched: &[u32],
+    sums: &[f64],
+    coarse: &mut [f64],
+)
+    requires long { (length sums.now ≡ transfer.now.cols) × (length coarse.old ≡ transfer.now.cols * transfer.now.cols) }
     requires below { Below (length sums.now) touched.now }
-    ensures { let t = transfer.now in
-        let entries = stored t.col_idx.now t.weights.now (get_or t.row_ptr.now r 0) (get_or t.row_ptr.now (r + 1) 0) in
-        coarse.new ≡ scatter (weighed_puts t.coarse sums.now touched.now entries) coarse.old }
+    ensures { coarse.new ≡ scatter (weighed_puts transfer.now.cols sums.now touched.now (weights_of transfer.now r)) coarse.old }
 {
-    let from = transfer.row_ptr[r] as usize;
-    let to = transfer.row_ptr[r + 1] as usize;
-    for q in from..to {
-        let row = transfer.col_idx[q] as usize;
-        weigh(
-            touched,
-            sums,
-            transfer.weights[q],
-            row * transfer.coarse,
-            coarse,
-        );
+    let (rows, weights) = transfer.row(r);
+    for (row, weight) in rows.iter().zip(weights) {
+        let base = *row as usize * transfer.cols;
+        weigh(touched, sums, *weight, base, coarse);
     }
 }
 
@@ -128,11 +109,11 @@ fn add_to_coarse(
     coarse: &mut [f64],
 )
     requires row { r < m.now.a.rows }
-    requires long { (length stamps.old ≡ m.now.transfer.coarse) × (length touched.old ≡ m.now.transfer.coarse) × (length sums.old ≡ m.now.transfer.coarse)
-        × (length coarse.old ≡ m.now.transfer.coarse * m.now.transfer.coarse) }
+    requires long { (length stamps.old ≡ m.now.transfer.cols) × (length touched.old ≡ m.now.transfer.cols) × (length sums.old ≡ m.now.transfer.cols)
+        × (length coarse.old ≡ m.now.transfer.cols * m.now.transfer.cols) }
     requires by_index { Below (suc r) stamps.old }
     ensures { let t = m.now.transfer in
-        RowAdded (square m.now.a) (row_of t.row_ptr.now t.col_idx.now t.weights.now) t.coarse r stamps.new coarse.old coarse.new }
+        RowAdded (square m.now.a) (weights_of t) t.cols r stamps.new coarse.old coarse.new }
 {
     let token = r + 1;
     let count = add_row(m, r, token as u32, stamps, touched, sums);
@@ -147,10 +128,10 @@ fn add_all(
     sums: &mut [f64],
     coarse: &mut [f64],
 )
-    requires long { (length stamps.old ≡ m.now.transfer.coarse) × (length touched.old ≡ m.now.transfer.coarse) × (length sums.old ≡ m.now.transfer.coarse) }
-    requires cleared { (stamps.old ≡ replicate (length stamps.old) 0) × (coarse.old ≡ replicate (m.now.transfer.coarse * m.now.transfer.coarse) zeroᶠ) }
+    requires long { (length stamps.old ≡ m.now.transfer.cols) × (length touched.old ≡ m.now.transfer.cols) × (length sums.old ≡ m.now.transfer.cols) }
+    requires cleared { (stamps.old ≡ replicate (length stamps.old) 0) × (coarse.old ≡ replicate (m.now.transfer.cols * m.now.transfer.cols) zeroᶠ) }
     ensures { let t = m.now.transfer in
-        RowsAdded (square m.now.a) (row_of t.row_ptr.now t.col_idx.now t.weights.now) t.coarse m.now.a.rows stamps.new coarse.new }
+        RowsAdded (square m.now.a) (weights_of t) t.cols m.now.a.rows stamps.new coarse.new }
 {
     for r in 0..m.a.rows {
         add_to_coarse(m, r, stamps, touched, sums, coarse);
@@ -159,12 +140,12 @@ fn add_all(
 
 // The coarse matrix, averaged, with zeros after it; the integers are left zero.
 pub(crate) fn galerkin_into(m: &SmoothedMatrix<'_>, ints: &mut [u32], floats: &mut [f64])
-    requires { (2 * m.now.transfer.coarse ≤ length ints.old) × (m.now.transfer.coarse * m.now.transfer.coarse + m.now.transfer.coarse ≤ length floats.old) }
+    requires { (2 * m.now.transfer.cols ≤ length ints.old) × (m.now.transfer.cols * m.now.transfer.cols + m.now.transfer.cols ≤ length floats.old) }
     ensures { let t = m.now.transfer in
         (ints.new ≡ replicate (length ints.old) 0)
-        × (floats.new ≡ padded zeroᶠ (length floats.old) (averaged_square t.coarse (square_of t.coarse (galerkin_entry (square m.now.a) (row_of t.row_ptr.now t.col_idx.now t.weights.now))))) }
+        × (floats.new ≡ padded zeroᶠ (length floats.old) (averaged_square t.cols (square_of t.cols (galerkin_entry (square m.now.a) (weights_of t))))) }
 {
-    let c = m.transfer.coarse;
+    let c = m.transfer.cols;
     ints.fill(0);
     floats.fill(0.0);
     let (stamps, behind) = ints.split_at_mut(c);

@@ -16,9 +16,7 @@ mod checks;
 mod constant;
 mod galerkin;
 mod grouped; // grouped.rt: a matrix and the groups of its rows
-mod groups; // groups.rt: the coarse columns of a matrix's rows
 mod smoothed; // smoothed.rt: a matrix and its transfer
-mod transfer;
 
 // The coarse matrix of the basis that is constant over a group, averaged with its transpose, with zeros after it.
 pub fn constant_coarse(

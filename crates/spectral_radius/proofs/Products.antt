@@ -1,43 +1,37 @@
--- The sum over a row's stored entries, by the entries that are left.
-use Prim.Native.Nat.{ℕ, ◌+◌, ◌<◌, ◌≤◌}
-use mathlib.Core.Path.{◌≡◌, refl}
-use mathlib.Core.List.{List, foldl, map, zip_with}
-use native.Mathlib.Numerals.{add-one}
+-- The sum over a row's entries, by those that are passed.
+use Prim.Native.Nat.{ℕ, ◌+◌, ◌<◌}
+use mathlib.Core.Path.{◌≡◌, ap, ◌∙◌}
+use mathlib.Core.List.{List, ◌∷◌, [], foldl-append, map, map-append}
+use native.Mathlib.Omega.{arith}
 use lib.ListN.{length, get_or}
-use lib.Seq.{slice-cons, slice_empty}
 use lib.Ieee.{Float, nan}
 use Rattle.definitions.specs.Numbers.{◌+ᶠ◌, ◌*ᶠ◌, zeroᶠ, total}
-use Rattle.definitions.specs.Matrix.{Entry, stored, row_of, entries_of, csr}
+use Rattle.definitions.specs.Matrix.{Matrix, Entry, stored, entries_of}
 use Rattle.definitions.specs.Estimate.{row_terms}
+use Rattle.csr32.specs.Parts.{entries}
+use Rattle.csr32.proofs.Stored.{stored_none, stored_more, stored_all}
 use Rattle.spectral_radius.specs.Power.{image_at}
 
-abbrev plus : Float → Float → Float
-plus s x = s +ᶠ x
+module _ (idx : List ℕ) (vals s x : List Float) where
+  -- the product of an entry
+  abbrev product : Entry → Float
+  product e = e.value *ᶠ get_or s e.col nan *ᶠ get_or x e.col nan
 
--- the products of a row's stored entries, in order
-abbrev products : List Float → List Float → List Entry → List Float
-products s x es = map (λ e. e.value *ᶠ get_or s e.col nan *ᶠ get_or x e.col nan) es
+  -- the first n products added up
+  abbrev pub added : ℕ → Float
+  added n = total (map product (stored idx vals 0 n))
 
-module _ (idx : List ℕ) (vals s x : List Float) (to : ℕ) where
-  -- a sum with the entries from k on added
-  abbrev pub rest : ℕ → Float → Float
-  rest k sum = foldl plus sum (products s x (stored idx vals k to))
-
-  pub rest_first : (from : ℕ) → rest from zeroᶠ ≡ total (products s x (stored idx vals from to))
+  pub added_none : zeroᶠ ≡ added 0
   unfolding total
-  rest_first from = refl
+  added_none = rw (stored_none idx vals 0)
 
-  pub rest_step : (k : ℕ) (sum : Float) → k < to → to ≤ length idx → to ≤ length vals
-      → rest (k + 1) (sum +ᶠ get_or vals k nan *ᶠ get_or s (get_or idx k 0) nan *ᶠ get_or x (get_or idx k 0) nan) ≡ rest k sum
-  unfolding zip_with
-  rest_step k sum h p q = rw (add-one, slice-cons k to idx 0 h p, slice-cons k to vals nan h q)
+  pub added_more : (n m c : ℕ) (v sum : Float) → m ≡ n + 1 → n < length idx → length idx ≡ length vals → c ≡ get_or idx n 0 → v ≡ get_or vals n nan → sum ≡ added n
+      → sum +ᶠ v *ᶠ get_or s c nan *ᶠ get_or x c nan ≡ added m
+  unfolding total
+  added_more n m c v sum em h l ec ev es =
+      rw (em, stored_more idx vals 0 n (omega arith) h l, map-append product (stored idx vals 0 n) (record { col = get_or idx n 0; value = get_or vals n nan } ∷ []), foldl-append (λ s x. s +ᶠ x), ec, ev, es)
 
-  pub rest_done : (sum : Float) → rest to sum ≡ sum
-  unfolding zip_with
-  rest_done sum = rw (slice_empty to idx)
-
--- row i of the image
-pub image_at_lem : (rows : ℕ) (ptr idx : List ℕ) (vals s x : List Float) (i : ℕ) (sum : Float) → sum ≡ total (products s x (stored idx vals (get_or ptr i 0) (get_or ptr (i + 1) 0)))
-    → get_or s i nan *ᶠ sum ≡ image_at (csr rows rows ptr idx vals) s x i
-unfolding row_terms entries_of row_of
-image_at_lem rows ptr idx vals s x i sum es = rw (es, add-one)
+  -- row i of the image
+  pub added_all : (a : Matrix) (i n : ℕ) (sum : Float) → n ≡ length idx → length idx ≡ length vals → entries idx vals ≡ entries_of a i → sum ≡ added n → get_or s i nan *ᶠ sum ≡ image_at a s x i
+  unfolding row_terms
+  added_all a i n sum en l ee es = rw (es, stored_all idx vals n en l, ee)

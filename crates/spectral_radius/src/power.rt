@@ -27,12 +27,11 @@ impl ScaledCsr<'_> {
         requires { (i < self.now.a.rows) × (length x.now ≡ self.now.a.rows) }
         ensures { result ≡ image_at (square self.now.a) self.now.s.now x.now i }
     {
-        let from = self.a.row_ptr[i] as usize;
-        let to = self.a.row_ptr[i + 1] as usize;
+        let (columns, values) = self.a.row(i);
         let mut sum = 0.0;
-        for k in from..to {
-            let col = self.a.col_idx[k] as usize;
-            sum += self.a.values[k] * self.s[col] * x[col];
+        for (column, value) in columns.iter().zip(values) {
+            let col = *column as usize;
+            sum += *value * self.s[col] * x[col];
         }
         self.s[i] * sum
     }

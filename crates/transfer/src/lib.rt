@@ -2,7 +2,6 @@
 #![tactic(auto)]
 
 mod checks;
-mod groups; // groups.rt: the coarse columns of a matrix's rows
 mod rows;
 mod smoothing; // smoothing.rt: what the weights are made of
 mod touched;
@@ -18,9 +17,8 @@ ghost use Rattle.transfer.specs.Call.{transfer_checked, smoothed_transfer_call, 
 ghost use Rattle.transfer.specs.Accepted.{Accepts};
 
 use causes::leave;
-use csr32::{Csr, SquareCsr};
+use csr32::{Csr, Groups, SquareCsr};
 use definitions::Refusal;
-use groups::Groups;
 use smoothing::Smoothing;
 
 // What an accepted call is about, by all checks in their order; `ints` and `floats` are the lengths of the lists lent.

@@ -1,4 +1,5 @@
-// A row's weights, one place for each coarse column.
+// A row's weights, one place for each coarse column. The entries are walked by places: with `zip` over the columns and the values of a
+// row the call took 4 % longer at 27 entries a row, and 23 % at 125.
 ghost use Rattle.std.specs.Prelude.{◌≡◌, ◌+◌, ◌<◌, length};
 ghost use Rattle.csr32.specs.Seen.{square};
 ghost use Rattle.transfer.specs.Weights.{Weighed};
@@ -13,7 +14,7 @@ fn weigh_touched(s: &Smoothing<'_>, i: usize, t: &mut [u32], w: &mut [f64]) -> u
     requires long { (length t.old ≡ s.now.groups.coarse) × (length w.old ≡ s.now.groups.coarse) }
     ensures { Weighed (square s.now.a) s.now.diagonal.now s.now.damping s.now.groups.size s.now.groups.ids.now s.now.groups.coarse i t.new w.new result }
 {
-    let own = s.groups.column_of(i);
+    let own = s.column_of(i);
     let inv = 1.0 / s.diagonal[i];
     t[0] = own as u32;
     w[own] = 1.0;
@@ -22,7 +23,7 @@ fn weigh_touched(s: &Smoothing<'_>, i: usize, t: &mut [u32], w: &mut [f64]) -> u
     let from = s.a.row_ptr[i] as usize;
     let to = s.a.row_ptr[i + 1] as usize;
     for k in from..to {
-        let j = s.groups.column_of(s.a.col_idx[k] as usize);
+        let j = s.column_of(s.a.col_idx[k] as usize);
         let x = j as u32;
         let place = match find(&t[..n], near, x) {
             Ok(place) => place,
@@ -45,7 +46,7 @@ fn weigh_all(s: &Smoothing<'_>, i: usize, t: &mut [u32], w: &mut [f64]) -> usize
     requires long { (length t.old ≡ s.now.groups.coarse) × (length w.old ≡ s.now.groups.coarse) }
     ensures { Weighed (square s.now.a) s.now.diagonal.now s.now.damping s.now.groups.size s.now.groups.ids.now s.now.groups.coarse i t.new w.new result }
 {
-    let own = s.groups.column_of(i);
+    let own = s.column_of(i);
     let inv = 1.0 / s.diagonal[i];
     for (column, place) in t.iter_mut().enumerate() {
         *place = column as u32;
@@ -55,7 +56,7 @@ fn weigh_all(s: &Smoothing<'_>, i: usize, t: &mut [u32], w: &mut [f64]) -> usize
     let from = s.a.row_ptr[i] as usize;
     let to = s.a.row_ptr[i + 1] as usize;
     for k in from..to {
-        let j = s.groups.column_of(s.a.col_idx[k] as usize);
+        let j = s.column_of(s.a.col_idx[k] as usize);
         w[j] -= s.share(k, inv);
     }
     t.len()

@@ -22,17 +22,20 @@ returns-in_err-fits c =
     let p = err_from_is_err_and c.from_residual-in_err-fits.result c.from_residual-in_err-fits.ensures.1 in
     rw (p.1, p.2) (not_fitting b.aggregation (lent b.a.now) b.block_size b.base b.work_ints.now b.work_floats.now _ c.in_ok-readable.ensures refl _ c.in_err-fits.ensures _ refl)
 
-pub overflow_cast-blocks : goal.overflow_cast-blocks
-overflow_cast-blocks c = let b = c.args in omega (arith, size_high b.aggregation (lent b.a.now) b.block_size b.base b.work_ints.now b.work_floats.now _ c.in_ok-readable.ensures refl _ c.in_ok-fits.ensures refl)
+pub overflow_cast-size : goal.overflow_cast-size
+overflow_cast-size c = let b = c.args in omega (arith, size_high b.aggregation (lent b.a.now) b.block_size b.base b.work_ints.now b.work_floats.now _ c.in_ok-readable.ensures refl _ c.in_ok-fits.ensures refl)
+
+pub reciprocal_of-requires : goal.reciprocal_of-requires
+reciprocal_of-requires c = let b = c.args in omega (arith, size_low b.aggregation (lent b.a.now) b.block_size b.base b.work_ints.now b.work_floats.now _ c.in_ok-readable.ensures refl _ c.in_ok-fits.ensures refl)
 
 pub nonzero_div-blocks : goal.nonzero_div-blocks
 nonzero_div-blocks c = let b = c.args in omega (arith, size_low b.aggregation (lent b.a.now) b.block_size b.base b.work_ints.now b.work_floats.now _ c.in_ok-readable.ensures refl _ c.in_ok-fits.ensures refl)
 
-pub invariant_of-blocks : goal.invariant_of-blocks
-invariant_of-blocks c =
+pub invariant_of-blocks-clause-fit : goal.invariant_of-blocks-clause-fit
+invariant_of-blocks-clause-fit c =
     let b = c.args in
     let m : c.match-matches.matches ≡ compares b.aggregation = elim c.match-matches.branch [ in-StrongGraph w ↦ w.matches-is ∙ compares_strong b.aggregation w.in-StrongGraph.is | in_default w ↦ w.matches-is ∙ compares_not b.aggregation w.in_default.not-StrongGraph ] in
-    record { fit = formed b.aggregation (lent b.a.now) b.block_size b.base b.work_ints.now b.work_floats.now _ c.in_ok-readable.ensures refl _ c.in_ok-fits.ensures refl c.match-matches.matches m }
+    formed b.aggregation (lent b.a.now) b.block_size b.base b.work_ints.now b.work_floats.now _ c.in_ok-readable.ensures refl _ c.in_ok-fits.ensures refl c.match-matches.matches m
 
 pub build-requires-clause-strong : goal.build-requires-clause-strong
 build-requires-clause-strong c = let b = c.args in elim c.match-matches.branch [ in-StrongGraph w ↦ w.matches-is ∙ compares_strong b.aggregation w.in-StrongGraph.is | in_default w ↦ w.matches-is ∙ compares_not b.aggregation w.in_default.not-StrongGraph ]

@@ -9,17 +9,19 @@ use Rattle.adjacency.proofs.Steps.{true_false}
 use Rattle.adjacency.proofs.build.linked.Goals.{then-a, else-a}
 use Rattle.adjacency.proofs.build.linked.Goals as goal
 
+pub invariant_of-normed-clause-normed : goal.invariant_of-normed-clause-normed
+invariant_of-normed-clause-normed c = elim c.if-a.branch [
+  | then-a w ↦ λ _. rw w.norms-is w.fill_norms.ensures
+  | else-a w ↦ λ t. true_false t w.if-a.false
+]
+
 pub all_lists-end-requires-clause-between : goal.all_lists-end-requires-clause-between
 all_lists-end-requires-clause-between c =
     let a = c.args.a.now in
     let s = c.split_at_mut-sums in
     let n = c.split_at_mut-norms in
-    let normed : a.strong ≡ true → Normed (matrix a) a.size a.nodes c.if-a.norms = elim c.if-a.branch [
-      | then-a w ↦ λ _. rw w.norms-is w.fill_norms.ensures
-      | else-a w ↦ λ t. true_false t w.if-a.false
-    ] in
-    ready a.strong (matrix a) a.size a.nodes (length c.args.stamps.now) (length c.args.floats.now) c.fill.new.self c.fill-2.new.self s.result.0.now s.result.1.now c.if-a.norms n.result.1.now
-    (c.fill.ensures.after (λ y e. e)) (omega arith) (c.fill-2.ensures.after (λ y e. e)) s.ensures.front s.ensures.back n.ensures.back (omega (arith, s.ensures.front_len)) (omega (arith, s.ensures.back_len, n.ensures.back_len, c.fill-2.auto.self)) (omega (arith, n.ensures.front_len, c.if-a.auto.norms)) normed
+    ready a.strong a.nodes (length c.args.stamps.now) (length c.args.floats.now) c.fill.new.self c.fill-2.new.self s.result.0.now s.result.1.now n.result.1.now
+    (c.fill.ensures.after (λ y e. e)) (omega arith) (c.fill-2.ensures.after (λ y e. e)) s.ensures.front s.ensures.back n.ensures.back (omega (arith, s.ensures.front_len)) (omega (arith, s.ensures.back_len, n.ensures.back_len, c.fill-2.auto.self))
 
 pub returns : goal.returns
 returns c =

@@ -12,7 +12,7 @@ loop-v-init c = graphed_first c.args.offsets.now c.args.names.now c.requires.bet
 
 pub loop-v-preserved : goal.loop-v-preserved
 loop-v-preserved c =
-    let a = c.args.a.now in
+    let a = c.args.a.now.blocks in
     let o = c.loop-v in
     let n = c.node_list-end in
     let m : length n.new.names ≡ length (drop o.end o.names) = n.auto.names ∙ ap length (take_all (length o.names - o.end) (drop o.end o.names) (omega (arith, length-drop o.end o.names))) in

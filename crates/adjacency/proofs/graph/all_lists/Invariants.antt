@@ -3,4 +3,4 @@ use Rattle.adjacency.proofs.Graphs.{Graphed}
 use Rattle.adjacency.proofs.graph.all_lists.Given as goal
 
 abbrev pub invariant-loop-v : goal.invariant-loop-v
-invariant-loop-v l = Graphed l.a.strong (matrix l.a) l.a.size l.a.nodes l.v l.end l.stamps l.offsets l.names l.sums l.norms l.strengths
+invariant-loop-v l = Graphed l.a.blocks.strong (matrix l.a.blocks) l.a.blocks.size l.a.blocks.nodes l.v l.end l.stamps l.offsets l.names l.sums l.strengths

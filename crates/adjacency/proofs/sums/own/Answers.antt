@@ -14,8 +14,7 @@ node_of-requires c =
     let a = c.args in
     let o = c.loop-column in
     let t = zip_turn a.e.now.col_idx.now a.e.now.values.now o.yielded _ o.column-iterator c.next.new.self c.next.result (search rules) (search rules) o.yielded_by (c.in-Some.column, c.in-Some.x) c.in-Some.is c.next.ensures.steps in
-    let f = a.e.now.fit in
-    (f.some, rw (t.2 0) (f.low (length o.yielded) t.0), c.reciprocal_of-reciprocal.ensures)
+    rw (t.2 0) (a.e.now.fit.low (length o.yielded) t.0)
 
 pub loop-column-preserved-then-node_of-v : goal.loop-column-preserved-then-node_of-v
 loop-column-preserved-then-node_of-v c =

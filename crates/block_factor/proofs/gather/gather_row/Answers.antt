@@ -1,39 +1,46 @@
 -- Each place of the row holds the sum of what the entries passed store at its column.
-use mathlib.Core.Path.{◌≡◌, refl}
-use native.Mathlib.Omega.{arith}
-use Prim.Native.Nat.{◌+◌, ◌-◌, ◌<◌}
-use lib.ListN.{length, get_or}
+use Rattle.std.proofs.Common.{refl, arith, ◌-◌, length, length-append}
+use Rattle.std.proofs.lemmas.Slice.Zip.{zip_turn, zip_end}
+use borrow.Author.Rules.{rules}
+use lib.Ieee.{nan}
 use Rattle.csr32.specs.Seen.{square}
-use Rattle.csr32.proofs.Stored.{row_fits}
-use Rattle.block_factor.proofs.Gathering.{gather_none, gather_miss, gather_hit, row_is}
+use Rattle.block_factor.proofs.Gathering.{gather_miss, gather_hit, row_is}
 use Rattle.block_factor.proofs.gather.gather_row.Goals as goal
-use Rattle.block_factor.proofs.gather.gather_row.Goals.{then-first-c+then-c-first, else-first-c, else-first-c-via-then-first-c+else-c-first, else-first-c-via-else-first-c}
+use Rattle.block_factor.proofs.gather.gather_row.Goals.{else-first-c-via-then-first-c+else-c-first, else-first-c-via-else-first-c}
 
-pub loop-k-init : goal.loop-k-init
-loop-k-init c = let x = c.args in gather_none x.a.now.col_idx.now x.a.now.values.now _ x.first x.row.now c.requires.row_value
-
-pub loop-k-preserved : goal.loop-k-preserved
-loop-k-preserved c =
+pub loop-column-preserved-then-c-first : goal.loop-column-preserved-then-c-first
+loop-column-preserved-then-c-first c =
     let x = c.args in
-    let l = c.loop-k in
-    let fits = row_fits (square x.a.now) x.a.now.fits (x.first + x.i) _ _ c.requires.in_rows refl refl in
-    let h : l.k < length x.a.now.col_idx.now = omega (arith, fits) in
-    let from = get_or x.a.now.row_ptr.now (x.first + x.i) 0 in
-    let column = get_or x.a.now.col_idx.now l.k 0 in
-    let n = length x.row.now in
-    elim c.if-first-c.branch [
-      | then-first-c+then-c-first w ↦ gather_hit x.a.now.col_idx.now x.a.now.values.now from x.first l.k l.auto.k h fits.2 n l.row c.if-first-c.row l.invariant (column - x.first) (omega (arith, w.if-c-first.true)) (omega (arith, w.if-first-c.true)) w.row-is
-      | else-first-c w ↦ gather_miss x.a.now.col_idx.now x.a.now.values.now from x.first l.k l.auto.k h fits.2 n l.row c.if-first-c.row l.invariant w.row-is
-          (λ j q e. elim w.else-first-c.branch [
-            | else-first-c-via-then-first-c+else-c-first t ↦ omega (arith, t.if-first-c.true, t.if-c-first.false)
-            | else-first-c-via-else-first-c t ↦ omega (arith, t.if-first-c.false)
-          ])
-    ]
+    let o = c.loop-column in
+    let r = c.row in
+    let e = r.ensures in
+    let t = zip_turn r.result.0.now r.result.1.now o.yielded _ o.column-iterator c.next.new.self c.next.result (search rules) (search rules) o.yielded_by (c.in-Some.column, c.in-Some.value) c.in-Some.is c.next.ensures.steps in
+    let column = c.in-Some.column.now in
+    rw (← e.columns, ← e.values)
+    (gather_hit r.result.0.now r.result.1.now x.first (length o.yielded) _ column c.in-Some.value.now (length-append o.yielded _) t.0 e.same (t.2 0) (t.3 nan) (length x.row.now) o.row _
+    (rw (← e.columns, ← e.values) at o.invariant) (column - x.first) (omega arith) (omega arith) refl)
+
+pub loop-column-preserved : goal.loop-column-preserved
+loop-column-preserved c =
+    let x = c.args in
+    let o = c.loop-column in
+    let r = c.row in
+    let e = r.ensures in
+    let t = zip_turn r.result.0.now r.result.1.now o.yielded _ o.column-iterator c.next.new.self c.next.result (search rules) (search rules) o.yielded_by (c.in-Some.column, c.in-Some.value) c.in-Some.is c.next.ensures.steps in
+    let column = c.in-Some.column.now in
+    rw (← e.columns, ← e.values)
+    (gather_miss r.result.0.now r.result.1.now x.first (length o.yielded) _ column c.in-Some.value.now (length-append o.yielded _) t.0 e.same (t.2 0) (t.3 nan) (length x.row.now) o.row _
+    (rw (← e.columns, ← e.values) at o.invariant) refl
+    (λ j q h. elim c.else-first-c.branch [
+      | else-first-c-via-then-first-c+else-c-first w ↦ omega (arith, w.if-first-c.true, w.if-c-first.false)
+      | else-first-c-via-else-first-c w ↦ omega (arith, w.if-first-c.false)
+    ]))
 
 pub returns : goal.returns
 returns c =
     let x = c.args in
-    let l = c.loop-k in
-    let fits = row_fits (square x.a.now) x.a.now.fits (x.first + x.i) _ _ c.requires.in_rows refl refl in
-    let e : l.k ≡ get_or x.a.now.row_ptr.now (x.first + x.i + 1) 0 = omega (arith, l.auto.k-end fits.0) in
-    row_is (square x.a.now) x.first x.i _ l.k _ _ refl e l.invariant
+    let o = c.loop-column in
+    let r = c.row in
+    let e = r.ensures in
+    let t = zip_end r.result.0.now r.result.1.now o.yielded _ o.column-iterator c.next.new.self c.next.result (search rules) (search rules) o.yielded_by c.in-None.is c.next.ensures.steps in
+    row_is (square x.a.now) x.first x.i r.result.0.now r.result.1.now (length o.yielded) _ o.row e.entries (omega (arith, t, e.same)) e.same (rw (← e.columns, ← e.values) at o.invariant)

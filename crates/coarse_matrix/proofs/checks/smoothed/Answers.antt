@@ -1,48 +1,41 @@
--- The matrix, then the checks over sizes and the transfer; they leave the facts that the coarse matrix is made with.
+-- A refusal of the matrix's structure, and what the checks leave.
 use Rattle.std.proofs.lemmas.Result.{err_from_is_err_and}
-use mathlib.Core.Path.{sym, ap}
+use mathlib.Core.Path.{refl, sym, ap, ◌∙◌}
+use native.Mathlib.Omega.{arith}
 use lib.ListN.{length}
 use Rattle.definitions.specs.Matrix.{csr}
-use Rattle.csr32.specs.Calls.{accepted_done, refused_is}
 use Rattle.csr32.specs.Seen.{lent}
+use Rattle.csr32.specs.Calls.{refused_is, stops}
 use Rattle.csr32.specs.Valid.{square_rows, structured_rows}
-use Rattle.coarse_matrix.proofs.Causes.{galerkin_facts, galerkin_first, galerkin_then}
+use Rattle.coarse_matrix.specs.Calls.{galerkin_checked}
+use Rattle.coarse_matrix.proofs.Causes.{galerkin_passed, fits_rows}
 use Rattle.coarse_matrix.proofs.checks.smoothed.Goals as goal
 
 pub returns-in_err-structure : goal.returns-in_err-structure
+unfolding galerkin_checked
 returns-in_err-structure c =
     let p = err_from_is_err_and c.from_residual.result c.from_residual.ensures.1 in
-    let a = c.args in
-    rw (p.1, p.2) (galerkin_first (lent a.a.now) a.c a.row_ptr.now a.col_idx.now (length a.weights.now) a.ints a.floats _ (refused_is _ _ (sym c.in_err-structure.ensures)))
+    rw (p.1, p.2) (stops _ _ _ (refused_is _ _ (sym c.in_err-structure.ensures)))
 
-pub galerkin_checks-requires : goal.galerkin_checks-requires
-galerkin_checks-requires c = (structured_rows (lent c.args.a.now) (sym c.in_ok-structure.ensures)).few_rows
-
-pub returns-in_err-transfer : goal.returns-in_err-transfer
-returns-in_err-transfer c =
-    let p = err_from_is_err_and c.from_residual-in_err-transfer.result c.from_residual-in_err-transfer.ensures.1 in
-    let a = c.args in
-    rw (p.1, p.2) (galerkin_then (lent a.a.now) a.c a.row_ptr.now a.col_idx.now (length a.weights.now) a.ints a.floats (accepted_done _ (sym c.in_ok-structure.ensures)) _ c.in_err-transfer.ensures)
+pub transfer_fits-requires : goal.transfer_fits-requires
+transfer_fits-requires c = (structured_rows (lent c.args.a.now) (sym c.in_ok-structure.ensures)).few_rows
 
 pub invariant_of-a : goal.invariant_of-a
 invariant_of-a c =
-    let a = c.args in
-    let m = a.a.now in
-    let f = galerkin_facts m.rows m.cols a.c a.row_ptr.now a.col_idx.now (length a.weights.now) a.ints a.floats c.in_ok-transfer.ensures.0 in
-    record { fits = square_rows m.rows m.cols m.row_ptr.now m.col_idx.now m.values.now (sym f.0) (structured_rows (lent m) (sym c.in_ok-structure.ensures)) }
+    let m = c.args.a.now in
+    record { fits = square_rows m.rows m.cols m.row_ptr.now m.col_idx.now m.values.now (sym c.if-rows-cols.false) (structured_rows (lent m) (sym c.in_ok-structure.ensures)) }
 
-pub invariant_of-result : goal.invariant_of-result
-invariant_of-result c =
+pub invariant_of-transfer : goal.invariant_of-transfer
+invariant_of-transfer c =
     let a = c.args in
-    let m = a.a.now in
-    let t = c.in_ok-transfer.ensures.1 in
-    let f = galerkin_facts m.rows m.cols a.c a.row_ptr.now a.col_idx.now (length a.weights.now) a.ints a.floats c.in_ok-transfer.ensures.0 in
-    record { same_rows = t.rows_are; small = rw t.coarse_is f.1 }
+    record { fits = fits_rows a.a.now.rows a.c a.transfer_ptr.now a.transfer_idx.now (length a.weights.now) (sym c.transfer_fits.ensures ∙ c.if-not-transfer_fits.false) }
 
 pub returns : goal.returns
 returns c =
     let a = c.args in
-    let m = a.a.now in
-    let t = c.in_ok-transfer.ensures in
-    let f = galerkin_facts m.rows m.cols a.c a.row_ptr.now a.col_idx.now (length a.weights.now) a.ints a.floats t.0 in
-    (galerkin_then (lent a.a.now) a.c a.row_ptr.now a.col_idx.now (length a.weights.now) a.ints a.floats (accepted_done _ (sym c.in_ok-structure.ensures)) _ t.0, f.2, f.3, record { matrix = ap (λ n. csr m.rows n m.row_ptr.now m.col_idx.now m.values.now) f.0; transfer = t.1 })
+    let m = a.a.now in (
+      galerkin_passed (lent m) a.c a.transfer_ptr.now a.transfer_idx.now (length a.weights.now) a.ints a.floats c.in_ok-structure.ensures c.if-rows-cols.false (omega arith) (omega arith) (omega arith) (sym c.transfer_fits.ensures ∙ c.if-not-transfer_fits.false),
+      omega arith,
+      omega arith,
+      record { matrix = ap (λ n. csr m.rows n m.row_ptr.now m.col_idx.now m.values.now) c.if-rows-cols.false; cols = refl; weights = refl },
+    )

@@ -1,32 +1,26 @@
--- What the entries that are left put stays what the whole row puts.
-use Prim.Native.Nat.{◌+◌, ◌≤◌}
-use mathlib.Core.Path.{◌≡◌, refl, sym, ap, ◌∙◌}
-use native.Mathlib.Omega.{arith}
-use lib.ListN.{get_or}
+-- The pair that the loop is at is one entry more.
+use Prim.Native.Nat.{◌+◌}
+use mathlib.Core.Path.{refl, ap, ◌∙◌}
+use borrow.Author.Rules.{rules}
 use Rattle.definitions.specs.Transfer.{coarse_column}
-use Rattle.coarse_matrix.proofs.Causes.{walk_of}
-use Rattle.coarse_matrix.proofs.Squares.{entry_step, span_done, row_stored}
+use Rattle.laws.specs.Scatter.{scatter}
+use Rattle.coarse_matrix.specs.Scatter.{moved}
+use Rattle.coarse_matrix.proofs.Passing.{at_below, passed_all, moved_more}
 use Rattle.coarse_matrix.proofs.constant.add_entries.Goals as goal
 
-pub loop-k-preserved : goal.loop-k-preserved
-loop-k-preserved c =
+pub loop-column-init : goal.loop-column-init
+unfolding scatter
+loop-column-init c = refl
+
+pub loop-column-preserved : goal.loop-column-preserved
+loop-column-preserved c =
     let m = c.args.m.now in
-    let a = m.a in
-    let l = c.loop-k in
-    let from = get_or a.row_ptr.now c.args.r 0 in
-    let to = get_or a.row_ptr.now (c.args.r + 1) 0 in
-    let p = row_stored c.args.r from to (walk_of a.rows a.rows a.row_ptr.now a.col_idx.now a.values.now refl a.fits) c.requires.0 refl refl in
-    entry_step a.col_idx.now a.values.now (λ w. c.args.base + coarse_column m.groups.size m.groups.ids.now w) to from l.k (c.args.base + c.column_of.result) (get_or a.col_idx.now l.k 0) c.args.coarse.now l.coarse _
-    (omega arith) (omega (arith, p.1, a.fits.same)) p.1 l.invariant refl (ap (λ n. c.args.base + n) c.column_of.ensures.value) refl
+    let o = c.loop-column in
+    moved_more (λ k. c.args.base + coarse_column m.groups.size m.groups.ids.now k) o.yielded (c.in-Some.column, c.in-Some.value) (c.args.base + c.column_of.result) c.args.coarse.now o.coarse (ap (λ k. c.args.base + k) c.column_of.ensures.value) o.invariant
 
 pub returns : goal.returns
 returns c =
     let m = c.args.m.now in
-    let a = m.a in
-    let l = c.loop-k in
-    let from = get_or a.row_ptr.now c.args.r 0 in
-    let to = get_or a.row_ptr.now (c.args.r + 1) 0 in
-    let p = row_stored c.args.r from to (walk_of a.rows a.rows a.row_ptr.now a.col_idx.now a.values.now refl a.fits) c.requires.0 refl refl in
-    let up : l.k ≤ to = l.auto.k-end p.0 in
-    let e : l.k ≡ to = omega (arith, up) in
-    sym (span_done a.col_idx.now a.values.now (λ w. c.args.base + coarse_column m.groups.size m.groups.ids.now w) to l.coarse) ∙ (rw e at l.invariant)
+    let o = c.loop-column in
+    let e = passed_all c.row.result.0.now c.row.result.1.now o.yielded _ o.column-iterator c.next.new.self c.next.result (search rules) (search rules) o.yielded_by c.in-None.is c.next.ensures.steps in
+    o.invariant ∙ ap (λ es. scatter (moved (λ k. c.args.base + coarse_column m.groups.size m.groups.ids.now k) es) c.args.coarse.now) (e ∙ c.row.ensures.entries)

@@ -6,8 +6,8 @@ use native.Mathlib.Omega.{arith}
 use lib.ListN.{length, take, drop, replicate, length-append, length-drop}
 use lib.Seq.{length-take-le}
 use Rattle.definitions.specs.Numbers.{zeroᶠ}
-use Rattle.definitions.specs.Matrix.{row_of}
 use Rattle.csr32.specs.Seen.{square}
+use Rattle.coarse_matrix.specs.Galerkin.{weights_of}
 use Rattle.laws.proofs.Squares.{take_zeros}
 use Rattle.coarse_matrix.proofs.Product.{galerkin_law}
 use Rattle.coarse_matrix.proofs.galerkin.galerkin_into.Goals as goal
@@ -15,7 +15,7 @@ use Rattle.coarse_matrix.proofs.galerkin.galerkin_into.Goals as goal
 pub add_all-requires-clause-cleared : goal.add_all-requires-clause-cleared
 add_all-requires-clause-cleared c =
     let a = c.args in
-    let n = a.m.now.transfer.coarse in
+    let n = a.m.now.transfer.cols in
     let i = c.split_at_mut-stamps.ensures in
     let f = c.split_at_mut-coarse.ensures in
     let zi : c.fill.new.self ≡ replicate (length a.ints.now) 0 = c.fill.ensures.after (λ y e. e) in
@@ -27,7 +27,7 @@ returns c =
     let a = c.args in
     let m = a.m.now in
     let t = m.transfer in
-    let n = t.coarse in
+    let n = t.cols in
     let i = c.split_at_mut-stamps.ensures in
     let f = c.split_at_mut-coarse.ensures in
     let d = c.add_all in
@@ -37,5 +37,5 @@ returns c =
     let lf : length (d.new.coarse ++ rest) ≡ length a.floats.now =
     omega (arith, length-append d.new.coarse rest, length-append d.new.sums (drop n c.split_at_mut-coarse.result.1.now), length-drop n c.split_at_mut-coarse.result.1.now, d.auto.sums, d.auto.coarse, length-take-le n c.split_at_mut-coarse.result.1.now, f.front_len, f.back_len) in (
       c.fill-3.ensures.after (λ y e. e) ∙ ap (λ k. replicate k 0) li,
-      galerkin_law (square m.a) (row_of t.row_ptr.now t.col_idx.now t.weights.now) n (length a.floats.now) d.new.stamps d.new.coarse rest c.average.new.m m.small (omega (arith, d.auto.coarse, f.front_len)) lf d.ensures c.average.ensures.1,
+      galerkin_law (square m.a) (weights_of t) n (length a.floats.now) d.new.stamps d.new.coarse rest c.average.new.m m.small (omega (arith, d.auto.coarse, f.front_len)) lf d.ensures c.average.ensures.1,
     )

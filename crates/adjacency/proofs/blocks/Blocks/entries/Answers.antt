@@ -1,5 +1,6 @@
 -- The entries of a node stand together.
-use Rattle.adjacency.proofs.Rows.{span_rises, take_drop}
+use Rattle.laws.proofs.Lists.{take_drop}
+use Rattle.adjacency.proofs.Rows.{span_rises}
 use Rattle.adjacency.proofs.blocks.Blocks.entries.Goals as goal
 
 pub slice_bounds-result-count : goal.slice_bounds-result-count
