@@ -1,4 +1,4 @@
--- The answer of a grouping call, and what it leaves, from the answer of its checks.
+-- The answer of a grouping call, and what it leaves.
 use Rattle.std.specs.Prelude.{Err, Ok}
 use mathlib.Core.Path.{◌≡◌}
 use mathlib.Core.List.{List}
@@ -7,25 +7,21 @@ use lib.ListN.{length, replicate}
 use Rattle.definitions.specs.Lists.{padded}
 use Rattle.definitions.specs.Refusal.{Outcome, refused, done, result_left, work_left}
 use Rattle.definitions.specs.Groups.{Grouping, grouping_left, grouping_work_left}
-use Rattle.definitions.specs.Answers.{answer_of, grouping_answer}
+use Rattle.definitions.specs.Answers.{grouping_answer}
 use Rattle.definitions.specs.declared.Refusal.{Refusal}
-use Rattle.aggregates.proofs.checks.Order.{refused_is}
 
-module _ (call : Outcome Grouping) (r : Refusal) (e : Err r ≡ answer_of call) where
-  is_refused : call ≡ refused r
-  is_refused = refused_is call r e
-
+module _ (call : Outcome Grouping) (r : Refusal) (e : call ≡ refused r) where
   pub refused_answer : Err r ≡ grouping_answer call
   unfolding grouping_answer
-  refused_answer = rw is_refused
+  refused_answer = rw e
 
   pub refused_left : (lent : List ℕ) → lent ≡ grouping_left call lent
   unfolding grouping_left
-  refused_left lent = rw is_refused
+  refused_left lent = rw e
 
   pub refused_work : (lent : List ℕ) → lent ≡ grouping_work_left call lent
   unfolding grouping_work_left
-  refused_work lent = rw is_refused
+  refused_work lent = rw e
 
 module _ (call : Outcome Grouping) (g : Grouping) (e : call ≡ done g) where
   pub accepted_answer : (n : ℕ) → n ≡ g.count → Ok n ≡ grouping_answer call

@@ -10,10 +10,7 @@ use lib.ListN.{length, get_or, length-append}
 use Rattle.definitions.specs.Lists.{any, tab, up_to}
 use Rattle.definitions.specs.Groups.{place, firsts, renumbered}
 use Rattle.laws.proofs.Growing.{up_to_snoc}
-
-pub split {ℓ} : {X : Type ℓ} (b : Bool) → (b ≡ true → X) → (b ≡ false → X) → X
-split true t f = t refl
-split false t f = f refl
+use Rattle.aggregates.proofs.Stops.{by_test}
 
 abbrev pub has : ℕ → List ℕ → Bool
 has x seen = any (λ y. eqb x y) seen
@@ -21,27 +18,27 @@ has x seen = any (λ y. eqb x y) seen
 has_append : (x : ℕ) (s t : List ℕ) → has x s ≡ true → has x (s ++ t) ≡ true
 unfolding any
 has_append x [] t h = absurd (true≢false (sym h))
-has_append x (y ∷ s) t h = split (eqb x y) (λ e. rw (any, e)) (λ e. rw (any, e) (has_append x s t (rw (any, e) at h)))
+has_append x (y ∷ s) t h = by_test (eqb x y) (λ e. rw (any, e)) (λ e. rw (any, e) (has_append x s t (rw (any, e) at h)))
 
 has_last : (x : ℕ) (s : List ℕ) → has x (s ++ (x ∷ [])) ≡ true
 unfolding any
 has_last x [] = rw (any, eq-eqb x x refl)
-has_last x (y ∷ s) = split (eqb x y) (λ e. rw (any, e)) (λ e. rw (any, e) (has_last x s))
+has_last x (y ∷ s) = by_test (eqb x y) (λ e. rw (any, e)) (λ e. rw (any, e) (has_last x s))
 
 has_other : (x y : ℕ) (s : List ℕ) → (x ≡ y → ⊥) → has x (s ++ (y ∷ [])) ≡ has x s
 unfolding any
 has_other x y [] d = rw (any, ne_eqb x y d)
-has_other x y (z ∷ s) d = split (eqb x z) (λ e. rw (any, e)) (λ e. rw (any, e) (has_other x y s d))
+has_other x y (z ∷ s) d = by_test (eqb x z) (λ e. rw (any, e)) (λ e. rw (any, e) (has_other x y s d))
 
 place_append : (x : ℕ) (s t : List ℕ) → has x s ≡ true → place x (s ++ t) ≡ place x s
 unfolding any place
 place_append x [] t h = absurd (true≢false (sym h))
-place_append x (y ∷ s) t h = split (eqb x y) (λ e. rw (place, e)) (λ e. rw (place, e) (ap suc (place_append x s t (rw (any, e) at h))))
+place_append x (y ∷ s) t h = by_test (eqb x y) (λ e. rw (place, e)) (λ e. rw (place, e) (ap suc (place_append x s t (rw (any, e) at h))))
 
 place_new : (x : ℕ) (s : List ℕ) → has x s ≡ false → place x (s ++ (x ∷ [])) ≡ length s
 unfolding any place
 place_new x [] h = rw (place, eq-eqb x x refl)
-place_new x (y ∷ s) h = split (eqb x y)
+place_new x (y ∷ s) h = by_test (eqb x y)
     (λ e. absurd (true≢false (rw (any, e) at h)))
     (λ e. rw (place, e) (ap suc (place_new x s (rw (any, e) at h))))
 
@@ -57,7 +54,7 @@ module _ (seen : List ℕ) (x : ℕ) (xs : List ℕ) where
 place_kept : (x : ℕ) (seen xs : List ℕ) → has x seen ≡ true → place x (firsts seen xs) ≡ place x seen
 unfolding firsts
 place_kept x seen [] h = refl
-place_kept x seen (y ∷ xs) h = split (has y seen)
+place_kept x seen (y ∷ xs) h = by_test (has y seen)
     (λ e. rw (firsts_old seen y xs e) (place_kept x seen xs h))
     (λ e. rw (firsts_new seen y xs e) (place_kept x (seen ++ (y ∷ [])) xs (has_append x seen (y ∷ []) h) ∙ place_append x seen (y ∷ []) h))
 
@@ -78,7 +75,7 @@ module _ (seen : List ℕ) (x : ℕ) (xs : List ℕ) where
 numbers_are : (seen xs : List ℕ) → map (λ x. place x (firsts seen xs)) xs ≡ numbers_from seen xs
 unfolding numbers_from
 numbers_are seen [] = refl
-numbers_are seen (x ∷ xs) = split (has x seen)
+numbers_are seen (x ∷ xs) = by_test (has x seen)
     (λ e. subst (λ z. map (λ y. place y z) (x ∷ xs) ≡ numbers_from seen (x ∷ xs)) (sym (firsts_old seen x xs e)) (rw (numbers_old seen x xs e, place_kept x seen xs e) (ap (λ l. place x seen ∷ l) (numbers_are seen xs))))
     (λ e. subst (λ z. map (λ y. place y z) (x ∷ xs) ≡ numbers_from seen (x ∷ xs)) (sym (firsts_new seen x xs e)) (rw (numbers_new seen x xs e, place_kept x (seen ++ (x ∷ [])) xs (has_last x seen), place_new x seen e) (ap (λ l. length seen ∷ l) (numbers_are (seen ++ (x ∷ [])) xs))))
 
@@ -107,16 +104,16 @@ unfolding mark any
 mark_empty x = refl
 
 pub unmarked : (x : ℕ) (seen : List ℕ) → mark x seen ≡ 0 → has x seen ≡ false
-unmarked x seen z = split (has x seen) (λ e. absurd (omega (arith, mark_is x seen e))) (λ e. e)
+unmarked x seen z = by_test (has x seen) (λ e. absurd (omega (arith, mark_is x seen e))) (λ e. e)
 
 pub marked : (x : ℕ) (seen : List ℕ) → (mark x seen ≡ 0 → ⊥) → (has x seen ≡ true) × (mark x seen - 1 ≡ place x seen)
-marked x seen z = split (has x seen) (λ e. (e, omega (arith, mark_is x seen e))) (λ e. absurd (z (mark_none x seen e)))
+marked x seen z = by_test (has x seen) (λ e. (e, omega (arith, mark_is x seen e))) (λ e. absurd (z (mark_none x seen e)))
 
 pub mark_new : (x : ℕ) (seen : List ℕ) → has x seen ≡ false → mark x (seen ++ (x ∷ [])) ≡ suc (length seen)
 mark_new x seen h = mark_is x (seen ++ (x ∷ [])) (has_last x seen) ∙ ap suc (place_new x seen h)
 
 pub mark_other : (x y : ℕ) (seen : List ℕ) → (x ≡ y → ⊥) → mark x (seen ++ (y ∷ [])) ≡ mark x seen
-mark_other x y seen d = split (has x seen)
+mark_other x y seen d = by_test (has x seen)
     (λ e. mark_is x (seen ++ (y ∷ [])) (has_other x y seen d ∙ e) ∙ ap suc (place_append x seen (y ∷ []) e) ∙ sym (mark_is x seen e))
     (λ e. mark_none x (seen ++ (y ∷ [])) (has_other x y seen d ∙ e) ∙ sym (mark_none x seen e))
 
@@ -126,21 +123,21 @@ mark_other x y seen d = split (has x seen)
 place_below : (x : ℕ) (s : List ℕ) → has x s ≡ true → place x s < length s
 unfolding any place
 place_below x [] h = absurd (true≢false (sym h))
-place_below x (y ∷ s) h = split (eqb x y) (λ e. rw (place, e) (omega arith)) (λ e. rw (place, e) (omega (arith, place_below x s (rw (any, e) at h))))
+place_below x (y ∷ s) h = by_test (eqb x y) (λ e. rw (place, e) (omega arith)) (λ e. rw (place, e) (omega (arith, place_below x s (rw (any, e) at h))))
 
 has_kept : (x : ℕ) (seen xs : List ℕ) → has x seen ≡ true → has x (firsts seen xs) ≡ true
 unfolding firsts
 has_kept x seen [] h = h
-has_kept x seen (y ∷ xs) h = split (has y seen)
+has_kept x seen (y ∷ xs) h = by_test (has y seen)
     (λ e. rw (firsts_old seen y xs e) (has_kept x seen xs h))
     (λ e. rw (firsts_new seen y xs e) (has_kept x (seen ++ (y ∷ [])) xs (has_append x seen (y ∷ []) h)))
 
 has_each : (seen xs : List ℕ) (v : ℕ) → v < length xs → has (get_or xs v 0) (firsts seen xs) ≡ true
 has_each seen [] v h = absurd (omega arith)
-has_each seen (x ∷ xs) zero h = split (has x seen)
+has_each seen (x ∷ xs) zero h = by_test (has x seen)
     (λ e. rw (firsts_old seen x xs e) (has_kept x seen xs e))
     (λ e. rw (firsts_new seen x xs e) (has_kept x (seen ++ (x ∷ [])) xs (has_last x seen)))
-has_each seen (x ∷ xs) (suc v) h = split (has x seen)
+has_each seen (x ∷ xs) (suc v) h = by_test (has x seen)
     (λ e. rw (firsts_old seen x xs e) (has_each seen xs v (omega arith)))
     (λ e. rw (firsts_new seen x xs e) (has_each (seen ++ (x ∷ [])) xs v (omega arith)))
 
@@ -156,7 +153,7 @@ renumbered_below ids v h = rw (get_d_mapped (λ x. place x (firsts [] ids)) ids 
 
 has_up : (k n : ℕ) → k < n → has k (up_to n) ≡ true
 has_up k zero h = absurd (omega arith)
-has_up k (suc n) h = rw (up_to_snoc n) (split (eqb k n)
+has_up k (suc n) h = rw (up_to_snoc n) (by_test (eqb k n)
     (λ e. rw (eqb-true k n e) (has_last n (up_to n)))
     (λ e. has_append k (up_to n) (n ∷ []) (has_up k n (omega (arith, eqb-false k n e)))))
 
@@ -175,7 +172,7 @@ has_not k (suc n) h = rw (up_to_snoc n) (has_other k n (up_to n) (λ e. omega ar
 order_from : (seen xs : List ℕ) → firsts (up_to (length seen)) (numbers_from seen xs) ≡ up_to (length (firsts seen xs))
 unfolding firsts numbers_from
 order_from seen [] = refl
-order_from seen (x ∷ xs) = split (has x seen)
+order_from seen (x ∷ xs) = by_test (has x seen)
     (λ e. rw (numbers_old seen x xs e, firsts_old seen x xs e, firsts_old (up_to (length seen)) (place x seen) (numbers_from seen xs) (has_up (place x seen) (length seen) (place_below x seen e))) (order_from seen xs))
     (λ e. rw (numbers_new seen x xs e, firsts_new seen x xs e, firsts_new (up_to (length seen)) (length seen) (numbers_from (seen ++ (x ∷ [])) xs) (has_not (length seen) (length seen) (omega arith)), ← up_to_snoc (length seen))
     (ap (λ n. firsts (up_to n) (numbers_from (seen ++ (x ∷ [])) xs)) (long e) ∙ order_from (seen ++ (x ∷ [])) xs))
@@ -191,9 +188,9 @@ renumbered_order ids = rw (renumbered_ids ids, renumbered_count ids) (order_from
 has_source : (x : ℕ) (seen xs : List ℕ) → has x (firsts seen xs) ≡ true → has x seen ≡ false → has x xs ≡ true
 unfolding any firsts
 has_source x seen [] h n = absurd (true≢false (sym h ∙ n))
-has_source x seen (y ∷ xs) h n = split (eqb x y)
+has_source x seen (y ∷ xs) h n = by_test (eqb x y)
     (λ e. rw (any, e))
-    (λ e. rw (any, e) (split (has y seen)
+    (λ e. rw (any, e) (by_test (has y seen)
     (λ f. has_source x seen xs (rw (firsts_old seen y xs f) at h) n)
     (λ f. has_source x (seen ++ (y ∷ [])) xs (rw (firsts_new seen y xs f) at h) (has_other x y seen (eqb-false x y e) ∙ n))))
 

@@ -1,4 +1,4 @@
--- The answer of a grouping call with a log, and what it leaves, from the answer of its checks.
+-- The answer of a grouping call with a log, and what it leaves.
 use Rattle.std.specs.Prelude.{Err, Ok, Result}
 use mathlib.Core.Path.{◌≡◌, refl, ap, ◌∙◌}
 use mathlib.Core.List.{List}
@@ -8,13 +8,12 @@ use lib.ListN.{length, replicate}
 use Rattle.definitions.specs.Refusal.{Outcome, refused, done, require, ◌>>=◌, result_left, work_left}
 use Rattle.definitions.specs.Groups.{Grouping, grouping_call, grouping_left, grouping_work_left, listed, no_anchor}
 use Rattle.definitions.specs.JoiningLog.{Logged, with_log, grouping_log_call, grouping_in, log_left}
-use Rattle.definitions.specs.Answers.{answer_of, grouping_log_answer}
+use Rattle.definitions.specs.Answers.{grouping_log_answer}
 use Rattle.definitions.specs.declared.Refusal.{Refusal}
 use Rattle.definitions.specs.declared.Refusal.TheVariants.{LogTooShort}
 use Rattle.aggregates.specs.Log.{noted}
 use Rattle.aggregates.specs.Settled.{LoggedInto}
 use Rattle.aggregates.proofs.joining.Noted.{noted_zeros}
-use Rattle.aggregates.proofs.checks.Order.{refused_is}
 use Rattle.definitions.specs.declared.GroupCounts.{GroupCounts}
 
 -- the answer r and the lists after a call
@@ -34,9 +33,9 @@ module _ (nodes size : ℕ) (offsets neighbours ids log work : List ℕ) where
   plain = grouping_call nodes size offsets neighbours (length ids) (length work)
 
   -- a cause that grouping alone finds
-  pub log_refused : (r : Refusal) → Err r ≡ answer_of plain → Answered call (Err r) ids ids log log work work
+  pub log_refused : (r : Refusal) → plain ≡ refused r → Answered call (Err r) ids ids log log work work
   unfolding grouping_log_call ◌>>=◌
-  log_refused r e = let is : plain ≡ refused r = refused_is plain r e in all_left call r ids log work (rw is refl)
+  log_refused r e = all_left call r ids log work (rw e refl)
 
   module _ (g : Grouping) (accepted : plain ≡ done g) where
     -- cause 29

@@ -1,10 +1,11 @@
 -- Lists of nodes: what holds of every element, and the entries of the lists of different nodes, which together are at most all.
+use Rattle.std.proofs.lemmas.List.{drop-take}
 use mathlib.Core.Path.{◌≡◌, ap, sym, ◌∙◌}
 use mathlib.Core.List.{List, [], ◌∷◌, ◌++◌}
 use Prim.Native.Nat.{ℕ, zero, suc, ◌+◌, ◌-◌, ◌≤◌, ◌<◌}
 use native.Mathlib.Omega.{arith}
 use lib.ListN.{length, get_or, set, take, drop}
-use lib.Seq.{slice, length-slice, length-take-le, get_or-drop, get_or-take, take-add, drop_at}
+use lib.Seq.{slice, length-slice, get_or-drop, get_or-take}
 use Rattle.laws.proofs.Lists.{Each, each_head, each_right, each_by}
 use Rattle.aggregates.specs.Lists.{Lists}
 
@@ -64,7 +65,5 @@ each_part P f t nb h b = each_by (slice f t nb) 0 (λ k l.
     rw (get_or-drop f (take t nb) k 0, get_or-take t nb (f + k) 0 m) (b (f + k) (omega arith)))
 
 -- a part of a list, cut in either order
-pub part_is : (f t : ℕ) (l : List ℕ) → f ≤ t → t ≤ length l → take (t - f) (drop f l) ≡ slice f t l
-part_is f t l h k =
-    let e : f + (t - f) ≡ t = omega arith in
-    sym (ap (λ m. drop f (take m l)) (sym e) ∙ ap (drop f) (take-add f (t - f) l) ∙ drop_at (take f l) (take (t - f) (drop f l)) f (length-take-le f l (omega arith)))
+pub part_is : (f t : ℕ) (l : List ℕ) → f ≤ t → take (t - f) (drop f l) ≡ slice f t l
+part_is f t l h = let e : f + (t - f) ≡ t = omega arith in sym (drop-take f (t - f) l) ∙ ap (λ m. slice f m l) e

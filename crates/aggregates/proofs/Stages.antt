@@ -11,9 +11,10 @@ use Rattle.definitions.specs.Groups.{renumbered, grown, groups_of, joinings, gra
 use Rattle.definitions.specs.JoiningLog.{with_log}
 use Rattle.aggregates.specs.JoinChoice.{Zeros}
 use Rattle.aggregates.specs.JoinState.{Joins, joined_ids}
-use Rattle.aggregates.specs.Checked.{Accepts}
+use Rattle.definitions.specs.Matrix.{max_rows, max_entries}
+use Rattle.aggregates.specs.Lists.{Lists}
 use Rattle.aggregates.specs.Settled.{Built, Settled, logged_of}
-use Rattle.aggregates.proofs.Appearance.{split}
+use Rattle.aggregates.proofs.Stops.{by_test}
 use Rattle.aggregates.proofs.growth.Between.{grown_all}
 use Rattle.aggregates.proofs.joining.Fewer.{fewer_joinings}
 use Rattle.aggregates.proofs.joining.Noted.{length_log}
@@ -22,7 +23,7 @@ use Rattle.aggregates.proofs.Upto.{joined_ids_upto}
 
 -- a cleared list is zero everywhere
 pub zeros_of : (n : ℕ) (l : List ℕ) → l ≡ replicate n 0 → Zeros l
-zeros_of n l e k = rw e (split (ltb k n)
+zeros_of n l e k = rw e (by_test (ltb k n)
     (λ t. get_or-replicate {A = ℕ} n k 0 0 (ltb-true k n t))
     (λ t. get_or-eq_default {A = ℕ} (replicate n 0) 0 {n = k} (rw (length-replicate {A = ℕ} n 0) (ltb-false k n t))))
 
@@ -31,27 +32,27 @@ pub joined_upto : (n groups floor : ℕ) (offsets nb ids ids₁ : List ℕ) → 
 joined_upto n groups floor offsets nb ids ids₁ o e v = rw e (joined_ids_upto (listed offsets nb) no_anchor floor groups ids within v)
   where
     within : (u : ℕ) → get_or ids u 0 ≤ groups
-    within u = split (ltb u n)
+    within u = by_test (ltb u n)
         (λ t. o.grouped u (ltb-true u n t))
         (λ t. let z : get_or ids u 0 ≡ 0 = get_or-eq_default {A = ℕ} ids 0 {n = u} (omega (arith, o.nodes, ltb-false u n t)) in omega arith)
 
-module _ (n size base : ℕ) (offsets nb : List ℕ) (ok : Accepts n size base offsets nb) (groups : ℕ) (ids : List ℕ) (e : (ids, groups) ≡ grown (listed offsets nb) no_anchor n size) where
+module _ (n size : ℕ) (offsets nb : List ℕ) (pos : 0 < size) (groups : ℕ) (ids : List ℕ) (e : (ids, groups) ≡ grown (listed offsets nb) no_anchor n size) where
   ids_are : ids ≡ (grown (listed offsets nb) no_anchor n size).0
   ids_are = ap (λ p. p.0) e
 
   count_is : groups ≡ (grown (listed offsets nb) no_anchor n size).1
   count_is = ap (λ p. p.1) e
 
-  pub grown_joins : groups ≤ n → Joins n groups offsets nb ids
-  grown_joins f =
-      let all = grown_all (listed offsets nb) n size ok.least in
+  pub grown_joins : Lists n offsets nb → (n ≤ max_rows) × (length nb ≤ max_entries) → groups ≤ n → Joins n groups offsets nb ids
+  grown_joins lists few f =
+      let all = grown_all (listed offsets nb) n size pos in
       record {
         nodes = rw ids_are all.long;
-        lists = ok.lists;
+        lists = lists;
         few = f;
-        small = (omega (arith, ok.few), omega (arith, ok.entries));
+        small = (omega (arith, few), omega (arith, few));
         grouped = λ v h. rw (ids_are, count_is) (all.upto v);
-        none = rw (ids_are, count_is) (none_grown (listed offsets nb) n size ok.least);
+        none = rw (ids_are, count_is) (none_grown (listed offsets nb) n size pos);
       }
 
   pub built_after : (floor count made : ℕ) (ids' log₀ log : List ℕ) → floor ≡ floor_of size → Settled offsets nb groups floor ids ids' log₀ log count made → Built (listed offsets nb) n size ids' log₀ log count made

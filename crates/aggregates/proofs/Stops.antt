@@ -1,5 +1,7 @@
 -- JOINING STOPS. Each joining lowers the number of groups that have members by exactly one; so there are fewer joinings than grown groups,
 -- and after the rounds of `joinings_from` one round more joins nothing. For any lists and any anchors.
+use Rattle.std.specs.List.{sum_by}
+use Rattle.std.proofs.lemmas.List.Sums.{sum_by-cons, sum_by-set, get_or-le-sum_by}
 use mathlib.Core.Path.{◌≡◌, refl, sym, ◌∙◌}
 use mathlib.Core.Bool.{Bool, true, false, ◌||◌}
 use mathlib.Core.List.{List, [], ◌∷◌, ◌++◌}
@@ -21,32 +23,27 @@ ne (v ∷ vs) = 1
 
 -- how many groups have members
 unfoldable pub alive : List (List ℕ) → ℕ
-alive [] = 0
-alive (m ∷ ms) = ne m + alive ms
+alive ms = sum_by ne ms
 
 -- ---- ONE JOINING
 
 alive_set : (ms : List (List ℕ)) (i : ℕ) (x : List ℕ) → i < length ms → alive (set ms i x) + ne (get_or ms i []) ≡ alive ms + ne x
 unfolding alive
-alive_set [] i x h = omega arith
-alive_set (m ∷ ms) zero x h = omega arith
-alive_set (m ∷ ms) (suc i) x h = omega (arith, alive_set ms i x (omega arith))
+alive_set ms i x h = sum_by-set ne ms i x [] h
 
 ne_long : (m : List ℕ) → 0 < length m → ne m ≡ 1
 ne_long [] h = omega arith
 ne_long (v ∷ m) h = refl
 
 -- an index at which a list has something other than the default is within the list
-within : (ms : List (List ℕ)) (i : ℕ) → 0 < length (get_or ms i []) → i < length ms
+pub within : (ms : List (List ℕ)) (i : ℕ) → 0 < length (get_or ms i []) → i < length ms
 within [] i h = omega arith
 within (m ∷ ms) zero h = omega arith
 within (m ∷ ms) (suc i) h = omega (arith, within ms i h)
 
 alive_has : (ms : List (List ℕ)) (i : ℕ) → 0 < length (get_or ms i []) → 0 < alive ms
 unfolding alive
-alive_has [] i h = omega arith
-alive_has (m ∷ ms) zero h = omega (arith, ne_long m h)
-alive_has (m ∷ ms) (suc i) h = omega (arith, alive_has ms i h)
+alive_has ms i h = omega (arith, ne_long (get_or ms i []) h, get_or-le-sum_by ne ms i [] (within ms i h))
 
 -- a group that g may join: it has members, and is not g
 abbrev pub Other : ℕ → (ℕ → ℕ) → ℕ → Type 0
@@ -220,8 +217,8 @@ module _ (lists : ℕ → List ℕ) (anchor : ℕ → Bool) (floor : ℕ) where
 pub alive_most : (ms : List (List ℕ)) → alive ms ≤ length ms
 unfolding alive
 alive_most [] = omega arith
-alive_most ([] ∷ ms) = omega (arith, alive_most ms)
-alive_most ((v ∷ m) ∷ ms) = omega (arith, alive_most ms)
+alive_most ([] ∷ ms) = omega (arith, sum_by-cons ne [] ms, alive_most ms)
+alive_most ((v ∷ m) ∷ ms) = omega (arith, sum_by-cons ne (v ∷ m) ms, alive_most ms)
 
 no_zero : (v : ℕ) (ids : List ℕ) → ((k : ℕ) → k < length ids → 0 < get_or ids k 0) → nodes_of 0 v ids ≡ []
 unfolding nodes_of

@@ -8,19 +8,13 @@ use native.Mathlib.Omega.{arith}
 use lib.ListN.{length, get_or, set, length-set}
 use Rattle.definitions.specs.Groups.{Joining, Groups, nodes_in, size_in, relabelled, joined, replay, taker_of, round_from, joinings_from, groups_of, nodes_of}
 use Rattle.laws.proofs.Lists.{length_tab}
-use Rattle.aggregates.proofs.Stops.{taker_other, replay_append, round_stays, round_joins, rounds_end, rounds_go}
+use Rattle.aggregates.proofs.Stops.{within, taker_other, replay_append, round_stays, round_joins, rounds_end, rounds_go}
 use Rattle.aggregates.proofs.growth.Between.{set_cases}
 
 -- every group number is at most `top`, and there are `top` member lists besides the first
 pub record Upto (top : ℕ) (s : Groups) : Type 0 where
   pub ids : (u : ℕ) → get_or s.of u 0 ≤ top
   pub lists : length s.members ≡ suc top
-
--- an index at which a list has something is within the list
-within : (ms : List (List ℕ)) (i : ℕ) → 0 < length (get_or ms i []) → i < length ms
-within [] i h = omega arith
-within (m ∷ ms) zero h = omega arith
-within (m ∷ ms) (suc i) h = omega (arith, within ms i h)
 
 relabelled_upto : (top b : ℕ) (vs ids : List ℕ) → b ≤ top → ((u : ℕ) → get_or ids u 0 ≤ top) → (u : ℕ) → get_or (relabelled b vs ids) u 0 ≤ top
 unfolding relabelled

@@ -1,4 +1,3 @@
 -- The laws of the checks that several proofs cite.
-mod Fitting
 pub mod Order
 mod Cut

@@ -1,15 +1,14 @@
--- What an accepted grouping call has, with `base` numbers of room for it.
-use Rattle.std.specs.Prelude.{List, ℕ, ◌≤◌, ◌<◌, length}
-use Rattle.definitions.specs.Matrix.{max_rows, max_entries}
+-- What an accepted grouping call has.
+use Rattle.std.specs.Prelude.{◌≡◌, List, ℕ, ◌≤◌, ◌<◌}
 use Rattle.definitions.specs.Groups.{max_group}
-use Rattle.aggregates.specs.Lists.{Lists}
-use Rattle.aggregates.specs.Stored.{room_for}
+use Rattle.aggregates.specs.declared.lists.Lists.{Lists}
 
-pub record Accepts (nodes size base : ℕ) (offsets neighbours : List ℕ) : Type 0 where
-  pub lists : Lists nodes offsets neighbours
-  pub some : 0 < nodes
-  pub few : nodes ≤ max_rows
-  pub entries : length neighbours ≤ max_entries
-  pub least : 0 < size
-  pub most : size ≤ max_group
-  pub room : room_for nodes (length neighbours) ≤ base
+-- the call's lists
+pub record IsLent (nodes : ℕ) (offsets neighbours : List ℕ) (l : Lists) : Type 0 where
+  pub number : l.nodes ≡ nodes
+  pub offsets_are : l.offsets.now ≡ offsets
+  pub neighbours_are : l.neighbours.now ≡ neighbours
+
+-- a size that a group may have
+abbrev pub IsGroupSize : ℕ → Type 0
+IsGroupSize size = (0 < size) × (size ≤ max_group)

@@ -1,5 +1,6 @@
 -- How the groups are held while they join: the group of each node, and a chain of members for each group.
 use Rattle.std.specs.Prelude.{◌≡◌, List, [], ◌∷◌, ℕ, zero, suc, ◌+◌, ◌-◌, ◌^◌, ◌≤◌, ◌<◌, length, get_or, set}
+use Rattle.std.specs.List.{sum_by}
 use Rattle.definitions.specs.Lists.{tab}
 use Rattle.definitions.specs.Groups.{Groups, Joining, size_in, taker_of, joinings_from, replay, groups_of, listed, no_anchor}
 use Rattle.laws.specs.Every.{Each}
@@ -49,11 +50,6 @@ pub record Rep (n groups : ℕ) (offsets neighbours ids : List ℕ) (c : Chains)
   pub members : (g : ℕ) → g ≤ groups → Each (λ v. (v < n) × (get_or ids v 0 ≡ g)) (members_of c g)
   pub once : (g : ℕ) → g ≤ groups → Once (members_of c g)
 
--- what the nodes of a list take up
-unfoldable pub total : (ℕ → ℕ) → List ℕ → ℕ
-total d [] = 0
-total d (v ∷ vs) = d v + total d vs
-
 -- the groups that the lists of the group g name
 abbrev pub names_in : (ℕ → List ℕ) → List ℕ → Chains → ℕ → List ℕ
 names_in lists ids c g = named_by lists g ids (at c.counts) (members_of c g)
@@ -64,7 +60,7 @@ pub record Gathers (n : ℕ) (offsets ids : List ℕ) (c : Chains) (room g : ℕ
   pub nexts : length c.next ≡ n
   pub sizes : (v : ℕ) → v < n → get_or ids v 0 < length c.counts
   pub nodes : Each (λ v. v < n) (members_of c g)
-  pub space : total (λ v. get_or offsets (suc v) 0 - get_or offsets v 0) (members_of c g) ≤ room
+  pub space : sum_by (λ v. get_or offsets (suc v) 0 - get_or offsets v 0) (members_of c g) ≤ room
 
 -- the chains after all of the group g went to the group b: the chain of g is put before that of b
 unfoldable pub moved : ℕ → ℕ → Chains → Chains

@@ -6,12 +6,15 @@ use Rattle.laws.specs.Every.{Each}
 use Rattle.aggregates.specs.JoinChoice.{at, Zeros}
 use Rattle.aggregates.specs.JoinState.{joined_ids, joinings_of, turn_of}
 
--- by which test the group b stays and the group a does not: 1 none, it is b itself; 2 edges; 3 members; 4 the id
-unfoldable pub rule_against : (ℕ → ℕ) → (ℕ → ℕ) → ℕ → ℕ → ℕ
-rule_against edges sizes b a = elim (eqb a b) [
+-- by which test the group b stays and the group a does not: 1 none, it is b itself; 2 edges; 3 members; 4 the id. To a lead va edges, and it has ca members; to b vb, and it has cb
+abbrev pub rule_between : ℕ → ℕ → ℕ → ℕ → ℕ → ℕ → ℕ
+rule_between va vb ca cb a b = elim (eqb a b) [
   | true ↦ 1
-  | false ↦ elim (eqb (edges a) (edges b)) [ false ↦ 2 | true ↦ elim (eqb (sizes a) (sizes b)) [ false ↦ 3 | true ↦ 4 ] ]
+  | false ↦ elim (eqb va vb) [ false ↦ 2 | true ↦ elim (eqb ca cb) [ false ↦ 3 | true ↦ 4 ] ]
 ]
+
+unfoldable pub rule_against : (ℕ → ℕ) → (ℕ → ℕ) → ℕ → ℕ → ℕ
+rule_against edges sizes b a = rule_between (edges a) (edges b) (sizes a) (sizes b) a b
 
 -- the last of these tests over a list of groups, at least r
 unfoldable pub rule_by : (ℕ → ℕ) → (ℕ → ℕ) → ℕ → ℕ → List ℕ → ℕ

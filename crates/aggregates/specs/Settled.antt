@@ -17,10 +17,6 @@ pub record Settled (offsets neighbours : List ℕ) (groups floor : ℕ) (ids₀ 
 abbrev pub logged_of : (ℕ → List ℕ) → ℕ → ℕ → Logged
 logged_of lists n size = with_log lists no_anchor n size (graph_grouping lists no_anchor n size)
 
--- by the neighbour lists
-abbrev pub with_log_of : ℕ → ℕ → List ℕ → List ℕ → Logged
-with_log_of n size offsets neighbours = logged_of (listed offsets neighbours) n size
-
 -- the whole grouping and its log
 pub record Built (lists : ℕ → List ℕ) (n size : ℕ) (ids log₀ log : List ℕ) (count joinings : ℕ) : Type 0 where
   pub number : count ≡ (graph_grouping lists no_anchor n size).count

@@ -1,33 +1,38 @@
-// The checks of a grouping call, in their order.
-ghost use Rattle.std.specs.Prelude.{◌≡◌, ◌&&◌, not, ◌+◌, ◌≤◌, eqb, length, get_or};
+// The checks of a grouping call, in their order. An accepted call has its neighbour lists handed out.
+ghost use Rattle.std.specs.Prelude.{◌≡◌, ◌&&◌, not, ◌+◌, ◌*◌, ◌≤◌, eqb, length, get_or, MatchResult};
 ghost use Rattle.definitions.specs.Lists.{falls};
-ghost use Rattle.definitions.specs.Groups.{grouping_call};
-ghost use Rattle.definitions.specs.Answers.{answer_of};
-ghost use Rattle.definitions.specs.Matrix.{max_rows, max_entries};
-ghost use Rattle.aggregates.specs.Stored.{room_for};
-ghost use Rattle.aggregates.specs.Within.{lists_call, within_call};
+ghost use Rattle.definitions.specs.Refusal.{refused, done};
+ghost use Rattle.definitions.specs.Groups.{grouping_call, graph_grouping, listed, no_anchor};
+ghost use Rattle.definitions.specs.Matrix.{max_rows};
+ghost use Rattle.aggregates.specs.Stored.{offsets_in, neighbours_in, room_for};
+ghost use Rattle.aggregates.specs.Within.{lists_call, stored_checks};
+ghost use Rattle.aggregates.specs.Checked.{IsLent, IsGroupSize};
 
+use super::lists::Lists;
 use definitions::{MAX_ENTRIES, MAX_GROUP, MAX_ROWS, Refusal};
 
 // Are there nodes + 1 offsets, from 0 up to the neighbour count, that do not fall?
 fn offsets_fit(nodes: usize, offsets: &[u32], count: usize) -> bool
+    requires { nodes ≤ max_rows }
     ensures { let o = offsets.now in result ≡ (eqb (length o) (nodes + 1) && eqb (get_or o 0 1) 0 && not (falls o) && eqb (get_or o nodes 0) count) }
 {
-    !offsets.is_empty()
-        && offsets.len() - 1 == nodes
+    offsets.len() == nodes + 1
         && offsets[0] == 0
         && !numbers::falls(offsets)
         && offsets[nodes] as usize == count
 }
 
 // The neighbour lists: causes 1, 11, 27, 16 and 28, in this order.
-fn check_lists(
+fn check_lists<'a>(
     nodes: usize,
     size: usize,
-    offsets: &[u32],
-    neighbours: &[u32],
-) -> Result<(), Refusal>
-    ensures { result ≡ answer_of (lists_call nodes size offsets.now neighbours.now) }
+    offsets: &'a [u32],
+    neighbours: &'a [u32],
+) -> Result<Lists<'a>, Refusal>
+    ensures { let checked = lists_call nodes size offsets.now neighbours.now in
+        MatchResult result
+        (λ l. (checked ≡ done tt) × IsLent nodes offsets.now neighbours.now l × IsGroupSize size)
+        (λ cause. checked ≡ refused cause) }
 {
     if MAX_ROWS < nodes || MAX_ENTRIES < neighbours.len() {
         return Err(Refusal::TooLarge);
@@ -44,49 +49,58 @@ fn check_lists(
     if numbers::reaches(neighbours, nodes) {
         return Err(Refusal::NeighbourOutside);
     }
-    Ok(())
+    Ok(Lists {
+        nodes,
+        offsets,
+        neighbours,
+    })
 }
 
 // Causes 1, 11, 27, 16, 28 and 13, in this order.
-pub(crate) fn check(
+pub(crate) fn check<'a>(
     nodes: usize,
     size: usize,
-    offsets: &[u32],
-    neighbours: &[u32],
+    offsets: &'a [u32],
+    neighbours: &'a [u32],
     room: usize,
     work: usize,
-) -> Result<(), Refusal>
-    ensures { result ≡ answer_of (grouping_call nodes size offsets.now neighbours.now room work) }
+) -> Result<Lists<'a>, Refusal>
+    ensures { let call = grouping_call nodes size offsets.now neighbours.now room work in
+        MatchResult result
+        (λ l. (call ≡ done (graph_grouping (listed offsets.now neighbours.now) no_anchor nodes size))
+        × IsLent nodes offsets.now neighbours.now l × IsGroupSize size
+        × (nodes ≤ room) × (8 * nodes + 4 * length neighbours.now + 16 ≤ work))
+        (λ cause. call ≡ refused cause) }
 {
-    check_lists(nodes, size, offsets, neighbours)?;
+    let lists = check_lists(nodes, size, offsets, neighbours)?;
     if room < nodes || work < 8 * nodes + 4 * neighbours.len() + 16 {
         return Err(Refusal::ListTooShort);
     }
-    Ok(())
+    Ok(lists)
 }
 
-// The room that grouping asks for below the neighbour lists.
-pub(crate) fn room_for(nodes: usize, neighbours: usize) -> usize
-    requires { (nodes ≤ max_rows) × (neighbours ≤ max_entries) }
-    ensures { result ≡ room_for nodes neighbours }
-{
-    6 * nodes + neighbours + 16
-}
-
-// The same for the neighbour lists that w has from w[base] on, with room below them. Where w ends first, they are cut off.
-pub(crate) fn check_within(nodes: usize, size: usize, base: usize, w: &[u32]) -> Result<(), Refusal>
-    ensures { result ≡ answer_of (within_call nodes size base w.now) }
+// The same for the neighbour lists at the front of `stored`, with `below` numbers of room. Where `stored` ends first, they are cut off.
+pub(crate) fn check_stored<'a>(
+    nodes: usize,
+    size: usize,
+    below: usize,
+    stored: &'a [u32],
+) -> Result<Lists<'a>, Refusal>
+    ensures { let checked = stored_checks nodes size below stored.now in
+        let offsets = offsets_in nodes stored.now in let neighbours = neighbours_in nodes stored.now in
+        MatchResult result
+        (λ l. (checked ≡ done tt) × IsLent nodes offsets neighbours l × IsGroupSize size × (room_for nodes (length neighbours) ≤ below))
+        (λ cause. checked ≡ refused cause) }
 {
     if MAX_ROWS < nodes {
         return Err(Refusal::TooLarge);
     }
-    let stored = &w[base.min(w.len())..];
     let (offsets, behind) = stored.split_at((nodes + 1).min(stored.len()));
     let count = stored.get(nodes).copied().unwrap_or(0) as usize;
     let neighbours = &behind[..count.min(behind.len())];
-    check_lists(nodes, size, offsets, neighbours)?;
-    if base < room_for(nodes, neighbours.len()) {
+    let lists = check_lists(nodes, size, offsets, neighbours)?;
+    if below < 6 * nodes + neighbours.len() + 16 {
         return Err(Refusal::ListTooShort);
     }
-    Ok(())
+    Ok(lists)
 }

@@ -11,11 +11,12 @@ ghost use Rattle.std.specs.Prelude.{◌≡◌, ◌≢◌, [], ◌++◌, ℕ, ◌
 ghost use Rattle.std.specs.Int.{from_bool};
 ghost use Rattle.definitions.specs.Groups.{chosen, edges_to, groups_of, nodes_of, relabelled, size_in};
 ghost use Rattle.laws.specs.Every.{Each};
-ghost use Rattle.aggregates.specs.JoinChoice.{at, before_by, bump, others_by, wipe, Zeros};
+ghost use Rattle.aggregates.specs.JoinChoice.{at, bump, others_by, wipe, Zeros};
 ghost use Rattle.aggregates.specs.Log.{Joined, turn_log};
 ghost use Rattle.aggregates.specs.Stated.{lists_of};
 ghost use Rattle.aggregates.specs.JoinState.{Gathers, HasTurn, Joins, Moves, Rep, Turned, chains, hop, members_of, moved, names_in, state_of, walk};
 
+use super::candidate::Candidate;
 use super::joining_log::log_joining;
 use super::lists::Lists;
 
@@ -41,13 +42,6 @@ pub(crate) fn untally(hits: &mut [u32], names: &[u32])
     }
 }
 
-// Does the group a come before the group b? Most edges, then fewer members, then the lower id.
-fn comes_before(va: u32, vb: u32, ca: u32, cb: u32, a: u32, b: u32) -> bool
-    ensures { result ≡ before_by va vb ca cb a b }
-{
-    va > vb || va == vb && (ca < cb || ca == cb && a < b)
-}
-
 // The first of the groups that are named, and 0 if there is none.
 fn pick(counts: &[u32], hits: &[u32], names: &[u32]) -> u32
     requires counted { length hits.now ≤ length counts.now }
@@ -55,14 +49,14 @@ fn pick(counts: &[u32], hits: &[u32], names: &[u32]) -> u32
     requires some { 0 < length hits.now }
     ensures { result ≡ chosen (at hits.now) (at counts.now) 0 names.now }
 {
-    let mut best: u32 = 0;
+    let mut best = Candidate::of(counts, hits, 0);
     for &a in names {
-        let (x, y) = (a as usize, best as usize);
-        if best == 0 || comes_before(hits[x], hits[y], counts[x], counts[y], a, best) {
-            best = a;
+        let next = Candidate::of(counts, hits, a);
+        if best.id == 0 || next.comes_before(&best) {
+            best = next;
         }
     }
-    best
+    best.id
 }
 
 // The group that is named most often, then with fewer members, then with the lower id; 0 if none is named.
@@ -97,6 +91,7 @@ fn names_of(
     ensures named { take result names.new
         ≡ take tail names.old ++ others_by g ids.now (at counts.now) list.now }
 {
+    // The end is counted by hand: `names` is lent, so nothing can be pushed.
     let mut end = tail;
     for &u in list {
         let o = ids[u as usize];
@@ -243,31 +238,19 @@ fn join_rounds(
         Joined l.offsets.now l.neighbours.now groups floor ids.old ids.new log.old log.new result }
 {
     let mut made: u32 = 0;
-    // A `loop`: how many rounds there are shows only as they go.
+    // A `loop`: how many rounds there are shows only as they go. Its label names its invariant.
     'rounds: loop {
-        let mut joins: u32 = 0;
+        let before = made;
         for g in 1..groups + 1 {
             let joined = join_one(
-                lists,
-                ids,
-                next,
-                first,
-                counts,
-                hits,
-                names,
-                floor,
-                g,
-                log,
-                made + joins,
+                lists, ids, next, first, counts, hits, names, floor, g, log, made,
             );
-            joins += u32::from(joined);
+            made += u32::from(joined);
         }
-        if joins == 0 {
-            break 'rounds;
+        if made == before {
+            return made;
         }
-        made += joins;
     }
-    made
 }
 
 // Puts each node into the chain of its group, the highest first, so that each chain goes upward.

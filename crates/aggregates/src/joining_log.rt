@@ -2,38 +2,22 @@
 ghost use Rattle.std.specs.Prelude.{◌≡◌, [], ◌∷◌, ◌+◌, ◌-◌, ◌*◌, ◌^◌, ◌<◌, ◌≤◌, length, set};
 ghost use Rattle.laws.specs.Every.{Each};
 ghost use Rattle.aggregates.specs.JoinChoice.{at};
-ghost use Rattle.aggregates.specs.Log.{Rules, rule_against, rule_by, rule_in, noted};
+ghost use Rattle.aggregates.specs.Log.{Rules, rule_by, rule_in, noted};
 
+use super::candidate::Candidate;
 use super::joining::{tally, untally};
 
-// By which test the group b stays and the group a does not: 1 none, it is b itself; 2 edges; 3 members; 4 the id.
-fn rule_against(counts: &[u32], hits: &[u32], b: u32, a: u32) -> u32
-    requires a_in_bounds { (a < length counts.now) × (a < length hits.now) }
-    requires b_in_bounds { (b < length counts.now) × (b < length hits.now) }
-    ensures { result ≡ rule_against (at hits.now) (at counts.now) b a }
-{
-    let (x, y) = (a as usize, b as usize);
-    if a == b {
-        1
-    } else if hits[x] != hits[y] {
-        2
-    } else if counts[x] != counts[y] {
-        3
-    } else {
-        4
-    }
-}
-
-// The last of these tests over the groups that are named.
+// By which test the group b stays against the groups that are named: the last such test.
 fn last_rule(counts: &[u32], hits: &[u32], names: &[u32], b: u32) -> u32
     requires counted { length hits.now ≤ length counts.now }
     requires within { Each (λ a. a < length hits.now) names.now }
     requires taker { b < length hits.now }
     ensures { result ≡ rule_by (at hits.now) (at counts.now) b 1 names.now }
 {
+    let taker = Candidate::of(counts, hits, b);
     let mut rule: u32 = 1;
     for &a in names {
-        rule = rule.max(rule_against(counts, hits, b, a));
+        rule = rule.max(taker.rule_against(&Candidate::of(counts, hits, a)));
     }
     rule
 }

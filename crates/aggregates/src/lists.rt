@@ -1,5 +1,6 @@
 // The neighbour lists of the nodes, one behind another: where each starts, and behind the last where that ends.
-ghost use Rattle.std.specs.Prelude.{◌≡◌, ◌<◌};
+ghost use Rattle.std.specs.Prelude.{◌≡◌, ◌<◌, ◌≤◌, length};
+ghost use Rattle.definitions.specs.Matrix.{max_rows, max_entries};
 ghost use Rattle.definitions.specs.Groups.{listed};
 ghost use Rattle.aggregates.specs.Lists.{Lists as Fit};
 
@@ -9,6 +10,8 @@ pub(crate) struct Lists<'a> {
     pub(crate) offsets: &'a [u32],
     pub(crate) neighbours: &'a [u32],
     ghost fit: { Fit nodes offsets.now neighbours.now },
+    ghost some: { 0 < nodes },
+    ghost few: { (nodes ≤ max_rows) × (length neighbours.now ≤ max_entries) },
 }
 
 impl Lists<'_> {

@@ -1,16 +1,13 @@
 -- What a call leaves in a list lent for its result: by its number a cause keeps all, or leaves zeros.
-use Rattle.std.specs.Prelude.{Err, Ok, Result}
-use Prim.Native.Nat.{ℕ, ◌<◌, ◌≤◌}
+use Rattle.std.specs.Prelude.{Err, Ok}
+use Prim.Native.Nat.{ℕ}
 use mathlib.Core.Path.{◌≡◌, refl, sym, ◌∙◌}
-use mathlib.Core.Bool.{true, false, not, ◌&&◌}
+use mathlib.Core.Bool.{false, not, ◌&&◌}
 use mathlib.Core.List.{List}
-use native.Mathlib.Omega.{arith}
-use native.Mathlib.Decide.{dec_lt}
-use lib.Dec.{leb, ltb}
-use borrow.Author.Tests.{le-leb, lt-leb, lt-ltb, le-ltb}
+use lib.Dec.{leb}
 use lib.ListN.{length, replicate}
 use Rattle.definitions.specs.Lists.{padded}
-use Rattle.definitions.specs.Refusal.{Outcome, refused, done, Checked, ◌>>=◌, result_left, work_left, keeps_all, number_of, cause_of}
+use Rattle.definitions.specs.Refusal.{Outcome, refused, done, result_left, work_left, keeps_all, number_of, cause_of}
 use Rattle.definitions.specs.Answers.{answer_of}
 use Rattle.definitions.specs.declared.Refusal.{Refusal}
 use Rattle.definitions.specs.declared.Refusal.TheVariants.{TooLarge, RowListLength, ColumnListLength, FirstPointer, LastPointer, PointerFalls, ColumnOutside, ValueNotFinite, NotSquare, BlockSize, GroupSize, NotMultiple, ListTooShort, BlockNotSymmetric, BlockPivot, NoNode, CoarseTooLarge, CoarseListTooShort, MissingDiagonal, ZeroDiagonal, NegativeDiagonal, EstimateFailed, CoarseScale, CoarsePivot, WrongLength, SetupMisfit, NeighbourOffsets, NeighbourOutside, LogTooShort}
@@ -47,17 +44,6 @@ keeps_by_number NeighbourOffsets = refl
 keeps_by_number NeighbourOutside = refl
 keeps_by_number LogTooShort = refl
 
-module _ (r : Refusal) (n : ℕ) (e : n ≡ number_of r) where
-  pub low_keeps : n < 14 → true ≡ keeps_all r
-  low_keeps h = rw (keeps_by_number r, ← e, lt-leb 14 n h)
-
-  pub high_keeps : 14 ≤ n → ltb 24 n ≡ keeps_all r
-  high_keeps h = rw (keeps_by_number r, ← e, le-leb 14 n h) (step (dec_lt 24 n))
-    where
-      step : Dec (24 < n) → ltb 24 n ≡ not (leb n 24)
-      step (yes k) = rw (lt-ltb 24 n k, lt-leb n 24 k)
-      step (no k) = let l : n ≤ 24 = omega arith in rw (le-ltb 24 n l, le-leb n 24 l)
-
 -- ---- the list after a call
 
 module _ {A : Type 0} (z : A) (o : Outcome (List A)) (w : List A) where
@@ -68,10 +54,6 @@ module _ {A : Type 0} (z : A) (o : Outcome (List A)) (w : List A) where
   pub left_refused : (r : Refusal) → o ≡ refused r → result_left z o w ≡ result_left z (refused r) w
   left_refused r e = rw e
 
-  pub left_kept : (r : Refusal) → o ≡ refused r → keeps_all r ≡ true → result_left z o w ≡ w
-  unfolding result_left
-  left_kept r e k = rw (e, k, result_left)
-
   pub left_cleared : (r : Refusal) → o ≡ refused r → keeps_all r ≡ false → result_left z o w ≡ replicate (length w) z
   unfolding result_left
   left_cleared r e k = rw (e, k, result_left)
@@ -80,25 +62,6 @@ module _ {A : Type 0} (z : A) (o : Outcome (List A)) (w : List A) where
 pub work_refused : {A B : Type 0} (z : A) (o : Outcome B) (w : List A) (r : Refusal) → o ≡ refused r → work_left z o w ≡ result_left z (refused r) w
 unfolding work_left result_left
 work_refused z o w r e = rw e
-
--- ---- a call that is its checks, and then a result: by the answer to the checks
-
-module _ {B : Type 0} (k : Checked) (next : Outcome B) (v : (Result (Unit {0}) Refusal)) (e : v ≡ answer_of k) where
-  pub checks_stop : (r : Refusal) → v ≡ Err r → (k >>= (λ _. next)) ≡ refused r
-  unfolding answer_of ◌>>=◌
-  checks_stop r h = stop k (sym e ∙ h)
-    where
-      stop : (o : Checked) → answer_of o ≡ Err r → (o >>= (λ _. next)) ≡ refused r
-      stop (done tt) q = cc
-      stop (refused s) q = cc
-
-  pub checks_pass : v ≡ (Ok tt) → (k >>= (λ _. next)) ≡ next
-  unfolding answer_of ◌>>=◌
-  checks_pass h = pass k (sym e ∙ h)
-    where
-      pass : (o : Checked) → answer_of o ≡ (Ok tt) → (o >>= (λ _. next)) ≡ next
-      pass (done tt) q = refl
-      pass (refused s) q = cc
 
 -- ---- with the answer: one whose list the call filled or cleared
 

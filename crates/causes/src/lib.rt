@@ -1,4 +1,4 @@
-// What document 01's table tells of a cause of refusal: its number, what is returned with it, and what it leaves in the lists lent for writing.
+// What the table of causes (docs/SPECIFICATION.md, section 2) tells of a cause of refusal: its number, what is returned with it, and what it leaves in the lists lent for writing.
 #![tactic(auto)]
 
 ghost use Rattle.std.specs.Prelude.{◌≡◌};
@@ -85,12 +85,11 @@ pub fn answer_number<T: Drop>(answer: Result<T, Refusal>) -> u64
 }
 
 // Whether a call that this cause refuses leaves every list as it was: all causes but 14 to 24.
-#[tactic(auto, using(crate::proofs::Left::low_keeps, crate::proofs::Left::high_keeps))]
+#[tactic(auto, using(std::proofs::lemmas::Bool::Decides::nat_tests, crate::proofs::Left::keeps_by_number))]
 pub fn keeps_all(cause: Refusal) -> bool
     ensures { result ≡ keeps_all cause }
 {
-    let number = number_of(cause);
-    number < 14 || 24 < number
+    !(14..=24).contains(&number_of(cause))
 }
 
 // What a refused call leaves in a list lent for writing: what it held, or zeros.

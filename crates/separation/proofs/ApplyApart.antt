@@ -1,5 +1,6 @@
 -- One apply, with the parts of an accepted setup: residuals that are near on the part give corrections that are near on the part. The block solves stay inside a node; the
 -- restriction of a column of the part sums rows of the part; the coarse solve keeps the sides apart; and what a row of the part gains comes from columns of the part.
+use Rattle.std.proofs.lemmas.Nat.{div-mul-add}
 use mathlib.Core.Path.{◌≡◌, refl, sym, ap, ◌∙◌, subst}
 use mathlib.Core.Logic.{◌⊎◌, inl, inr}
 use mathlib.Core.Bool.{Bool, not}
@@ -35,7 +36,7 @@ use Rattle.laws.proofs.NearSums.{near_total, near_summed}
 use Rattle.laws.proofs.Outcomes.{done_inj, bind_done}
 use Rattle.separation.proofs.SolveApart.{Parted, split, differ_back, coarse_near, block_near, block_length}
 use Rattle.separation.proofs.FactorApart.{coarse_factor_vanish}
-use Rattle.separation.proofs.Parts.{entries_apart, row_of_node, node_of_row}
+use Rattle.separation.proofs.Parts.{entries_apart, row_of_node}
 use Rattle.laws.proofs.GroupIds.{ids_length, ids_below}
 use Rattle.laws.proofs.SetupLists.{blocks_are_nodes, width_is_size}
 use Rattle.separation.proofs.Columns.{nodes_apart, column_below, column_side, column_side_lem}
@@ -88,7 +89,7 @@ module _ (rows size : ℕ) (p : 1 ≤ size) (w : rows / size * size ≡ rows) (f
           let g : j < size = subst (λ (x : ℕ). j < x) wide l in
           subst (λ (x : Float). Near x (get_or (between (v * size) (v * size + width_of rows size v) r') j nan)) (sym (part_at r (v * size) (width_of rows size v) j l))
           (subst (λ (x : Float). Near (get_or r (v * size + j) nan) x) (sym (part_at r' (v * size) (width_of rows size v) j l))
-          (R (v * size + j) (row_of_node rows size v j below g) (subst (λ (x : ℕ). T (P x)) (sym (node_of_row size v j g)) q)))
+          (R (v * size + j) (row_of_node rows size v j below g) (subst (λ (x : ℕ). T (P x)) (sym (div-mul-add v size j g)) q)))
 
 -- ---- the weights that a setup stores
 

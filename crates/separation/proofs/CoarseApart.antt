@@ -19,7 +19,7 @@ use Rattle.definitions.specs.declared.TwoLevelBasis.TheVariants.{PiecewiseConsta
 use Rattle.laws.proofs.Lists.{Each, each_imp, each_any, each_keep, each_up_to, each_tab, each_take, each_drop, each_zip_with, any_none, flat_map_none, get_d_square}
 use Rattle.laws.proofs.Near.{Vanishing, total_none}
 use Rattle.laws.proofs.TransferRows.{none_where, zero_not_kept, weight_zero}
-use Rattle.separation.proofs.SolveApart.{averaged_vanish}
+use Rattle.separation.proofs.SolveApart.{averaged_vanish, unlike_sym}
 
 -- ---- columns of a valid matrix are below its rows
 
@@ -39,12 +39,6 @@ unlike_not p q e u = same p (subst (λ (x : Bool). T (unlike p x)) (sym e) u)
     same : (x : Bool) → T (unlike x x) → ⊥
     same true v = v
     same false v = v
-
-unlike_flip : (p q : Bool) → T (unlike p q) → T (unlike q p)
-unlike_flip true true u = u
-unlike_flip true false u = u
-unlike_flip false true u = u
-unlike_flip false false u = u
 
 -- two of three sides are alike
 third : (p q r : Bool) → T (unlike p q) → T (unlike p r) ⊎ (p ≡ r)
@@ -115,7 +109,7 @@ module _ (a : Matrix) (size : ℕ) (ids : List ℕ) (P Q : ℕ → Bool)
         flat_map_none (λ r. flat_map (λ w. weighted_sum w (product_terms a transfer r j)) (weights_at a transfer r i)) (each_up_to a.rows (λ r h. row r h (third (Q i) (Q j) (P r) u)))
       where
         row : (r : ℕ) → r < a.rows → T (unlike (Q i) (P r)) ⊎ (Q i ≡ P r) → flat_map (λ w. weighted_sum w (product_terms a transfer r j)) (weights_at a transfer r i) ≡ []
-        row r h (inl v) = ap (λ (ws : List Float). flat_map (λ w. weighted_sum w (product_terms a transfer r j)) ws) (weights_none r i h (unlike_flip (Q i) (P r) v))
+        row r h (inl v) = ap (λ (ws : List Float). flat_map (λ w. weighted_sum w (product_terms a transfer r j)) ws) (weights_none r i h (unlike_sym (Q i) (P r) v))
         row r h (inr e) =
             flat_map_none (λ w. weighted_sum w (product_terms a transfer r j))
             (each_any (weights_at a transfer r i) (λ w. ap (λ (ts : List Float). weighted_sum w ts) (product_none r j h (subst (λ (x : Bool). T (unlike x (Q j))) e u))))
@@ -136,5 +130,5 @@ unfolding averaged_square
 average_vanish c f Q A i j h g u =
     subst Vanishing (sym (get_d_square c (averaged (entry_in (square c f) c)) i j nan h g))
     (averaged_vanish (entry_in (square c f) c) i j
-    (subst Vanishing (sym (get_d_square c f i j nan h g)) (A i j u)) (subst Vanishing (sym (get_d_square c f j i nan g h)) (A j i (unlike_flip (Q i) (Q j) u)))
+    (subst Vanishing (sym (get_d_square c f i j nan h g)) (A i j u)) (subst Vanishing (sym (get_d_square c f j i nan g h)) (A j i (unlike_sym (Q i) (Q j) u)))
     (not_T (eqb i j) (λ t. unlike_not (Q i) (Q j) (ap Q (eqb→eq i j t)) u)))

@@ -1,4 +1,5 @@
 -- The side of a coarse column: that of the nodes of its group, which are all on one side. Every row's own coarse column is on the row's side.
+use Rattle.std.proofs.lemmas.Nat.{div-mul-add}
 use mathlib.Core.Path.{◌≡◌, refl, sym, ◌∙◌, subst}
 use mathlib.Core.Bool.{Bool, true, false, ◌&&◌}
 use mathlib.Core.List.{List, []}
@@ -22,7 +23,7 @@ use Rattle.definitions.specs.declared.Options.{Options}
 use Rattle.laws.proofs.Lists.{Each, each_at, any_tab, tab_any}
 use Rattle.laws.proofs.GroupIds.{graph_grouping_lem}
 use Rattle.separation.proofs.GroupsApart.{groups_apart}
-use Rattle.separation.proofs.Parts.{lists_apart, node_of_row}
+use Rattle.separation.proofs.Parts.{lists_apart}
 
 -- THE GROUPS OF AN UNCONNECTED PART, under Graph and StrongGraph: nodes with the same number are on the same side
 pub nodes_apart : (a : Matrix) (o : Options) (g : Grouping) (part : ℕ → Bool) → T (follows_graph o.aggregation) → T (unconnected a o.block [] part) → 1 ≤ o.group
@@ -58,7 +59,7 @@ module _ (part : ℕ → Bool) (nodes size : ℕ) (ids : List ℕ) where
       v = i / size
 
       back : (get_or ids (i / size) 0 * size + i % size) / size ≡ get_or ids (i / size) 0
-      back = node_of_row size (get_or ids (i / size) 0) (i % size) (mod-lt i p)
+      back = div-mul-add (get_or ids (i / size) 0) size (i % size) (mod-lt i p)
 
       test : ℕ → Bool
       test w = part w && eqb (get_or ids w 0) ((get_or ids (i / size) 0 * size + i % size) / size)

@@ -1,4 +1,4 @@
--- Demand 3: an unconnected part keeps its figures whatever load the rest carries. The theorems are `separation`, with its stronger form `separation_by_row` (Theorem), and
+-- SEPARATION: an unconnected part keeps its figures whatever load the rest carries. The theorems are `separation`, with its stronger form `separation_by_row` (Theorem), and
 -- `hands_out_corrected` and `separation_of_calls` (Calls); on the way `groups_apart` (GroupsApart) and `nodes_apart` (Columns): groups respect parts.
 
 -- solves and factors keep two sets of columns apart

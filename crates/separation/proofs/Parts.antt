@@ -1,9 +1,10 @@
 -- An unconnected part, row by row: each stored entry leads to a column on its row's side. So a node's list names only nodes on its own side, and so do its groups.
+use Rattle.std.proofs.lemmas.Nat.{div-mul-add}
 use mathlib.Core.Path.{◌≡◌, refl, sym, ap, ◌∙◌}
 use mathlib.Core.Bool.{Bool, true, false, not, ◌&&◌, beq}
 use mathlib.Core.List.{List, [], ◌∷◌}
 use Prim.Native.Nat.{ℕ, suc, ◌+◌, ◌*◌, ◌/◌, ◌<◌}
-use native.Mathlib.Nat.{le_trans, div-mul-le_self, mul-add-div_right, div-eq_of_lt, add-zero, mul-le-mul_right}
+use native.Mathlib.Nat.{le_trans, div-mul-le_self, mul-le-mul_right}
 use native.Mathlib.Omega.{arith}
 use lib.Dec.{T, eqb, eqb→eq}
 use lib.ListN.{get_or}
@@ -41,18 +42,12 @@ row_of_node rows size v i h l = le_trans (step v size i l) (le_trans (mul-le-mul
     step : (x y z : ℕ) → z < y → x * y + z < suc x * y
     step x y z g = omega arith
 
-pub node_of_row : (size v i : ℕ) → i < size → (v * size + i) / size ≡ v
-node_of_row size v i l = mul-add-div_right (pos i size l) v i ∙ ap (λ (x : ℕ). v + x) (div-eq_of_lt l) ∙ add-zero v
-  where
-    pos : (x y : ℕ) → x < y → 0 < y
-    pos x y g = omega arith
-
 module _ (a : Matrix) (size : ℕ) (part : ℕ → Bool) (u : T (unconnected a size [] part)) (v : ℕ) (h : v < a.rows / size) where
   node_entries_apart : Each (λ e. part (e.col / size) ≡ part v) (node_entries a size v)
   unfolding node_entries
   node_entries_apart =
       each_flat_map (λ i. entries_of a (v * size + i)) (each_up_to size
-      (λ i l. each_imp (λ e k. sym k ∙ ap part (node_of_row size v i l)) (entries_apart a size part u (v * size + i) (row_of_node a.rows size v i h l))))
+      (λ i l. each_imp (λ e k. sym k ∙ ap part (div-mul-add v size i l)) (entries_apart a size part u (v * size + i) (row_of_node a.rows size v i h l))))
 
   neighbours_apart : (nodes : ℕ) → Each (λ w. part w ≡ part v) (neighbours_of a size nodes v)
   unfolding neighbours_of

@@ -165,7 +165,7 @@ unlike_ne Q i j u = go (eqb i j) (λ t. no (Q i) (Q j) (ap Q (eqb→eq i j t)) u
     go true f = absurd (f tt)
     go false f = tt
 
-unlike_sym : (p q : Bool) → T (unlike p q) → T (unlike q p)
+pub unlike_sym : (p q : Bool) → T (unlike p q) → T (unlike q p)
 unlike_sym true true u = u
 unlike_sym true false u = u
 unlike_sym false true u = u

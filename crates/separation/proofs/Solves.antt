@@ -3,7 +3,7 @@ use mathlib.Core.Path.{◌≡◌, sym, ap, ◌∙◌, subst}
 use mathlib.Core.Logic.{◌⊎◌, inl, inr}
 use mathlib.Core.List.{List, [], ◌∷◌, ◌++◌}
 use Prim.Native.Nat.{ℕ, zero, suc, ◌+◌, ◌-◌, ◌≤◌, ◌<◌}
-use native.Mathlib.Nat.{not-suc-le-zero, le_of_suc-le-suc, le_of_suc-le, eq-or-lt_of_le, add-zero}
+use native.Mathlib.Nat.{le_refl, not-suc-le-zero, le_of_suc-le-suc, le_of_suc-le, eq-or-lt_of_le, add-zero}
 use native.Mathlib.Numerals.{add-one}
 use native.Mathlib.Omega.{arith}
 use lib.ListN.{length, get_or, length-append, get_or-append}
@@ -65,10 +65,7 @@ module _ (R : ℕ → Float → Float → Type 0) (F F' : ℕ → List Float) (f
       (stacked_from k (le_of_suc-le l) m (le_of_suc-le-suc h))))
 
   pub stacked_all : (i : ℕ) → i < c → R i (get_or (F c) i nan) (get_or (F' c) i nan)
-  stacked_all i h = subst (λ (j : ℕ). R j (get_or (F c) i nan) (get_or (F' c) i nan)) (whole c i) (stacked_from c (le c) i h)
+  stacked_all i h = subst (λ (j : ℕ). R j (get_or (F c) i nan) (get_or (F' c) i nan)) (whole c i) (stacked_from c (le_refl c) i h)
     where
       whole : (n k : ℕ) → n - n + k ≡ k
       whole n k = omega arith
-
-      le : (n : ℕ) → n ≤ n
-      le n = omega arith

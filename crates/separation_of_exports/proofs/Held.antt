@@ -1,8 +1,8 @@
--- Every integer that an accepted setup stores is a u32, and every number of its record a u64: they are bounded by 01's limits.
+-- Every integer that an accepted setup stores is a u32, and every number of its record a u64: they are bounded by the limits on a call.
 use Prim.Native.Nat.{ℕ, ◌+◌, ◌*◌, ◌^◌, ◌≤◌, ◌<◌}
 use mathlib.Core.Path.{◌≡◌, sym, subst}
 use mathlib.Core.List.{List, [], ◌∷◌, ◌++◌, map, flat_map}
-use native.Mathlib.Nat.{le_refl, le_trans, lt_of_le_of_lt, add-le-add, mul-one, mul-le-mul, div-le_self}
+use native.Mathlib.Nat.{le-add_right, le_refl, le_trans, lt_of_le_of_lt, add-le-add, mul-one, mul-le-mul, div-le_self}
 use native.Mathlib.Omega.{arith}
 use lib.Dec.{T, ltb, ltb→lt, leb→le}
 use lib.ListN.{length, length-append}
@@ -32,15 +32,12 @@ use Rattle.separation.proofs.Fitting.{weights_bound, columns_small}
 
 -- ---- the integers
 
-at_most : (n k : ℕ) → n ≤ n + k
-at_most n k = omega arith
-
 -- no pointer is above where the last list ends
 pointers_bound : {A : Type 0} (n : ℕ) (ws : List (List A)) → Each (λ p. p ≤ n + length (flat_map (λ row. row) ws)) (pointers_from n ws)
 unfolding pointers_from flat_map
-pointers_bound n [] = more {x = n} (at_most n 0) none
+pointers_bound n [] = more {x = n} (le-add_right n 0) none
 pointers_bound n (row ∷ ws) =
-    more {x = n} (at_most n (length (row ++ flat_map (λ row. row) ws))) (each_imp (λ p h. subst (λ (k : ℕ). p ≤ n + k) (sym (length-append row (flat_map (λ row. row) ws))) (regroup n (length row) (length (flat_map (λ row. row) ws)) p h)) (pointers_bound (n + length row) ws))
+    more {x = n} (le-add_right n (length (row ++ flat_map (λ row. row) ws))) (each_imp (λ p h. subst (λ (k : ℕ). p ≤ n + k) (sym (length-append row (flat_map (λ row. row) ws))) (regroup n (length row) (length (flat_map (λ row. row) ws)) p h)) (pointers_bound (n + length row) ws))
   where
     regroup : (x y z p : ℕ) → p ≤ x + y + z → p ≤ x + (y + z)
     regroup x y z p h = omega arith

@@ -1,4 +1,4 @@
--- Demand 3, as a statement about the exported functions on byte lists: of what their promises give for the bytes of their results.
+-- Separation, as a statement about the exported functions on byte lists: of what their promises give for the bytes of their results.
 use Rattle.std.specs.Prelude.{ℕ, ◌≤◌, ◌≡◌, Bool, List, T, length}
 use Rattle.byte_lists.specs.Bytes.{floats_of}
 use Rattle.definitions.specs.Setup.{Lent}

@@ -1,4 +1,4 @@
--- Demand 3, as statements about the exported functions. They speak of the definitions that the functions' promises cite, so of what the functions hand out.
+-- Separation, as statements about the exported functions. They speak of the definitions that the functions' promises cite, so of what the functions hand out.
 use Rattle.std.specs.Prelude.{ℕ, ◌*◌, ◌≤◌, ◌≡◌, Bool, List, T, length, Float}
 use Rattle.definitions.specs.Refusal.{done}
 use Rattle.definitions.specs.Matrix.{Matrix}

@@ -1,6 +1,4 @@
 -- `build`: growth, joining, renumbering.
-use Prim.Native.Nat.{◌+◌}
-use lib.ListN.{length}
 use Rattle.aggregates.proofs.Stages.{grown_joins, built_after}
 use Rattle.aggregates.proofs.build.Goals as goal
 
@@ -9,7 +7,7 @@ settle-counts-requires-clause-joins c =
     let a = c.args in
     let s = a.lists.now in
     let g = c.grow_all-groups in
-    grown_joins s.nodes a.size (length a.ids.now + length a.room.now) s.offsets.now s.neighbours.now c.requires.accepts g.result g.new.ids g.ensures.grown g.ensures.upper_bound
+    grown_joins s.nodes a.size s.offsets.now s.neighbours.now c.requires.sized.0 g.result g.new.ids g.ensures.grown s.fit s.few g.ensures.upper_bound
 
 pub returns-clause-built : goal.returns-clause-built
 returns-clause-built c =
@@ -17,4 +15,4 @@ returns-clause-built c =
     let s = a.lists.now in
     let g = c.grow_all-groups in
     let k = c.settle-counts in
-    built_after s.nodes a.size (length a.ids.now + length a.room.now) s.offsets.now s.neighbours.now c.requires.accepts g.result g.new.ids g.ensures.grown c.floor_of-floor.result k.result.count k.result.joinings k.new.ids a.log.now k.new.log c.floor_of-floor.ensures k.ensures
+    built_after s.nodes a.size s.offsets.now s.neighbours.now c.requires.sized.0 g.result g.new.ids g.ensures.grown c.floor_of-floor.result k.result.groups k.result.joinings k.new.ids a.log.now k.new.log c.floor_of-floor.ensures k.ensures

@@ -1,23 +1,11 @@
--- `group_into`: the lists are proper, and the group of each node goes to the front of `ids`.
+-- `group_into`: the group of each node goes to the front of `ids`.
 use mathlib.Core.Path.{◌≡◌, ap, ◌∙◌}
 use native.Mathlib.Omega.{arith}
 use lib.ListN.{length, replicate}
 use Rattle.definitions.specs.Lists.{padded}
-use Rattle.aggregates.proofs.checks.Order.{accepted_listed, accepted_lists, accepted_fits, accepted_room}
-use Rattle.aggregates.proofs.Stages.{padded_by}
 use Rattle.definitions.specs.JoiningLog.{with_log}
+use Rattle.aggregates.proofs.Stages.{padded_by}
 use Rattle.aggregates.proofs.group_into.Goals as goal
-
-pub split_at_mut-ids-requires : goal.split_at_mut-ids-requires
-split_at_mut-ids-requires c = let a = c.args in omega (arith, accepted_room a.nodes a.size a.offsets.now a.neighbours.now (length a.ids.now) (length a.work.now) c.requires)
-
-pub invariant_of-lists : goal.invariant_of-lists
-invariant_of-lists c = let a = c.args in record { fit = accepted_lists a.nodes a.size a.offsets.now a.neighbours.now (accepted_listed a.nodes a.size a.offsets.now a.neighbours.now (length a.ids.now) (length a.work.now) c.requires) }
-
-pub build-counts-requires-clause-accepts : goal.build-counts-requires-clause-accepts
-build-counts-requires-clause-accepts c =
-    let a = c.args in
-    accepted_fits a.nodes a.size a.offsets.now a.neighbours.now (accepted_listed a.nodes a.size a.offsets.now a.neighbours.now (length a.ids.now) (length a.work.now) c.requires) _ (omega (arith, accepted_room a.nodes a.size a.offsets.now a.neighbours.now (length a.ids.now) (length a.work.now) c.requires, c.split_at_mut-ids.ensures.front_len))
 
 pub returns-clause-logged : goal.returns-clause-logged
 unfolding with_log
@@ -27,7 +15,7 @@ returns-clause-logged c =
     let zeros : c.fill.new.self ≡ replicate (length c.split_at_mut-ids.result.1.now) 0 = c.fill.ensures.after (λ y e. e) in
     record {
       number = b.ensures.built.number;
-      groups = (rw zeros (padded_by a.nodes _ (length a.ids.now) b.new.ids (omega (arith, b.auto.ids, c.split_at_mut-ids.ensures.front_len)) (omega (arith, c.split_at_mut-ids.ensures.back_len)))) ∙ ap (padded 0 (length a.ids.now)) b.ensures.built.groups;
+      groups = (rw zeros (padded_by a.lists.now.nodes _ (length a.ids.now) b.new.ids (omega (arith, b.auto.ids, c.split_at_mut-ids.ensures.front_len)) (omega (arith, c.split_at_mut-ids.ensures.back_len)))) ∙ ap (padded 0 (length a.ids.now)) b.ensures.built.groups;
       joined = b.ensures.built.joined;
       written = b.ensures.built.written;
     }

@@ -9,13 +9,13 @@ use lib.Dec.{eqb, ltb}
 use lib.ListN.{length, get_or, set, replicate, length-set, length-replicate, get_or-replicate, get_or-eq_default}
 use lib.Seq.{get_or-set_same, get_or-set_other, set_out}
 use Rattle.definitions.specs.Groups.{free, waiting, grow_group, grow_groups, grown, no_anchor}
-use Rattle.aggregates.proofs.Appearance.{split}
+use Rattle.aggregates.proofs.Stops.{by_test}
 use Rattle.aggregates.proofs.growth.Growing.{grow_takes, from_grows, from_passes}
 
 -- an element after a store: the number stored, or as before
 pub set_cases : (l : List ℕ) (i a j : ℕ) → (get_or (set l i a) j 0 ≡ a) ⊎ (get_or (set l i a) j 0 ≡ get_or l j 0)
-set_cases l i a j = split (eqb j i)
-    (λ e. split (ltb i (length l))
+set_cases l i a j = by_test (eqb j i)
+    (λ e. by_test (ltb i (length l))
     (λ h. inl (rw (eqb-true j i e) (get_or-set_same l i a 0 (ltb-true i (length l) h))))
     (λ h. inr (rw (set_out l i a (ltb-false i (length l) h)) refl)))
     (λ e. inr (get_or-set_other l i j a 0 (eqb-false j i e)))
@@ -56,7 +56,7 @@ module _ (lists : ℕ → List ℕ) where
     grows v g ids h z o = record {
       long = grow_length (suc g) size ids (v ∷ []) ∙ o.long;
       upto = grow_upto (suc g) size ids (v ∷ []) (λ u. omega (arith, o.upto u));
-      some = λ u k. split (eqb u v)
+      some = λ u k. by_test (eqb u v)
           (λ e. rw (eqb-true u v e) (grow_seed (suc g) size ids v (omega arith) pos (omega (arith, o.long)) z))
           (λ e. grow_some (suc g) size ids (v ∷ []) u (omega arith) (o.some u (omega (arith, eqb-false u v e))));
       few = omega (arith, o.few);
@@ -66,7 +66,7 @@ module _ (lists : ℕ → List ℕ) where
     passes v g ids z o = record {
       long = o.long;
       upto = o.upto;
-      some = λ u k. split (eqb u v)
+      some = λ u k. by_test (eqb u v)
           (λ e. rw (eqb-true u v e) (omega (arith, z)))
           (λ e. o.some u (omega (arith, eqb-false u v e)));
       few = omega (arith, o.few);
@@ -75,7 +75,7 @@ module _ (lists : ℕ → List ℕ) where
     from : (left v g : ℕ) (ids : List ℕ) → v + left ≡ n → Grown n v g ids → Grown n n (grow_groups lists no_anchor size left v g ids).1 (grow_groups lists no_anchor size left v g ids).0
     unfolding grow_groups
     from zero v g ids e o = let q : v ≡ n = omega arith in rw q at o
-    from (suc left) v g ids e o = split (eqb (get_or ids v 0) 0)
+    from (suc left) v g ids e o = by_test (eqb (get_or ids v 0) 0)
         (λ t. rw (from_grows lists size left v g ids (eqb-true (get_or ids v 0) 0 t)) (from left (suc v) (suc g) (grow_group lists no_anchor (suc g) size ids (v ∷ [])) (omega arith) (grows v g ids (omega arith) (eqb-true (get_or ids v 0) 0 t) o)))
         (λ t. rw (from_passes lists size left v g ids (eqb-false (get_or ids v 0) 0 t)) (from left (suc v) g ids (omega arith) (passes v g ids (eqb-false (get_or ids v 0) 0 t) o)))
 
@@ -90,6 +90,6 @@ module _ (lists : ℕ → List ℕ) where
     })
       where
         zeros : (u : ℕ) → get_or (replicate n 0) u 0 ≤ 0
-        zeros u = split (ltb u n)
+        zeros u = by_test (ltb u n)
             (λ t. omega (arith, get_or-replicate {A = ℕ} n u 0 0 (ltb-true u n t)))
             (λ t. omega (arith, get_or-eq_default {A = ℕ} (replicate n 0) 0 {n = u} (rw (length-replicate {A = ℕ} n 0) (ltb-false u n t))))

@@ -1,4 +1,6 @@
 -- The loop of `grow_group`: what the group still takes in, with the queue's nodes in it already, stays the same. The queue has room: the lists of its nodes and of nodes in no group are still to come.
+use Rattle.std.specs.List.{sum_by}
+use Rattle.std.proofs.lemmas.List.Sums.{sum_by-cons, sum_by-append}
 use mathlib.Core.Path.{◌≡◌, ap, sym, ◌∙◌}
 use mathlib.Core.List.{List, [], ◌∷◌, ◌++◌}
 use Prim.Native.Nat.{ℕ, suc, ◌+◌, ◌-◌, ◌≤◌, ◌<◌}
@@ -11,67 +13,53 @@ use Rattle.laws.proofs.Lists.{Each, none, more, each_head, each_tail, each_appen
 use Rattle.aggregates.specs.Lists.{Lists}
 use Rattle.aggregates.specs.Growth.{Pushed, enqueued}
 use Rattle.aggregates.proofs.NodeLists.{spare, degree, spare_set, spare_within, offset_within, each_part}
-use Rattle.aggregates.proofs.growth.Enqueued.{degrees, degrees_append, enqueued_few, enqueued_short, each_enqueued, enqueued_spare}
-use Rattle.aggregates.proofs.growth.Growing.{grow_full, grow_ends, grow_skips}
+use Rattle.aggregates.proofs.growth.Enqueued.{enqueued_few, enqueued_short, each_enqueued, enqueued_spare}
 use Rattle.aggregates.proofs.growth.Queued.{queued, queued_full, queued_ends, queued_turn, grow_seeded}
 
-pub record Queue (offsets nb : List ℕ) (n : ℕ) (ids₀ : List ℕ) (seed g size : ℕ) (ids queue : List ℕ) (head tail room : ℕ) : Type 0 where
+pub record Queue (offsets nb : List ℕ) (n : ℕ) (ids₀ : List ℕ) (seed g size : ℕ) (ids queue : List ℕ) (head tail : ℕ) : Type 0 where
   pub ok : Lists n offsets nb
   pub pos : 0 < g
   pub long : length ids ≡ n
   pub fits : length nb < length queue
   pub order : head ≤ tail
-  pub space : tail + (degrees (degree offsets) (slice head tail queue) + spare (degree offsets) 0 ids) ≤ length nb + 1
+  pub sized : tail ≤ size
+  pub space : tail + (sum_by (degree offsets) (slice head tail queue) + spare (degree offsets) 0 ids) ≤ length nb + 1
   pub nodes : Each (λ x. x < n) (slice head tail queue)
-  pub goes : queued (listed offsets nb) g ((tail - head) + room) room ids (slice head tail queue) ≡ grow_group (listed offsets nb) no_anchor g size ids₀ (seed ∷ [])
-
--- no room, or a seed in a group: nothing joins
-pub seed_none : (lists : ℕ → List ℕ) (g size : ℕ) (ids q : List ℕ) → size ≡ 0 → ids ≡ grow_group lists no_anchor g size ids q
-seed_none lists g size ids q z = rw z (sym (grow_full lists g ids q))
-
-pub seed_passes : (lists : ℕ → List ℕ) (g size : ℕ) (ids : List ℕ) (seed : ℕ) → (get_or ids seed 0 ≡ 0 → ⊥) → ids ≡ grow_group lists no_anchor g size ids (seed ∷ [])
-seed_passes lists g size ids seed z = sym (grow_skips lists g size ids seed [] z ∙ grow_ends lists g size ids)
+  pub goes : queued (listed offsets nb) g (size - head) (size - tail) ids (slice head tail queue) ≡ grow_group (listed offsets nb) no_anchor g size ids₀ (seed ∷ [])
 
 -- the seed alone waits
-pub queue_first : (offsets nb : List ℕ) (n : ℕ) (ids queue : List ℕ) (seed g size : ℕ) → Lists n offsets nb → 0 < g → length ids ≡ n → length nb < length queue → seed < n → get_or ids seed 0 ≡ 0 → (size ≡ 0 → ⊥) → Queue offsets nb n ids seed g size (set ids seed g) (set queue 0 seed) 0 1 (size - 1)
-unfolding degrees
+pub queue_first : (offsets nb : List ℕ) (n : ℕ) (ids queue : List ℕ) (seed g size : ℕ) → Lists n offsets nb → 0 < g → length ids ≡ n → length nb < length queue → seed < n → get_or ids seed 0 ≡ 0 → 0 < size → Queue offsets nb n ids seed g size (set ids seed g) (set queue 0 seed) 0 1
 queue_first offsets nb n ids queue seed g size ok pos long fits h z some =
     let e : slice 0 1 (set queue 0 seed) ≡ seed ∷ [] = take-suc-set queue 0 seed (omega arith) in
     let zv : 0 + seed ≡ seed = omega arith in
     let spent = rw zv at (spare_set (degree offsets) 0 ids seed g (omega arith) z pos) in
     let r : size ≡ suc (size - 1) = omega (arith, some) in
-    let turns : (1 - 0) + (size - 1) ≡ size = omega (arith, some) in
+    let turns : size - 0 ≡ size = omega arith in
     record {
       ok = ok;
       pos = pos;
       long = length-set ids seed g ∙ long;
       fits = simp length-set fits;
       order = omega arith;
+      sized = omega arith;
       space = rw e (omega (arith, spent, spare_within n offsets nb ok ids long));
       nodes = rw e (more h none);
       goes = rw (e, turns) (ap (λ k. queued (listed offsets nb) g k (size - 1) (set ids seed g) (seed ∷ [])) r ∙ sym (ap (λ k. grow_group (listed offsets nb) no_anchor g k ids (seed ∷ [])) r ∙ grow_seeded (listed offsets nb) g (size - 1) ids seed pos z));
     }
 
--- the turns that are left, in numbers
-turns_left : (head tail end room k : ℕ) → head < tail → end ≡ tail + k → k ≤ room → (end - (head + 1)) + (room - k) ≡ (tail - (head + 1)) + room
-turns_left head tail end room k h e f = omega arith
-
-turn_taken : (head tail room : ℕ) → head < tail → (tail - head) + room ≡ suc ((tail - (head + 1)) + room)
-turn_taken head tail room h = omega arith
-
 -- what the queue's nodes and the free ones still need
 spent_space : (tail end dv dq dn free free' k b : ℕ) → end ≡ tail + k → k ≤ dv → dn + free' ≡ free → tail + ((dv + dq) + free) ≤ b → end + ((dq + dn) + free') ≤ b
 spent_space tail end dv dq dn free free' k b e f g h = omega arith
 
-module _ {offsets nb : List ℕ} {n : ℕ} {ids₀ : List ℕ} {seed g size : ℕ} {ids queue : List ℕ} {head tail room : ℕ} (inv : Queue offsets nb n ids₀ seed g size ids queue head tail room) where
-  pub queue_full : room ≡ 0 → ids ≡ grow_group (listed offsets nb) no_anchor g size ids₀ (seed ∷ [])
-  queue_full z = sym (queued_full (listed offsets nb) g ((tail - head) + 0) ids (slice head tail queue)) ∙ (rw z at inv.goes)
+module _ {offsets nb : List ℕ} {n : ℕ} {ids₀ : List ℕ} {seed g size : ℕ} {ids queue : List ℕ} {head tail : ℕ} (inv : Queue offsets nb n ids₀ seed g size ids queue head tail) where
+  pub queue_full : size ≤ tail → ids ≡ grow_group (listed offsets nb) no_anchor g size ids₀ (seed ∷ [])
+  queue_full h = let none : size - tail ≡ 0 = omega arith in sym (queued_full (listed offsets nb) g (size - head) ids (slice head tail queue)) ∙ (rw none at inv.goes)
 
   pub queue_last : tail ≤ head → ids ≡ grow_group (listed offsets nb) no_anchor g size ids₀ (seed ∷ [])
   queue_last h =
       let e : tail ≡ head = omega (arith, inv.order) in
       let none : slice head tail queue ≡ [] = rw e (slice_empty head queue) in
-      sym (queued_ends (listed offsets nb) g ((tail - head) + room) room ids) ∙ (rw none at inv.goes)
+      sym (queued_ends (listed offsets nb) g (size - head) (size - tail) ids) ∙ (rw none at inv.goes)
 
   pub queue_ends : tail ≤ length queue
   queue_ends = omega (arith, inv.space, inv.fits)
@@ -83,9 +71,8 @@ module _ {offsets nb : List ℕ} {n : ℕ} {ids₀ : List ℕ} {seed g size : �
     pub queue_node : v < n
     queue_node = each_head (rw first at inv.nodes)
 
-    space_now : tail + ((degree offsets v + degrees (degree offsets) (slice (head + 1) tail queue)) + spare (degree offsets) 0 ids) ≤ length nb + 1
-    unfolding degrees
-    space_now = rw first at inv.space
+    space_now : tail + ((degree offsets v + sum_by (degree offsets) (slice (head + 1) tail queue)) + spare (degree offsets) 0 ids) ≤ length nb + 1
+    space_now = omega (arith, inv.space, ap (sum_by (degree offsets)) first ∙ sum_by-cons (degree offsets) v (slice (head + 1) tail queue))
 
     ends : get_or offsets (suc v) 0 ≤ length nb
     ends = offset_within n offsets nb inv.ok (suc v) queue_node
@@ -101,29 +88,26 @@ module _ {offsets nb : List ℕ} {n : ℕ} {ids₀ : List ℕ} {seed g size : �
     pub queue_space : tail + length (listed offsets nb v) ≤ length queue
     queue_space = omega (arith, space_now, inv.fits, long_is)
 
-    module _ {ids' queue' : List ℕ} {end : ℕ} (p : Pushed (enqueued g room ids (listed offsets nb v)) g tail ids ids' queue queue' end) where
-      pub queue_few : (tail ≤ end) × (end - tail ≤ room)
-      queue_few = (omega (arith, p.count), omega (arith, p.count, enqueued_few g room ids (listed offsets nb v)))
-
-      pub queue_takes : length ids' ≡ length ids → length queue' ≡ length queue → Queue offsets nb n ids₀ seed g size ids' queue' (head + 1) end (room - (end - tail))
+    module _ {ids' queue' : List ℕ} {end : ℕ} (p : Pushed (enqueued g (size - tail) ids (listed offsets nb v)) g tail ids ids' queue queue' end) where
+      pub queue_takes : length ids' ≡ length ids → length queue' ≡ length queue → Queue offsets nb n ids₀ seed g size ids' queue' (head + 1) end
       queue_takes same qsame =
-          let new = enqueued g room ids (listed offsets nb v) in
-          let short : length new ≤ degree offsets v = omega (arith, enqueued_short g room ids (listed offsets nb v), long_is) in
-          let few = enqueued_few g room ids (listed offsets nb v) in
-          let spent : degrees (degree offsets) new + spare (degree offsets) 0 (relabelled g new ids) ≡ spare (degree offsets) 0 ids = enqueued_spare g (degree offsets) room ids (listed offsets nb v) inv.pos queue_each in
+          let new = enqueued g (size - tail) ids (listed offsets nb v) in
+          let short : length new ≤ degree offsets v = omega (arith, enqueued_short g (size - tail) ids (listed offsets nb v), long_is) in
+          let few = enqueued_few g (size - tail) ids (listed offsets nb v) in
+          let spent : sum_by (degree offsets) new + spare (degree offsets) 0 (relabelled g new ids) ≡ spare (degree offsets) 0 ids = enqueued_spare g (degree offsets) (size - tail) ids (listed offsets nb v) inv.pos queue_each in
           let waits : slice (head + 1) end queue' ≡ slice (head + 1) tail queue ++ new =
           ap (drop (head + 1)) p.waits ∙ drop-append-le (head + 1) (take tail queue) new (rw (length-take-le tail queue queue_ends) (omega arith)) in
           let count : end ≡ tail + length new = p.count in
-          let left : room - (end - tail) ≡ room - length new = omega arith in
-          let turns : (end - (head + 1)) + (room - length new) ≡ (tail - (head + 1)) + room = turns_left head tail end room (length new) h count few in
-          let before : (tail - head) + room ≡ suc ((tail - (head + 1)) + room) = turn_taken head tail room h in
+          let left : size - end ≡ (size - tail) - length new = omega arith in
+          let turn : size - head ≡ suc (size - (head + 1)) = omega (arith, inv.sized) in
           record {
             ok = inv.ok;
             pos = inv.pos;
             long = same ∙ inv.long;
             fits = rw qsame inv.fits;
             order = omega arith;
-            space = rw (waits, p.joined, degrees_append (degree offsets) (slice (head + 1) tail queue) new) (spent_space tail end (degree offsets v) (degrees (degree offsets) (slice (head + 1) tail queue)) (degrees (degree offsets) new) (spare (degree offsets) 0 ids) (spare (degree offsets) 0 (relabelled g new ids)) (length new) (length nb + 1) count short spent space_now);
-            nodes = rw waits (each_append (each_tail (rw first at inv.nodes)) (each_enqueued g (λ x. x < n) room ids (listed offsets nb v) (rw inv.long at queue_each)));
-            goes = rw (left, turns, waits, p.joined) (sym (queued_turn (listed offsets nb) g ((tail - (head + 1)) + room) room ids v (slice (head + 1) tail queue)) ∙ (rw (before, first) at inv.goes));
+            sized = omega (arith, inv.sized);
+            space = rw (waits, p.joined, sum_by-append (degree offsets) (slice (head + 1) tail queue) new) (spent_space tail end (degree offsets v) (sum_by (degree offsets) (slice (head + 1) tail queue)) (sum_by (degree offsets) new) (spare (degree offsets) 0 ids) (spare (degree offsets) 0 (relabelled g new ids)) (length new) (length nb + 1) count short spent space_now);
+            nodes = rw waits (each_append (each_tail (rw first at inv.nodes)) (each_enqueued g (λ x. x < n) (size - tail) ids (listed offsets nb v) (rw inv.long at queue_each)));
+            goes = rw (left, waits, p.joined) (sym (queued_turn (listed offsets nb) g (size - (head + 1)) (size - tail) ids v (slice (head + 1) tail queue)) ∙ (rw (turn, first) at inv.goes));
           }

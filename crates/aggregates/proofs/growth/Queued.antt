@@ -9,7 +9,7 @@ use lib.Dec.{eqb}
 use lib.ListN.{length, get_or, set, length-append}
 use Rattle.definitions.specs.Groups.{free, grow_group, relabelled, no_anchor}
 use Rattle.aggregates.specs.Growth.{enqueued}
-use Rattle.aggregates.proofs.Appearance.{split}
+use Rattle.aggregates.proofs.Stops.{by_test}
 use Rattle.aggregates.proofs.growth.Between.{set_cases}
 use Rattle.aggregates.proofs.growth.Growing.{grow_full, grow_ends, grow_skips, grow_takes}
 use Rattle.aggregates.proofs.growth.Enqueued.{enqueued_none, enqueued_takes, enqueued_skips, enqueued_append, enqueued_free}
@@ -71,7 +71,7 @@ module _ (lists : ℕ → List ℕ) (g : ℕ) where
   unfolding queued_from queued enqueued relabelled
   grow_queued zero ids q pos = grow_full lists g ids q
   grow_queued (suc room) ids [] pos = grow_ends lists g (suc room) ids
-  grow_queued (suc room) ids (v ∷ q) pos = split (eqb (get_or ids v 0) 0)
+  grow_queued (suc room) ids (v ∷ q) pos = by_test (eqb (get_or ids v 0) 0)
       (λ t.
       let z = eqb-true (get_or ids v 0) 0 t in
       grow_takes lists g room ids v q z ∙ grow_queued room (set ids v g) (q ++ free lists no_anchor (set ids v g) (lists v)) pos ∙ queued_step room ids q v pos z)

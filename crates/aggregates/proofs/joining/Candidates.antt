@@ -12,7 +12,7 @@ use Rattle.definitions.specs.Lists.{keep}
 use Rattle.definitions.specs.JoiningLog.{unbeaten}
 use Rattle.laws.proofs.Lists.{Each, each_imp, each_both}
 use Rattle.aggregates.specs.JoinState.{Once}
-use Rattle.aggregates.specs.Log.{rule_against}
+use Rattle.aggregates.specs.Log.{rule_against, rule_between}
 use Rattle.aggregates.proofs.Stops.{by_test}
 use Rattle.aggregates.proofs.joining.Ordered.{Behind, fewer, larger, later}
 use Rattle.aggregates.proofs.joining.Members.{In, in_each, single, each_same, in_some, each_kept, keep_each, once_keep, in_keep, keep_every, unbeaten_are}
@@ -47,15 +47,15 @@ module _ (edges sizes : ℕ → ℕ) (b : ℕ) where
   told a l = by_test (eqb a b)
       (λ e.
       let is = eqb-true a b e in
-      let r : against a ≡ 1 = rw (rule_against, e) in
+      let r : against a ≡ 1 = rw (rule_against, rule_between, e) in
       let h : height a ≡ 5 = rw (height, e) in
       omega (arith, ap edges is, ap sizes is))
       (λ e. let h : height a ≡ against a = rw (height, e) in go e (eqb-false a b e) h l)
     where
       go : eqb a b ≡ false → (a ≡ b → ⊥) → height a ≡ against a → Behind edges sizes a b → Told a
-      go e d h (fewer p) = let r : against a ≡ 2 = rw (rule_against, e, ne_eqb (edges a) (edges b) (λ q. omega arith)) in omega arith
-      go e d h (larger q p) = let r : against a ≡ 3 = rw (rule_against, e, eq-eqb (edges a) (edges b) q, ne_eqb (sizes a) (sizes b) (λ u. omega arith)) in omega arith
-      go e d h (later q p u) = let r : against a ≡ 4 = rw (rule_against, e, eq-eqb (edges a) (edges b) q, eq-eqb (sizes a) (sizes b) p) in omega arith
+      go e d h (fewer p) = let r : against a ≡ 2 = rw (rule_against, rule_between, e, ne_eqb (edges a) (edges b) (λ q. omega arith)) in omega arith
+      go e d h (larger q p) = let r : against a ≡ 3 = rw (rule_against, rule_between, e, eq-eqb (edges a) (edges b) q, ne_eqb (sizes a) (sizes b) (λ u. omega arith)) in omega arith
+      go e d h (later q p u) = let r : against a ≡ 4 = rw (rule_against, rule_between, e, eq-eqb (edges a) (edges b) q, eq-eqb (sizes a) (sizes b) p) in omega arith
 
   -- it falls out at its own test: alone is left who no test decides against
   under : (k a : ℕ) → 1 ≤ k → Told a → (ltb k (height a) ≡ true → a ≡ b) → against a ≤ k

@@ -1,4 +1,6 @@
 -- Chains of members: a store in one place, and one chain put before another.
+use Rattle.std.specs.List.{sum_by}
+use Rattle.std.proofs.lemmas.List.Sums.{sum_by-cons}
 use mathlib.Core.Path.{◌≡◌, refl, ap, sym, ◌∙◌}
 use mathlib.Core.List.{List, [], ◌∷◌, ◌++◌}
 use Prim.Native.Nat.{ℕ, zero, suc, ◌+◌, ◌-◌, ◌≤◌, ◌<◌}
@@ -6,7 +8,7 @@ use native.Mathlib.Omega.{arith}
 use lib.ListN.{length, get_or, set}
 use lib.Seq.{get_or-set_other}
 use Rattle.laws.proofs.Lists.{Each, none, more, each_head, each_tail, each_imp, each_append, each_left, each_both}
-use Rattle.aggregates.specs.JoinState.{Once, walk, hop, total}
+use Rattle.aggregates.specs.JoinState.{Once, walk, hop}
 use Rattle.aggregates.proofs.NodeLists.{spare, spare_set, each_last}
 
 pub length_walk : (k : ℕ) (w : List ℕ) (cur : ℕ) → length (walk k w cur) ≡ k
@@ -64,13 +66,12 @@ once_append [] ys o p a = p
 once_append (x ∷ xs) ys o p a = (each_append o.0 (each_head a), once_append xs ys o.1 p (each_tail a))
 
 -- different nodes together take up no more than all
-pub total_within : (d : ℕ → ℕ) (l u : List ℕ) → Once l → Each (λ v. v < length u) l → Each (λ v. get_or u v 0 ≡ 0) l → total d l ≤ spare d 0 u
-unfolding total
-total_within d [] u o a z = omega arith
-total_within d (v ∷ l) u o a z =
+pub sum_within : (d : ℕ → ℕ) (l u : List ℕ) → Once l → Each (λ v. v < length u) l → Each (λ v. get_or u v 0 ≡ 0) l → sum_by d l ≤ spare d 0 u
+sum_within d [] u o a z = omega arith
+sum_within d (v ∷ l) u o a z =
     let e : 0 + v ≡ v = omega arith in
     let s : spare d 0 (set u v 1) + d v ≡ spare d 0 u = rw e at (spare_set d 0 u v 1 (each_head a) (each_head z) (omega arith)) in
-    omega (arith, total_within d l (set u v 1) o.1 (rw lib.ListN.length-set (each_tail a)) (keep l o.0 (each_tail z)))
+    omega (arith, sum_by-cons d v l, sum_within d l (set u v 1) o.1 (rw lib.ListN.length-set (each_tail a)) (keep l o.0 (each_tail z)))
   where
     keep : (m : List ℕ) → Each (λ y. y ≡ v → ⊥) m → Each (λ y. get_or u y 0 ≡ 0) m → Each (λ y. get_or (set u v 1) y 0 ≡ 0) m
     keep [] d q = none

@@ -1,15 +1,17 @@
 -- The loops of `tally`, `untally` and `pick`: their invariants and steps.
+use Rattle.std.proofs.lemmas.List.{drop_more}
 use mathlib.Core.Path.{◌≡◌, refl, sym, ◌∙◌}
-use mathlib.Core.List.{List, [], ◌∷◌}
+use mathlib.Core.List.{List, []}
 use Prim.Native.Nat.{ℕ, ◌+◌, ◌≤◌, ◌<◌}
 use native.Mathlib.Omega.{arith}
-use native.Mathlib.Numerals.{add-one}
 use native.Mathlib.Decide.{ℕ_discrete}
 use lib.ListN.{length, get_or, set, drop}
-use lib.Seq.{drop-cons, get_or-set_same, get_or-set_other}
+use lib.Seq.{get_or-set_same, get_or-set_other}
 use mathlib.Core.Bool.{Bool, true, false}
 use borrow.Author.Tests.{eq-eqb, ne_eqb}
 use Rattle.definitions.specs.Groups.{chosen}
+use Rattle.aggregates.specs.Stated.{candidate}
+use Rattle.aggregates.specs.declared.candidate.Candidate.{Candidate}
 use Rattle.aggregates.specs.JoinChoice.{before_by, better, chosen_goes, bump, wipe, at}
 
 -- what holds of an element after a store, by cases on its index
@@ -19,10 +21,6 @@ after_set P w at v k h y n = go (ℕ_discrete k at)
     go : Dec (k ≡ at) → P (get_or (set w at v) k 0)
     go (yes e) = rw (e, get_or-set_same w at v 0 h) (y e)
     go (no d) = rw (get_or-set_other w at k v 0 d) (n d)
-
--- the list from i on begins with its element at i
-pub drop_more : (l : List ℕ) (i : ℕ) → i < length l → drop i l ≡ get_or l i 0 ∷ drop (i + 1) l
-drop_more l i h = rw add-one (drop-cons l i 0 h)
 
 -- the counts so far, and what the names from i on still add
 pub record Tally (names hits₀ hits : List ℕ) (i : ℕ) : Type 0 where
@@ -37,7 +35,7 @@ module _ (names hits₀ : List ℕ) where
       few = λ j. after_set (λ y. y ≤ i + 1) hits (get_or names i 0) (get_or hits (get_or names i 0) 0 + 1) j k
           (λ e. omega (arith, inv.few (get_or names i 0)))
           (λ d. omega (arith, inv.few j));
-      goes = rw (drop_more names i h) at inv.goes;
+      goes = rw (drop_more names i 0 h) at inv.goes;
     }
 
     pub tally_last : drop i names ≡ [] → hits ≡ bump names hits₀
@@ -50,7 +48,7 @@ Wiping names hits₀ hits i = wipe (drop i names) hits ≡ wipe names hits₀
 module _ (names hits₀ hits : List ℕ) (i : ℕ) (inv : Wiping names hits₀ hits i) where
   pub wipe_step : i < length names → Wiping names hits₀ (set hits (get_or names i 0) 0) (i + 1)
   unfolding wipe
-  wipe_step h = rw (drop_more names i h) at inv
+  wipe_step h = rw (drop_more names i 0 h) at inv
 
   pub wipe_last : drop i names ≡ [] → hits ≡ wipe names hits₀
   unfolding wipe
@@ -81,17 +79,33 @@ module _ (e m : ℕ → ℕ) (best a : ℕ) where
       go (no d) = pick (before_by (e a) (e best) (m a) (m best) a best) d refl
 
 -- what `pick` has chosen so far
-pub record Picking (counts hits names : List ℕ) (best i : ℕ) : Type 0 where
-  pub low : best < length hits
-  pub goes : chosen (at hits) (at counts) best (drop i names) ≡ chosen (at hits) (at counts) 0 names
+pub record Picking (counts hits names : List ℕ) (best : Candidate) (i : ℕ) : Type 0 where
+  pub low : best.id < length hits
+  pub edges : best.edges ≡ at hits best.id
+  pub members : best.members ≡ at counts best.id
+  pub goes : chosen (at hits) (at counts) best.id (drop i names) ≡ chosen (at hits) (at counts) 0 names
 
-module _ (counts hits names : List ℕ) (best i : ℕ) (inv : Picking counts hits names best i) where
-  pub pick_step : (best' : ℕ) → i < length names → get_or names i 0 < length hits → best' ≡ better (at hits) (at counts) best (get_or names i 0) → Picking counts hits names best' (i + 1)
-  pick_step best' h k e = record {
-    low = rw e (better_keeps (at hits) (at counts) best (get_or names i 0) (λ x. x < length hits) inv.low k);
-    goes = rw e (sym (chosen_goes (at hits) (at counts) best (get_or names i 0) (drop (i + 1) names)) ∙ (rw (drop_more names i h) at inv.goes));
-  }
+module _ (counts hits names : List ℕ) where
+  module _ (best : Candidate) (i : ℕ) (inv : Picking counts hits names best i) where
+    module _ (a : ℕ) (is : a ≡ get_or names i 0) (h : i < length names) where
+      goes_on : (x : ℕ) → x ≡ better (at hits) (at counts) best.id a → chosen (at hits) (at counts) x (drop (i + 1) names) ≡ chosen (at hits) (at counts) 0 names
+      goes_on x e = rw (e, is) (sym (chosen_goes (at hits) (at counts) best.id (get_or names i 0) (drop (i + 1) names)) ∙ (rw (drop_more names i 0 h) at inv.goes))
 
-  pub pick_last : drop i names ≡ [] → best ≡ chosen (at hits) (at counts) 0 names
-  unfolding chosen
-  pick_last e = rw e at inv.goes
+      compared : before_by (at hits a) best.edges (at counts a) best.members a best.id ≡ before_by (at hits a) (at hits best.id) (at counts a) (at counts best.id) a best.id
+      compared = rw (inv.edges, inv.members) refl
+
+      taken : a < length hits → a ≡ better (at hits) (at counts) best.id a → Picking counts hits names (candidate counts hits a) (i + 1)
+      taken k e = record { low = k; edges = refl; members = refl; goes = goes_on a e }
+
+      pub pick_begins : a < length hits → best.id ≡ 0 → Picking counts hits names (candidate counts hits a) (i + 1)
+      pick_begins k z = taken k (sym (better_first (at hits) (at counts) best.id a z))
+
+      pub pick_takes : a < length hits → (best.id ≡ 0 → ⊥) → before_by (at hits a) best.edges (at counts a) best.members a best.id ≡ true → Picking counts hits names (candidate counts hits a) (i + 1)
+      pick_takes k z t = taken k (sym (better_takes (at hits) (at counts) best.id a z (sym compared ∙ t)))
+
+      pub pick_leaves : (best.id ≡ 0 → ⊥) → before_by (at hits a) best.edges (at counts a) best.members a best.id ≡ false → Picking counts hits names best (i + 1)
+      pick_leaves z t = record { low = inv.low; edges = inv.edges; members = inv.members; goes = goes_on best.id (sym (better_leaves (at hits) (at counts) best.id a z (sym compared ∙ t))) }
+
+    pub pick_last : drop i names ≡ [] → best.id ≡ chosen (at hits) (at counts) 0 names
+    unfolding chosen
+    pick_last e = rw e at inv.goes

@@ -1,4 +1,6 @@
 -- The loop of `gather`: what is in the list of names, with what the rest of the chain names, stays the same.
+use Rattle.std.specs.List.{sum_by}
+use Rattle.std.proofs.lemmas.List.Sums.{sum_by-cons}
 use mathlib.Core.Path.{◌≡◌, refl, sym, ◌∙◌}
 use mathlib.Core.Bool.{Bool, true, false, ◌||◌}
 use mathlib.Core.List.{List, [], ◌∷◌, ◌++◌, append-nil, append_assoc}
@@ -11,7 +13,7 @@ use Rattle.definitions.specs.Groups.{listed}
 use Rattle.laws.proofs.Lists.{Each, each_head, each_tail}
 use Rattle.aggregates.specs.Lists.{Lists}
 use Rattle.aggregates.specs.JoinChoice.{at, others_by, named_by}
-use Rattle.aggregates.specs.JoinState.{Chains, Gathers, members_of, total, walk}
+use Rattle.aggregates.specs.JoinState.{Chains, Gathers, members_of, walk}
 use Rattle.aggregates.proofs.NodeLists.{degree, offset_within, each_part}
 
 branch : (t : Bool) (x y : ℕ) (p q : List ℕ) → x ≡ y → p ≡ q → ◌≡◌ {A = List ℕ} (elim t [ true ↦ p | false ↦ x ∷ p ]) (elim t [ true ↦ q | false ↦ y ∷ q ])
@@ -34,7 +36,7 @@ others_short g ids sizes (x ∷ ws) = elim (eqb (get_or ids x 0) g || eqb (sizes
 -- of the chain's members, `turns` were looked at, and from `cur` on the rest is to come
 pub record Gathering (n : ℕ) (offsets nb ids : List ℕ) (c : Chains) (g : ℕ) (names : List ℕ) (turns cur end : ℕ) : Type 0 where
   pub nodes : Each (λ v. v < n) (walk (at c.counts g - turns) c.next cur)
-  pub room : end + total (degree offsets) (walk (at c.counts g - turns) c.next cur) ≤ length names
+  pub room : end + sum_by (degree offsets) (walk (at c.counts g - turns) c.next cur) ≤ length names
   pub list : take end names ++ named_by (listed offsets nb) g ids (at c.counts) (walk (at c.counts g - turns) c.next cur) ≡ named_by (listed offsets nb) g ids (at c.counts) (members_of c g)
   pub count : end + length (named_by (listed offsets nb) g ids (at c.counts) (walk (at c.counts g - turns) c.next cur)) ≡ length (named_by (listed offsets nb) g ids (at c.counts) (members_of c g))
 
@@ -59,7 +61,7 @@ module _ (n : ℕ) (offsets nb ids : List ℕ) (c : Chains) (g : ℕ) (ok : List
       unfolding walk
       gather_node = each_head nodes'
 
-      room' : end + total (degree offsets) (walk (suc (at c.counts g - (turns + 1))) c.next cur) ≤ length names
+      room' : end + sum_by (degree offsets) (walk (suc (at c.counts g - (turns + 1))) c.next cur) ≤ length names
       room' = rw left_is at inv.room
 
       fits : get_or offsets (suc cur) 0 ≤ length nb
@@ -79,12 +81,12 @@ module _ (n : ℕ) (offsets nb ids : List ℕ) (c : Chains) (g : ℕ) (ok : List
       gather_groups = each_part (λ v. get_or ids v 0 < length c.counts) (get_or offsets cur 0) (get_or offsets (suc cur) 0) nb fits (λ k h. asks.sizes (get_or nb k 0) (ok.within k h))
 
       pub gather_space : end + length (listed offsets nb cur) ≤ length names
-      unfolding walk total
-      gather_space = omega (arith, room', long)
+      unfolding walk
+      gather_space = omega (arith, room', long, sum_by-cons (degree offsets) cur (walk (at c.counts g - (turns + 1)) c.next (get_or c.next cur 0)))
 
       pub gather_step : (names' : List ℕ) (end' : ℕ) → end' ≡ end + length (others_by g ids (at c.counts) (listed offsets nb cur)) → take end' names' ≡ take end names ++ others_by g ids (at c.counts) (listed offsets nb cur) → length names' ≡ length names
           → Gathering n offsets nb ids c g names' (turns + 1) (get_or c.next cur 0) end'
-      unfolding walk total named_by
+      unfolding walk named_by
       gather_step names' end' e q same =
           let new = others_by g ids (at c.counts) (listed offsets nb cur) in
           let short : length new ≤ degree offsets cur = omega (arith, others_short g ids (at c.counts) (listed offsets nb cur), long) in
@@ -93,7 +95,7 @@ module _ (n : ℕ) (offsets nb ids : List ℕ) (c : Chains) (g : ℕ) (ok : List
           let count' : end + length (new ++ tail) ≡ length (named_by (listed offsets nb) g ids (at c.counts) (members_of c g)) = rw left_is at inv.count in
           record {
             nodes = each_tail nodes';
-            room = omega (arith, room', same);
+            room = omega (arith, room', same, sum_by-cons (degree offsets) cur (walk (at c.counts g - (turns + 1)) c.next (get_or c.next cur 0)));
             list = rw q (append_assoc (take end names) new tail ∙ list');
             count = omega (arith, count', length-append new tail);
           }

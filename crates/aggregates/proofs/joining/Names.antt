@@ -8,7 +8,7 @@ use borrow.Author.Tests.{eq-eqb, ne_eqb}
 use lib.ListN.{length, get_or, set, take, drop, length-set}
 use lib.Seq.{take-suc-set, append_snoc}
 use Rattle.aggregates.specs.JoinChoice.{at, others_by}
-use Rattle.aggregates.proofs.joining.Counting.{drop_more}
+use Rattle.std.proofs.lemmas.List.{drop_more}
 
 module _ (g : ℕ) (ids : List ℕ) (sizes : ℕ → ℕ) (w : ℕ) (ws : List ℕ) where
   others_same : get_or ids w 0 ≡ g → others_by g ids sizes (w ∷ ws) ≡ others_by g ids sizes ws
@@ -41,7 +41,7 @@ module _ (list ids counts names₀ : List ℕ) (g tail : ℕ) where
 
       skips : others_by g ids (at counts) (get_or list i 0 ∷ drop (i + 1) list) ≡ others_by g ids (at counts) (drop (i + 1) list) → Naming list ids counts names₀ g tail names end (i + 1)
       skips e =
-          let step : others_by g ids (at counts) (drop i list) ≡ others_by g ids (at counts) (drop (i + 1) list) = ap (others_by g ids (at counts)) (drop_more list i h) ∙ e in
+          let step : others_by g ids (at counts) (drop i list) ≡ others_by g ids (at counts) (drop (i + 1) list) = ap (others_by g ids (at counts)) (drop_more list i 0 h) ∙ e in
           record { space = omega (arith, inv.space); goes = rw (← step) inv.goes; count = rw (← step) inv.count }
 
       pub naming_same : o ≡ g → Naming list ids counts names₀ g tail names end (i + 1)
@@ -53,7 +53,7 @@ module _ (list ids counts names₀ : List ℕ) (g tail : ℕ) where
       pub naming_takes : (o ≡ g → ⊥) → (at counts o ≡ 0 → ⊥) → Naming list ids counts names₀ g tail (set names end o) (end + 1) (i + 1)
       naming_takes d e =
           let rest = others_by g ids (at counts) (drop (i + 1) list) in
-          let step : others_by g ids (at counts) (drop i list) ≡ o ∷ rest = ap (others_by g ids (at counts)) (drop_more list i h) ∙ others_takes g ids (at counts) (get_or list i 0) (drop (i + 1) list) d e in
+          let step : others_by g ids (at counts) (drop i list) ≡ o ∷ rest = ap (others_by g ids (at counts)) (drop_more list i 0 h) ∙ others_takes g ids (at counts) (get_or list i 0) (drop (i + 1) list) d e in
           record {
             space = simp length-set (omega (arith, inv.space));
             goes = rw (add-one end, take-suc-set names end o (omega (arith, inv.space))) (append_snoc (take end names) o rest ∙ rw step at inv.goes);

@@ -29,19 +29,19 @@ no_joining [] e = refl
 no_joining (j ∷ js) e = absurd (omega arith)
 
 -- what is logged further joinings go behind
-log_more : (lists : ℕ → List ℕ) (s₀ s : Groups) (made js : List Joining) (before joins : ℕ) (log₀ log : List ℕ) → joins ≡ length made → s ≡ replay made s₀ → log ≡ noted (3 * before) (log_of lists no_anchor s₀ made) log₀ → noted (3 * (before + joins)) (log_of lists no_anchor s js) log ≡ noted (3 * before) (log_of lists no_anchor s₀ (made ++ js)) log₀
-log_more lists s₀ s made js before joins log₀ log count state written =
-    let place : 3 * (before + joins) ≡ 3 * before + length (log_of lists no_anchor s₀ made) = omega (arith, count, length_log lists no_anchor s₀ made) in
+log_more : (lists : ℕ → List ℕ) (s₀ s : Groups) (made js : List Joining) (before total : ℕ) (log₀ log : List ℕ) → total ≡ before + length made → s ≡ replay made s₀ → log ≡ noted (3 * before) (log_of lists no_anchor s₀ made) log₀ → noted (3 * total) (log_of lists no_anchor s js) log ≡ noted (3 * before) (log_of lists no_anchor s₀ (made ++ js)) log₀
+log_more lists s₀ s made js before total log₀ log count state written =
+    let place : 3 * total ≡ 3 * before + length (log_of lists no_anchor s₀ made) = omega (arith, count, length_log lists no_anchor s₀ made) in
     rw (place, state, written, log_append lists no_anchor s₀ made js) (sym (noted_append (3 * before) (log_of lists no_anchor s₀ made) (log_of lists no_anchor (replay made s₀) js) log₀))
 
--- within a round that began with the groups s₀ and the log log₀, of `before` joinings
-pub record InRound (n groups : ℕ) (offsets nb : List ℕ) (s₀ : Groups) (floor : ℕ) (log₀ : List ℕ) (before : ℕ) (ids : List ℕ) (c : Chains) (log : List ℕ) (joins g : ℕ) : Type 0 where
+-- within a round that began with the groups s₀ and the log log₀, of `before` joinings, after `total`
+pub record InRound (n groups : ℕ) (offsets nb : List ℕ) (s₀ : Groups) (floor : ℕ) (log₀ : List ℕ) (before : ℕ) (ids : List ℕ) (c : Chains) (log : List ℕ) (total g : ℕ) : Type 0 where
   pub lo : 1 ≤ g
   pub hi : g ≤ suc groups
-  pub few : joins < g
+  pub few : total < before + g
   pub rep : Rep n groups offsets nb ids c
   pub made : List Joining
-  pub count : joins ≡ length made
+  pub count : total ≡ before + length made
   pub none : size_in (state_of groups ids c) 0 ≡ 0
   pub written : log ≡ noted (3 * before) (log_of (listed offsets nb) no_anchor s₀ made) log₀
   pub state : state_of groups ids c ≡ replay made s₀
@@ -67,7 +67,7 @@ module _ (n groups : ℕ) (offsets nb : List ℕ) (s₀ : Groups) (floor : ℕ) 
       let most : alive (state_of groups ids c).members ≤ suc groups = omega (arith, alive_most (state_of groups ids c).members, length_tab (members_of c) (suc groups)) in
       record { rep = r; fuel = suc groups; enough = most; few = omega (arith, most); made = []; count = refl; none = rw is at none; written = refl; state = sym is; goes = rw is refl }
 
-  pub first_turn : (before : ℕ) (ids : List ℕ) (c : Chains) → s₀ ≡ state_of groups ids c → Rep n groups offsets nb ids c → size_in s₀ 0 ≡ 0 → InRound n groups offsets nb s₀ floor log₀ before ids c log₀ 0 1
+  pub first_turn : (before : ℕ) (ids : List ℕ) (c : Chains) → s₀ ≡ state_of groups ids c → Rep n groups offsets nb ids c → size_in s₀ 0 ≡ 0 → InRound n groups offsets nb s₀ floor log₀ before ids c log₀ before 1
   unfolding replay log_of noted
   first_turn before ids c is r none = let e : suc groups - 1 ≡ groups = omega arith in record {
     lo = omega arith;
@@ -75,15 +75,15 @@ module _ (n groups : ℕ) (offsets nb : List ℕ) (s₀ : Groups) (floor : ℕ) 
     few = omega arith;
     rep = r;
     made = [];
-    count = refl;
+    count = omega arith;
     none = rw is at none;
     written = refl;
     state = sym is;
     goes = rw (e, is) refl;
   }
 
-  pub next_turn : (before : ℕ) (ids : List ℕ) (c : Chains) (log ids' : List ℕ) (c' : Chains) (log' : List ℕ) (joins g r : ℕ) → InRound n groups offsets nb s₀ floor log₀ before ids c log joins g → g ≤ groups → Turned n groups offsets nb floor g ids c ids' c' r → log' ≡ turn_log (listed offsets nb) floor (state_of groups ids c) g (before + joins) log → InRound n groups offsets nb s₀ floor log₀ before ids' c' log' (joins + r) (g + 1)
-  next_turn before ids c log ids' c' log' joins g r inv h t logged =
+  pub next_turn : (before : ℕ) (ids : List ℕ) (c : Chains) (log ids' : List ℕ) (c' : Chains) (log' : List ℕ) (total g r : ℕ) → InRound n groups offsets nb s₀ floor log₀ before ids c log total g → g ≤ groups → Turned n groups offsets nb floor g ids c ids' c' r → log' ≡ turn_log (listed offsets nb) floor (state_of groups ids c) g total log → InRound n groups offsets nb s₀ floor log₀ before ids' c' log' (total + r) (g + 1)
+  next_turn before ids c log ids' c' log' total g r inv h t logged =
       let js = turn_of (listed offsets nb) floor (state_of groups ids c) g in
       let left : suc groups - g ≡ suc (suc groups - suc g) = omega arith in
       let begun : inv.made ++ round_from (listed offsets nb) no_anchor floor (suc (suc groups - suc g)) g (state_of groups ids c) ≡ round_from (listed offsets nb) no_anchor floor groups 1 s₀ = rw left at inv.goes in
@@ -95,7 +95,7 @@ module _ (n groups : ℕ) (offsets nb : List ℕ) (s₀ : Groups) (floor : ℕ) 
         made = inv.made ++ js;
         count = omega (arith, inv.count, t.0, length-append inv.made js);
         none = rw t.1.0 (none_turn (listed offsets nb) floor (state_of groups ids c) g inv.lo inv.none);
-        written = logged ∙ log_more (listed offsets nb) s₀ (state_of groups ids c) inv.made js before joins log₀ log inv.count inv.state inv.written;
+        written = logged ∙ log_more (listed offsets nb) s₀ (state_of groups ids c) inv.made js before total log₀ log inv.count inv.state inv.written;
         state = t.1.0 ∙ ap (replay js) inv.state ∙ sym (replay_append inv.made js s₀);
         goes = rw (add-one g, t.1.0)
             (append_assoc inv.made js (round_from (listed offsets nb) no_anchor floor (suc groups - suc g) (suc g) (replay js (state_of groups ids c)))
@@ -103,35 +103,34 @@ module _ (n groups : ℕ) (offsets nb : List ℕ) (s₀ : Groups) (floor : ℕ) 
       }
 
   -- what a whole round did
-  module _ (ids : List ℕ) (c : Chains) (log ids' : List ℕ) (c' : Chains) (log' : List ℕ) (total joins g : ℕ) (out : Between n groups offsets nb s₀ floor log₀ ids c log total) (inv : InRound n groups offsets nb (state_of groups ids c) floor log total ids' c' log' joins g) (over : groups < g) where
+  module _ (ids : List ℕ) (c : Chains) (log ids' : List ℕ) (c' : Chains) (log' : List ℕ) (before total g : ℕ) (out : Between n groups offsets nb s₀ floor log₀ ids c log before) (inv : InRound n groups offsets nb (state_of groups ids c) floor log before ids' c' log' total g) (over : groups < g) where
     whole : inv.made ≡ round_from (listed offsets nb) no_anchor floor groups 1 (state_of groups ids c)
     unfolding round_from
     whole = let none : suc groups - g ≡ 0 = omega (arith, inv.hi) in sym (append-nil inv.made) ∙ (rw none at inv.goes)
 
-    lowers : joins + alive (state_of groups ids' c').members ≡ alive (state_of groups ids c).members
+    lowers : total + alive (state_of groups ids' c').members ≡ before + alive (state_of groups ids c).members
     lowers =
         let a = rw (← whole) at (round_lowers (listed offsets nb) no_anchor floor groups 1 (state_of groups ids c)) in
         omega (arith, inv.count, ap (λ s. alive s.members) inv.state, a)
 
-    pub round_less : (joins ≡ 0 → ⊥) → alive (state_of groups ids' c').members < alive (state_of groups ids c).members
-    round_less z = omega (arith, lowers)
+    pub round_less : (total ≡ before → ⊥) → alive (state_of groups ids' c').members < alive (state_of groups ids c).members
+    round_less z = omega (arith, lowers, inv.count)
 
-    pub next_round : (joins ≡ 0 → ⊥) → Between n groups offsets nb s₀ floor log₀ ids' c' log' (total + joins)
+    pub next_round : (total ≡ before → ⊥) → Between n groups offsets nb s₀ floor log₀ ids' c' log' total
     next_round z =
         let js = inv.made in
-        let f : out.fuel ≡ suc (out.fuel - 1) = omega (arith, lowers, out.enough) in
+        let f : out.fuel ≡ suc (out.fuel - 1) = omega (arith, lowers, out.enough, inv.count) in
         let some : 0 < length js = omega (arith, inv.count, z) in
-        let none_before : 0 + total ≡ total = omega arith in
         let begun : out.made ++ joinings_from (listed offsets nb) no_anchor floor groups (suc (out.fuel - 1)) (state_of groups ids c) ≡ joinings_from (listed offsets nb) no_anchor floor groups (suc groups) s₀ = rw f at out.goes in
         record {
           rep = inv.rep;
           fuel = out.fuel - 1;
-          enough = omega (arith, lowers, out.enough);
+          enough = omega (arith, lowers, out.enough, inv.count);
           few = omega (arith, lowers, out.few);
           made = out.made ++ js;
           count = omega (arith, out.count, inv.count, length-append out.made js);
           none = inv.none;
-          written = inv.written ∙ (rw none_before at (log_more (listed offsets nb) s₀ (state_of groups ids c) out.made js 0 total log₀ log out.count out.state out.written));
+          written = inv.written ∙ log_more (listed offsets nb) s₀ (state_of groups ids c) out.made js 0 before log₀ log (omega (arith, out.count)) out.state out.written;
           state = inv.state ∙ ap (replay js) out.state ∙ sym (replay_append out.made js s₀);
           goes = rw inv.state
               (append_assoc out.made js (joinings_from (listed offsets nb) no_anchor floor groups (out.fuel - 1) (replay js (state_of groups ids c)))
@@ -139,7 +138,7 @@ module _ (n groups : ℕ) (offsets nb : List ℕ) (s₀ : Groups) (floor : ℕ) 
         }
 
     -- no joining: the rounds are over
-    pub last_round : joins ≡ 0 → (ids₀ : List ℕ) → s₀ ≡ groups_of ids₀ groups → Joined offsets nb groups floor ids₀ ids' log₀ log' total
+    pub last_round : total ≡ before → (ids₀ : List ℕ) → s₀ ≡ groups_of ids₀ groups → Joined offsets nb groups floor ids₀ ids' log₀ log' total
     unfolding state_of replay log_of noted
     last_round z ids₀ grown =
         let none : inv.made ≡ [] = no_joining inv.made (omega (arith, inv.count)) in
@@ -152,6 +151,6 @@ module _ (n groups : ℕ) (offsets nb : List ℕ) (s₀ : Groups) (floor : ℕ) 
         let written : log' ≡ noted 0 (log_of (listed offsets nb) no_anchor s₀ (joinings_from (listed offsets nb) no_anchor floor groups (suc groups) s₀)) log₀ = idle-log ∙ out.written ∙ ap (λ js. noted 0 (log_of (listed offsets nb) no_anchor s₀ js) log₀) all in
         record {
           groups_after = after ∙ ap (λ x. (replay (joinings_from (listed offsets nb) no_anchor floor groups (suc groups) x) x).of) grown;
-          number = out.count ∙ ap length all ∙ ap (λ x. length (joinings_from (listed offsets nb) no_anchor floor groups (suc groups) x)) grown;
+          number = z ∙ out.count ∙ ap length all ∙ ap (λ x. length (joinings_from (listed offsets nb) no_anchor floor groups (suc groups) x)) grown;
           written = written ∙ ap (λ x. noted 0 (log_of (listed offsets nb) no_anchor x (joinings_from (listed offsets nb) no_anchor floor groups (suc groups) x)) log₀) grown;
         }

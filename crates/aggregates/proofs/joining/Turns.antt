@@ -1,4 +1,6 @@
 -- A group's turn, over the nodes' groups and the work list apart: what the choice of the definitions is in their terms.
+use Rattle.std.specs.List.{sum_by}
+use Rattle.std.proofs.lemmas.List.Sums.{sum_by-cons}
 use mathlib.Core.Path.{◌≡◌, refl, ap, sym, ◌∙◌}
 use mathlib.Core.Bool.{◌||◌}
 use mathlib.Core.List.{List, [], ◌∷◌, ◌++◌}
@@ -12,12 +14,12 @@ use Rattle.definitions.specs.Groups.{Groups, Joining, nodes_in, size_in, edges_t
 use Rattle.laws.proofs.Tests.{both_false}
 use Rattle.laws.proofs.Lists.{Each, none, more, each_head, each_tail, each_imp, each_append, get_d_tab}
 use Rattle.aggregates.specs.JoinChoice.{at, others_by, named_by, named_is}
-use Rattle.aggregates.specs.JoinState.{Chains, Once, total, members_of, state_of, turn_of, Rep}
+use Rattle.aggregates.specs.JoinState.{Chains, Once, members_of, state_of, turn_of, Rep}
 use Rattle.aggregates.proofs.Stops.{Other, by_test, chosen_keeps}
 use Rattle.aggregates.proofs.NodeLists.{spare, degree, spare_within, each_part, offset_within}
 use Rattle.aggregates.proofs.joining.Together.{chosen_cong}
 use Rattle.aggregates.proofs.joining.Counting.{better_keeps}
-use Rattle.aggregates.proofs.joining.Chains.{length_walk, total_within, once_append}
+use Rattle.aggregates.proofs.joining.Chains.{length_walk, sum_within, once_append}
 use Rattle.aggregates.proofs.joining.Edges.{others_cong, others_short}
 
 module _ (lists : ℕ → List ℕ) (floor : ℕ) (s : Groups) (g : ℕ) where
@@ -53,14 +55,13 @@ spare_ones v [] = omega arith
 spare_ones v (zero ∷ xs) = omega (arith, spare_ones (suc v) xs)
 spare_ones v (suc x ∷ xs) = omega (arith, spare_ones (suc v) xs)
 
-total_ones : (l : List ℕ) → total (λ _. 1) l ≡ length l
-unfolding total
-total_ones [] = refl
-total_ones (v ∷ l) = omega (arith, total_ones l)
+sum_ones : (l : List ℕ) → sum_by (λ _. 1) l ≡ length l
+sum_ones [] = refl
+sum_ones (v ∷ l) = omega (arith, sum_by-cons (λ _. 1) v l, sum_ones l)
 
 once_short : (n : ℕ) (l : List ℕ) → Once l → Each (λ v. v < n) l → length l ≤ n
 once_short n l o a =
-    omega (arith, total_ones l, total_within (λ _. 1) l (blank n) o (rw (length_blank n) a) (each_blank n l a), spare_ones 0 (blank n), length_blank n)
+    omega (arith, sum_ones l, sum_within (λ _. 1) l (blank n) o (rw (length_blank n) a) (each_blank n l a), spare_ones 0 (blank n), length_blank n)
 
 -- ---- WHAT THE LISTS OF SOME NODES NAME
 
@@ -105,8 +106,8 @@ module _ (n groups : ℕ) (offsets nb ids : List ℕ) (c : Chains) (rep : Rep n 
   pub low_members : (o : ℕ) → o ≤ groups → Each (λ v. v < n) (members_of c o)
   low_members o h = each_imp (λ v p. p.0) (rep.members o h)
 
-  named_short : (g : ℕ) (sizes : ℕ → ℕ) (vs : List ℕ) → Each (λ v. v < n) vs → length (named_by (listed offsets nb) g ids sizes vs) ≤ total (degree offsets) vs
-  unfolding named_by total listed
+  named_short : (g : ℕ) (sizes : ℕ → ℕ) (vs : List ℕ) → Each (λ v. v < n) vs → length (named_by (listed offsets nb) g ids sizes vs) ≤ sum_by (degree offsets) vs
+  unfolding named_by listed
   named_short g sizes [] a = omega arith
   named_short g sizes (v ∷ vs) a = omega (
     arith,
@@ -114,12 +115,13 @@ module _ (n groups : ℕ) (offsets nb ids : List ℕ) (c : Chains) (rep : Rep n 
     others_short g ids sizes (slice (get_or offsets v 0) (get_or offsets (suc v) 0) nb),
     length-slice (get_or offsets v 0) (get_or offsets (suc v) 0) nb (offset_within n offsets nb rep.lists (suc v) (each_head a)),
     named_short g sizes vs (each_tail a),
+    sum_by-cons (degree offsets) v vs,
   )
 
-  pub edges_within : (g : ℕ) → g ≤ groups → total (degree offsets) (members_of c g) ≤ length nb
+  pub edges_within : (g : ℕ) → g ≤ groups → sum_by (degree offsets) (members_of c g) ≤ length nb
   edges_within g hg = omega (
     arith,
-    total_within (degree offsets) (members_of c g) (blank n) (rep.once g hg) (rw (length_blank n) (low_members g hg)) (each_blank n (members_of c g) (low_members g hg)),
+    sum_within (degree offsets) (members_of c g) (blank n) (rep.once g hg) (rw (length_blank n) (low_members g hg)) (each_blank n (members_of c g) (low_members g hg)),
     spare_within n offsets nb rep.lists (blank n) (length_blank n),
   )
 

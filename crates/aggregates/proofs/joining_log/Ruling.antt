@@ -1,33 +1,14 @@
 -- The scan of `last_rule`, and that `rule_of` compares by edges and members.
-use mathlib.Core.Path.{◌≡◌, refl, ap, sym, ◌∙◌}
+use mathlib.Core.Path.{◌≡◌, refl, ap, ◌∙◌}
 use mathlib.Core.List.{List, [], ◌∷◌}
 use Prim.Native.Nat.{ℕ, ◌+◌, ◌<◌, max}
-use native.Mathlib.Decide.{ℕ_discrete}
-use borrow.Author.Tests.{eq-eqb, ne_eqb}
 use lib.ListN.{length, get_or, drop}
 use Rattle.definitions.specs.Groups.{edges_to}
 use Rattle.laws.proofs.Lists.{Each, each_head, each_tail, each_any}
 use Rattle.aggregates.specs.JoinChoice.{bump, at}
 use Rattle.aggregates.specs.Log.{Rules, rule_against, rule_by}
-use Rattle.aggregates.proofs.joining.Counting.{drop_more}
+use Rattle.std.proofs.lemmas.List.{drop_more}
 use Rattle.aggregates.proofs.joining.Together.{edges_counted}
-
-module _ (e m : ℕ → ℕ) (b a : ℕ) where
-  pub against_same : a ≡ b → rule_against e m b a ≡ 1
-  unfolding rule_against
-  against_same z = rw (rule_against, eq-eqb a b z)
-
-  pub against_edges : (a ≡ b → ⊥) → (e a ≡ e b → ⊥) → rule_against e m b a ≡ 2
-  unfolding rule_against
-  against_edges d x = rw (rule_against, ne_eqb a b d, ne_eqb (e a) (e b) x)
-
-  pub against_members : (a ≡ b → ⊥) → e a ≡ e b → (m a ≡ m b → ⊥) → rule_against e m b a ≡ 3
-  unfolding rule_against
-  against_members d x y = rw (rule_against, ne_eqb a b d, eq-eqb (e a) (e b) x, ne_eqb (m a) (m b) y)
-
-  pub against_id : (a ≡ b → ⊥) → e a ≡ e b → m a ≡ m b → rule_against e m b a ≡ 4
-  unfolding rule_against
-  against_id d x y = rw (rule_against, ne_eqb a b d, eq-eqb (e a) (e b) x, eq-eqb (m a) (m b) y)
 
 -- the rule over the groups looked at so far: what is still to come gives the same
 abbrev pub Ruling : List ℕ → List ℕ → List ℕ → ℕ → ℕ → ℕ → Type 0
@@ -36,7 +17,7 @@ Ruling counts hits names b rule i = rule_by (at hits) (at counts) b rule (drop i
 module _ (counts hits names : List ℕ) (b rule i : ℕ) (inv : Ruling counts hits names b rule i) where
   pub rule_step : (rule' : ℕ) → i < length names → rule' ≡ max rule (rule_against (at hits) (at counts) b (get_or names i 0)) → Ruling counts hits names b rule' (i + 1)
   unfolding rule_by
-  rule_step rule' h e = rw e (rw (drop_more names i h) at inv)
+  rule_step rule' h e = rw e (rw (drop_more names i 0 h) at inv)
 
   pub rule_last : drop i names ≡ [] → rule ≡ rule_by (at hits) (at counts) b 1 names
   unfolding rule_by
@@ -45,13 +26,8 @@ module _ (counts hits names : List ℕ) (b rule i : ℕ) (inv : Ruling counts hi
 -- edges and members that agree give the same rule
 module _ (P : ℕ → Type 0) (e m e' m' : ℕ → ℕ) (same-e : (x : ℕ) → P x → e x ≡ e' x) (same-m : (x : ℕ) → P x → m x ≡ m' x) (b : ℕ) (p : P b) where
   against_cong : (a : ℕ) → P a → rule_against e m b a ≡ rule_against e' m' b a
-  against_cong a q = go (ℕ_discrete a b) (ℕ_discrete (e' a) (e' b)) (ℕ_discrete (m' a) (m' b))
-    where
-      go : Dec (a ≡ b) → Dec (e' a ≡ e' b) → Dec (m' a ≡ m' b) → rule_against e m b a ≡ rule_against e' m' b a
-      go (yes z) x y = against_same e m b a z ∙ sym (against_same e' m' b a z)
-      go (no d) (no x) y = against_edges e m b a d (λ h. x (sym (same-e a q) ∙ h ∙ same-e b p)) ∙ sym (against_edges e' m' b a d x)
-      go (no d) (yes x) (no y) = against_members e m b a d (same-e a q ∙ x ∙ sym (same-e b p)) (λ h. y (sym (same-m a q) ∙ h ∙ same-m b p)) ∙ sym (against_members e' m' b a d x y)
-      go (no d) (yes x) (yes y) = against_id e m b a d (same-e a q ∙ x ∙ sym (same-e b p)) (same-m a q ∙ y ∙ sym (same-m b p)) ∙ sym (against_id e' m' b a d x y)
+  unfolding rule_against
+  against_cong a q = rw (same-e a q, same-e b p, same-m a q, same-m b p) refl
 
   pub rule_cong : (r : ℕ) (l : List ℕ) → Each P l → rule_by e m b r l ≡ rule_by e' m' b r l
   unfolding rule_by

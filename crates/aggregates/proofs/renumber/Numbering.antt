@@ -11,7 +11,8 @@ use lib.ListN.{length, get_or, set, take, drop, length-append}
 use lib.Seq.{drop-cons, take-suc-set, append_snoc, get_or-set_same, get_or-set_other, take-length, drop-length}
 use Rattle.definitions.specs.Groups.{firsts, renumbered, place}
 use Rattle.aggregates.specs.JoinChoice.{Zeros}
-use Rattle.aggregates.proofs.Appearance.{split, has, firsts_old, firsts_new, numbers_from, numbers_old, numbers_new, renumbered_ids, renumbered_count, mark, mark_empty, unmarked, marked, mark_new, mark_other}
+use Rattle.aggregates.proofs.Stops.{by_test}
+use Rattle.aggregates.proofs.Appearance.{has, firsts_old, firsts_new, numbers_from, numbers_old, numbers_new, renumbered_ids, renumbered_count, mark, mark_empty, unmarked, marked, mark_new, mark_other}
 
 pub record Numbering (ids₀ ids table : List ℕ) (count v : ℕ) : Type 0 where
   pub seen : List ℕ
@@ -79,7 +80,7 @@ module _ (ids₀ : List ℕ) where
             }
 
         marks_after : has x inv.seen ≡ false → (y : ℕ) → y < length table → get_or (set table x (count + 1)) y 0 ≡ mark y (inv.seen ++ (x ∷ []))
-        marks_after m y q = split (eqb y x)
+        marks_after m y q = by_test (eqb y x)
             (λ e.
             let s : y ≡ x = eqb-true y x e in
             let r : length inv.seen ≡ count = sym inv.is in

@@ -3,4 +3,4 @@ use Rattle.aggregates.proofs.growth.Pushing.{Pushing}
 use Rattle.aggregates.proofs.growth.push_free.Given as goal
 
 abbrev pub invariant-loop-u : goal.invariant-loop-u
-invariant-loop-u l = Pushing l.list l.initial.ids l.initial.queue l.g l.tail l.room l.ids l.queue l.end l.left l.u-index
+invariant-loop-u l = Pushing l.list l.initial.ids l.initial.queue l.g l.tail l.size l.ids l.queue l.end l.u-index

@@ -7,7 +7,7 @@ use Rattle.aggregates.proofs.joining.join_rounds.Given as goal
 
 abbrev pub invariant-loop-g : goal.invariant-loop-g
 invariant-loop-g l = record {
-  turns : InRound l.lists.nodes l.groups l.lists.offsets.now l.lists.neighbours.now (state_of l.groups l.initial.ids (chains l.initial.next l.initial.first l.initial.counts)) l.floor l.initial.log l.made l.ids (chains l.next l.first l.counts) l.log l.joins l.g;
+  turns : InRound l.lists.nodes l.groups l.lists.offsets.now l.lists.neighbours.now (state_of l.groups l.initial.ids (chains l.initial.next l.initial.first l.initial.counts)) l.floor l.initial.log l.initial.made l.ids (chains l.next l.first l.counts) l.log l.made l.g;
   zeros : Zeros l.hits;
 }
 

@@ -18,4 +18,4 @@ unfolding listed
 returns c =
     let s = c.args.self.now in
     let rises : get_or s.offsets.now c.args.v 0 ≤ get_or s.offsets.now (c.args.v + 1) 0 = rw (add-one c.args.v) (s.fit.rises c.args.v c.requires) in
-    rw (← add-one c.args.v) (part_is _ _ _ rises (offset_within s.nodes s.offsets.now s.neighbours.now s.fit (c.args.v + 1) (omega arith)))
+    rw (← add-one c.args.v) (part_is _ _ _ rises)
