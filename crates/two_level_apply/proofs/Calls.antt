@@ -1,5 +1,5 @@
 -- The calls' own checks, one after the other, and what they leave.
-use Rattle.std.specs.Prelude.{Err, Ok}
+use Rattle.std.specs.Prelude.{Err, Ok, Result}
 use Prim.Native.Nat.{ℕ, zero, suc, ◌+◌, ◌-◌, ◌*◌, ◌<◌, ◌≤◌}
 use mathlib.Core.Path.{◌≡◌, refl, ap, sym, ◌∙◌}
 use mathlib.Core.Bool.{true, false}
@@ -12,7 +12,7 @@ use lib.Ieee.{Float}
 use borrow.Author.Tests.{eq-eqb, ne_eqb, le-leb, lt-leb}
 use Rattle.definitions.specs.Lists.{tab, padded}
 use Rattle.definitions.specs.Numbers.{◌*ᶠ◌, zeroᶠ, summed}
-use Rattle.definitions.specs.Refusal.{Outcome, refused, done, require, ◌>>=◌, keeps_all, result_left, work_left, cause_of}
+use Rattle.definitions.specs.Refusal.{refused, done, require, ◌>>=◌, keeps_all, result_left, work_left, cause_of}
 use Rattle.definitions.specs.Answers.{answer_of}
 use Rattle.definitions.specs.Coarse.{coarse_length, coarse_solve, entry_in}
 use Rattle.definitions.specs.Fits.{setup_fits}
@@ -62,60 +62,47 @@ module _ (n c : ℕ) (sol w : List Float) (l : length sol ≡ c) (h : c ≤ n) (
   pub padded_cleared : replicate (length (take c w)) zeroᶠ ++ drop c w ≡ replicate n zeroᶠ
   padded_cleared = let z : c + (n - c) ≡ n = omega arith in rw (padded_front, l, padded_after) (zeros_join c (n - c) ∙ rw z)
 
--- ---- the checks of apply
-
-module _ (s : Setup) (ints : List ℕ) (floats r : List Float) (room workRoom : ℕ) where
-  pub residual_wrong : (length r ≡ s.rows → ⊥) → apply_call s ints floats r room workRoom ≡ refused (WrongLength s.rows (length r))
-  unfolding apply_call require ◌>>=◌
-  residual_wrong h = rw (ne_eqb (length r) s.rows h)
-
-  pub correction_wrong : length r ≡ s.rows → (room ≡ s.rows → ⊥) → apply_call s ints floats r room workRoom ≡ refused (WrongLength s.rows room)
-  unfolding apply_call require ◌>>=◌
-  correction_wrong h k = rw (eq-eqb (length r) s.rows h, ne_eqb room s.rows k)
-
-  pub misfit : length r ≡ s.rows → room ≡ s.rows → setup_fits s ints floats ≡ false → apply_call s ints floats r room workRoom ≡ refused SetupMisfit
-  unfolding apply_call require ◌>>=◌
-  misfit h k f = rw (eq-eqb (length r) s.rows h, eq-eqb room s.rows k, f)
-
-  pub work_short : length r ≡ s.rows → room ≡ s.rows → setup_fits s ints floats ≡ true → workRoom < 2 * s.coarse → apply_call s ints floats r room workRoom ≡ refused ListTooShort
-  unfolding apply_call require ◌>>=◌
-  work_short h k f l = rw (eq-eqb (length r) s.rows h, eq-eqb room s.rows k, f, lt-leb (2 * s.coarse) workRoom l)
-
-  pub accepted : length r ≡ s.rows → room ≡ s.rows → setup_fits s ints floats ≡ true → 2 * s.coarse ≤ workRoom → apply_call s ints floats r room workRoom ≡ done (applied s ints floats r)
-  unfolding apply_call require ◌>>=◌
-  accepted h k f l = rw (eq-eqb (length r) s.rows h, eq-eqb room s.rows k, f, le-leb (2 * s.coarse) workRoom l)
-
--- ---- what is left
+-- ---- the checks of apply, one after the other: the answer, and what the two lists hold
 
 applied_length : (s : Setup) (ints : List ℕ) (floats r : List Float) → length (applied s ints floats r) ≡ s.rows
 unfolding applied
 applied_length s ints floats r = length_tab _ s.rows
 
 module _ (s : Setup) (ints : List ℕ) (floats r lent work : List Float) where
-  abbrev call : Outcome (List Float)
-  call = apply_call s ints floats r (length lent) (length work)
+  abbrev pub Left : Result (Unit {0}) Refusal → List Float → List Float → Type 0
+  Left x z w =
+      (x ≡ answer_of (apply_call s ints floats r (length lent) (length work))) × (z ≡ apply_left s ints floats r lent (length work)) × (w ≡ apply_work_left s ints floats r (length lent) work)
 
   -- a refusal that keeps all
-  pub refused_call : (q : Refusal) → keeps_all q ≡ true → apply_call s ints floats r (length lent) (length work) ≡ refused q
-      → (Err q ≡ answer_of (apply_call s ints floats r (length lent) (length work))) × (lent ≡ apply_left s ints floats r lent (length work)) × (work ≡ apply_work_left s ints floats r (length lent) work)
+  kept : (q : Refusal) → keeps_all q ≡ true → apply_call s ints floats r (length lent) (length work) ≡ refused q → Left (Err q) lent work
   unfolding answer_of apply_left apply_work_left result_left work_left
-  refused_call q k e = (rw e, rw (e, result_left, k), rw (e, work_left, k))
+  kept q k e = (rw e, rw (e, result_left, k), rw (e, work_left, k))
 
-  pub done_call : (z w : List Float) → apply_call s ints floats r (length lent) (length work) ≡ done (applied s ints floats r) → length lent ≡ s.rows
-      → z ≡ applied s ints floats r → w ≡ replicate (length work) zeroᶠ
-      → ((Ok tt) ≡ answer_of (apply_call s ints floats r (length lent) (length work))) × (z ≡ apply_left s ints floats r lent (length work)) × (w ≡ apply_work_left s ints floats r (length lent) work)
-  unfolding answer_of apply_left apply_work_left result_left work_left
-  done_call z w e h p q = (rw e, rw (e, result_left) (p ∙ sym (padded_whole (applied s ints floats r) (length lent) (applied_length s ints floats r ∙ sym h))), rw (e, work_left) q)
+  pub residual_wrong : (length r ≡ s.rows → ⊥) → Left (Err (WrongLength s.rows (length r))) lent work
+  unfolding apply_call require ◌>>=◌ keeps_all cause_of
+  residual_wrong h = kept (WrongLength s.rows (length r)) refl (rw (ne_eqb (length r) s.rows h))
 
--- 13, 25 and 26 keep all
-pub short_keeps : keeps_all ListTooShort ≡ true
-unfolding keeps_all cause_of
-short_keeps = refl
+  module _ (h : length r ≡ s.rows) where
+    pub correction_wrong : (length lent ≡ s.rows → ⊥) → Left (Err (WrongLength s.rows (length lent))) lent work
+    unfolding apply_call require ◌>>=◌ keeps_all cause_of
+    correction_wrong k = kept (WrongLength s.rows (length lent)) refl (rw (eq-eqb (length r) s.rows h, ne_eqb (length lent) s.rows k))
 
-pub length_keeps : (expected actual : ℕ) → keeps_all (WrongLength expected actual) ≡ true
-unfolding keeps_all cause_of
-length_keeps expected actual = refl
+    module _ (k : length lent ≡ s.rows) where
+      pub misfit : setup_fits s ints floats ≡ false → Left (Err SetupMisfit) lent work
+      unfolding apply_call require ◌>>=◌ keeps_all cause_of
+      misfit f = kept SetupMisfit refl (rw (eq-eqb (length r) s.rows h, eq-eqb (length lent) s.rows k, f))
 
-pub misfit_keeps : keeps_all SetupMisfit ≡ true
-unfolding keeps_all cause_of
-misfit_keeps = refl
+      module _ (f : setup_fits s ints floats ≡ true) where
+        pub work_short : length work < 2 * s.coarse → Left (Err ListTooShort) lent work
+        unfolding apply_call require ◌>>=◌ keeps_all cause_of
+        work_short l = kept ListTooShort refl (rw (eq-eqb (length r) s.rows h, eq-eqb (length lent) s.rows k, f, lt-leb (2 * s.coarse) (length work) l))
+
+        accepted : 2 * s.coarse ≤ length work → apply_call s ints floats r (length lent) (length work) ≡ done (applied s ints floats r)
+        unfolding apply_call require ◌>>=◌
+        accepted l = rw (eq-eqb (length r) s.rows h, eq-eqb (length lent) s.rows k, f, le-leb (2 * s.coarse) (length work) l)
+
+        pub corrected : 2 * s.coarse ≤ length work → (z w : List Float) → z ≡ applied s ints floats r → w ≡ replicate (length work) zeroᶠ → Left (Ok tt) z w
+        unfolding answer_of apply_left apply_work_left result_left work_left
+        corrected l z w p q =
+            let e = accepted l in
+            (rw e, rw (e, result_left) (p ∙ sym (padded_whole (applied s ints floats r) (length lent) (applied_length s ints floats r ∙ sym k))), rw (e, work_left) q)

@@ -1,21 +1,18 @@
 -- Prolongation: each row gains one number, so that the rows done are filled in and the others are as they were.
-use Prim.Native.Nat.{ℕ, zero, suc, ◌+◌, ◌-◌, ◌<◌, ◌≤◌}
-use mathlib.Core.Path.{◌≡◌, refl, ap, ◌∙◌}
+use Prim.Native.Nat.{ℕ, zero, suc, ◌+◌, ◌<◌, ◌≤◌}
+use mathlib.Core.Path.{◌≡◌, ap, ◌∙◌}
 use mathlib.Core.List.{List, ◌++◌, foldl, zip_with}
 use native.Mathlib.Omega.{arith}
 use native.Mathlib.Numerals.{add-one}
-use lib.ListN.{length, get_or, take, drop, drop_of_length-le}
+use lib.ListN.{length, get_or, drop, drop_of_length-le}
 use lib.Seq.{drop-cons}
 use lib.Ieee.{Float, nan}
 use Rattle.definitions.specs.Lists.{tab}
-use Rattle.definitions.specs.Numbers.{◌+ᶠ◌, ◌*ᶠ◌, summed}
-use Rattle.definitions.specs.Matrix.{row_of}
+use Rattle.definitions.specs.Numbers.{◌+ᶠ◌, ◌*ᶠ◌}
 use Rattle.definitions.specs.Apply.{prolongation_terms}
 use Rattle.laws.proofs.Growing.{tab_none, tab_more, tab_all, tab_unread}
-use Rattle.laws.specs.Scatter.{put, bump, scatter, scattered, single}
-use Rattle.two_level_apply.specs.Scatter.{gain_puts, entries}
-use Rattle.laws.proofs.Scattering.{single_step}
-use Rattle.two_level_apply.proofs.Restricting.{part_is}
+use Rattle.laws.specs.Scatter.{scatter, scattered, single}
+use Rattle.csr32.specs.Parts.{entries}
 
 module _ (x : ℕ → Float) (z : List Float) where
   abbrev gains : ℕ → Float
@@ -45,10 +42,3 @@ module _ (idx : List ℕ) (vals sol : List Float) where
   pub sum_done : (k : ℕ) (s t : Float) → length idx ≤ k → sum_left k s ≡ t → s ≡ t
   unfolding prolongation_terms zip_with
   sum_done k s t h e = rw (drop_of_length-le idx h) at e
-
-pub row_gain : (ptr idx : List ℕ) (vals sol l₀ l m : List Float) (i from to : ℕ) (v : Float)
-    → l ≡ scattered (gain_puts (row_of ptr idx vals) sol) i l₀ → from ≡ get_or ptr i 0 → to ≡ get_or ptr (i + 1) 0
-    → v ≡ summed (prolongation_terms (entries (take (to - from) (drop from idx)) (take (to - from) (drop from vals))) sol) → m ≡ bump l (put i v) → m ≡ scattered (gain_puts (row_of ptr idx vals) sol) (i + 1) l₀
-unfolding row_of
-row_gain ptr idx vals sol l₀ l m i from to v e ef et ev em =
-    single_step (λ k. k) (λ k. summed (prolongation_terms (row_of ptr idx vals k) sol)) l₀ l m i i v e refl (rw (ev, part_is idx vals from to, ef, et, add-one)) em

@@ -1,33 +1,26 @@
 -- Restriction: the numbers that the loops put at a coarse column are those that its definition lists.
-use Prim.Native.Nat.{ℕ, zero, suc, ◌+◌, ◌-◌, ◌*◌, ◌<◌, ◌≤◌}
+use Prim.Native.Nat.{ℕ, zero, suc, ◌+◌, ◌*◌, ◌<◌, ◌≤◌}
 use mathlib.Core.Path.{◌≡◌, refl, ap, ◌∙◌}
 use mathlib.Core.Bool.{Bool, true, false}
 use mathlib.Core.List.{List, [], ◌∷◌, map, flat_map, zip_with}
 use native.Mathlib.Numerals.{add-one}
 use lib.Dec.{eqb}
 use lib.Arith.{digits_div, digits_mod}
-use lib.ListN.{length, get_or, replicate, take, drop, drop_of_length-le}
+use lib.ListN.{length, get_or, replicate, drop, drop_of_length-le}
 use lib.Seq.{drop-cons}
-use Rattle.std.proofs.lemmas.Slice.{between_is}
 use lib.Ieee.{Float, nan}
 use Rattle.definitions.specs.Lists.{tab, up_to, keep}
 use Rattle.definitions.specs.Numbers.{◌*ᶠ◌, zeroᶠ, total}
-use Rattle.definitions.specs.Matrix.{Entry, values_where, row_of, stored}
+use Rattle.definitions.specs.Matrix.{Entry, values_where}
 use Rattle.definitions.specs.Transfer.{coarse_column}
 use Rattle.definitions.specs.Apply.{constant_restriction_terms, smoothed_restriction_terms}
 use Rattle.laws.proofs.Lists.{each_any, flat_map_cong}
 use Rattle.laws.proofs.Kept.{flat_map_keep, flat_map_one}
 use Rattle.csr32.proofs.Stored.{where_hit, where_miss, where_none}
 use Rattle.laws.specs.Scatter.{put, bump, scatter, scattered}
-use Rattle.two_level_apply.specs.Scatter.{restrict_puts, scaled, scaled_puts, entries}
-use Rattle.laws.proofs.Scattering.{puts_at, scatter_law, rows_step}
-
--- a part of columns and weights
-pub part_is : (idx : List ℕ) (vals : List Float) (from to : ℕ) → entries (take (to - from) (drop from idx)) (take (to - from) (drop from vals)) ≡ stored idx vals from to
-part_is idx vals from to =
-    let p : take (to - from) (drop from idx) ≡ drop from (take to idx) = between_is idx from to in
-    let q : take (to - from) (drop from vals) ≡ drop from (take to vals) = between_is vals from to in
-    rw (p, q)
+use Rattle.csr32.specs.Parts.{entries}
+use Rattle.two_level_apply.specs.Scatter.{restrict_puts, scaled, scaled_puts}
+use Rattle.laws.proofs.Scattering.{puts_at, scatter_law}
 
 -- the coarse column of a node's row
 pub column_at : (size : ℕ) (ids : List ℕ) (node k : ℕ) → k < size → coarse_column size ids (node * size + k) ≡ get_or ids node 0 * size + k
@@ -90,9 +83,3 @@ module _ (idx : List ℕ) (vals : List Float) (x : Float) where
   pub weights_done : (k : ℕ) (l t : List Float) → length idx ≤ k → weights_left k l ≡ t → l ≡ t
   unfolding scatter zip_with
   weights_done k l t h e = rw (drop_of_length-le idx h) at e
-
-pub transfer_step : (r : List Float) (ptr idx : List ℕ) (vals : List Float) (i from to : ℕ) (l₀ l m : List Float)
-    → l ≡ scattered (scaled_puts (row_of ptr idx vals) r) i l₀ → from ≡ get_or ptr i 0 → to ≡ get_or ptr (i + 1) 0
-    → m ≡ scatter (scaled (get_or r i nan) (entries (take (to - from) (drop from idx)) (take (to - from) (drop from vals)))) l → m ≡ scattered (scaled_puts (row_of ptr idx vals) r) (i + 1) l₀
-unfolding row_of
-transfer_step r ptr idx vals i from to l₀ l m e ef et em = rows_step (scaled_puts (row_of ptr idx vals) r) l₀ l m i e (rw (em, part_is idx vals from to, ef, et, add-one))

@@ -1,13 +1,12 @@
 -- What restriction and prolongation add, row by row, and what they ask of a setup's lists.
 use Rattle.std.specs.Prelude.{ℕ, ◌+◌, ◌*◌, ◌<◌, ◌≤◌, ◌≡◌, true, List, map, length, get_or, Float}
-use mathlib.Core.List.{zip_with}
 use Rattle.std.specs.Float.{nan}
 use Rattle.definitions.specs.Lists.{tab}
-use Rattle.definitions.specs.Numbers.{◌+ᶠ◌, ◌*ᶠ◌, summed}
+use Rattle.definitions.specs.Numbers.{◌+ᶠ◌, ◌*ᶠ◌}
 use Rattle.definitions.specs.Matrix.{Entry}
 use Rattle.definitions.specs.Places.{places_of}
 use Rattle.definitions.specs.Fits.{setup_fits}
-use Rattle.definitions.specs.Apply.{prolongation_terms, gained}
+use Rattle.definitions.specs.Apply.{gained}
 use Rattle.definitions.specs.declared.Setup.{Setup}
 use Rattle.definitions.specs.declared.Places.{Places}
 use Rattle.laws.specs.Scatter.{put, single}
@@ -15,10 +14,6 @@ use Rattle.laws.specs.Scatter.{put, single}
 -- the numbers of one list from a on, added to those of another from b on
 abbrev pub part_puts : List Float → ℕ → ℕ → ℕ → List Entry
 part_puts from a b = single (λ k. b + k) (λ k. get_or from (a + k) nan)
-
--- columns and weights side by side
-abbrev pub entries : List ℕ → List Float → List Entry
-entries idx vals = zip_with put idx vals
 
 -- restriction where each row has one coarse column: r(i) at that column
 abbrev pub restrict_puts : (ℕ → ℕ) → List Float → ℕ → List Entry
@@ -35,10 +30,6 @@ scaled x es = map (λ e. put e.col (e.value *ᶠ x)) es
 -- restriction by weights: those of row i, each times r(i)
 abbrev pub scaled_puts : (ℕ → List Entry) → List Float → ℕ → List Entry
 scaled_puts transfer r i = scaled (get_or r i nan) (transfer i)
-
--- prolongation by weights
-abbrev pub gain_puts : (ℕ → List Entry) → List Float → ℕ → List Entry
-gain_puts transfer sol = single (λ i. i) (λ i. summed (prolongation_terms (transfer i) sol))
 
 -- n rows, in nodes of `size` rows each; the coarse columns of every node's group are below c
 pub record Grouped (size : ℕ) (ids : List ℕ) (n c : ℕ) : Type 0 where

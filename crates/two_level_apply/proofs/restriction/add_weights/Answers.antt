@@ -6,19 +6,16 @@ use lib.Ieee.{nan}
 use Rattle.two_level_apply.proofs.Restricting.{weight_step, weights_done}
 use Rattle.two_level_apply.proofs.restriction.add_weights.Goals as goal
 
-pub loop-col-init : goal.loop-col-init
-loop-col-init c = refl
-
-pub loop-col-preserved : goal.loop-col-preserved
-loop-col-preserved c =
+pub loop-column-preserved : goal.loop-column-preserved
+loop-column-preserved c =
     let a = c.args in
-    let o = c.loop-col in
-    let t = zip_turn a.idx.now a.vals.now o.yielded _ o.col-iterator c.next.new.self c.next.result (search rules) (search rules) o.yielded_by (c.in-Some.col, c.in-Some.weight) c.in-Some.is c.next.ensures.steps in
-    weight_step a.idx.now a.vals.now a.x (length o.yielded) _ c.in-Some.col.now c.in-Some.weight.now o.rhs _ _ (length-append o.yielded _) t.0 t.1 (t.2 0) (t.3 nan) o.invariant refl
+    let o = c.loop-column in
+    let t = zip_turn a.columns.now a.weights.now o.yielded _ o.column-iterator c.next.new.self c.next.result (search rules) (search rules) o.yielded_by (c.in-Some.column, c.in-Some.weight) c.in-Some.is c.next.ensures.steps in
+    weight_step a.columns.now a.weights.now a.x (length o.yielded) _ c.in-Some.column.now c.in-Some.weight.now o.rhs _ _ (length-append o.yielded _) t.0 t.1 (t.2 0) (t.3 nan) o.invariant refl
 
 pub returns : goal.returns
 returns c =
     let a = c.args in
-    let o = c.loop-col in
-    let t = zip_end a.idx.now a.vals.now o.yielded _ o.col-iterator c.next.new.self c.next.result (search rules) (search rules) o.yielded_by c.in-None.is c.next.ensures.steps in
-    weights_done a.idx.now a.vals.now a.x (length o.yielded) o.rhs _ (omega (arith, t, c.requires.0)) o.invariant
+    let o = c.loop-column in
+    let t = zip_end a.columns.now a.weights.now o.yielded _ o.column-iterator c.next.new.self c.next.result (search rules) (search rules) o.yielded_by c.in-None.is c.next.ensures.steps in
+    weights_done a.columns.now a.weights.now a.x (length o.yielded) o.rhs _ (omega (arith, t, c.requires.same)) o.invariant
