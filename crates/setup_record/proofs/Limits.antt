@@ -2,27 +2,18 @@
 use Prim.Native.Nat.{ℕ, zero, suc, ◌+◌, ◌*◌, ◌≤◌}
 use native.Mathlib.Omega.{arith}
 use native.Mathlib.Nat.{mul-suc}
-use mathlib.Core.Path.{◌≡◌, refl}
-use mathlib.Core.Bool.{Bool, true, false, ◌&&◌}
-use lib.Dec.{leb, eqb}
+use mathlib.Core.Path.{◌≡◌}
+use mathlib.Core.Bool.{true}
 use borrow.Author.Tests.{leb-true, eqb-true}
 use Rattle.definitions.specs.Places.{used_ints, places_of}
-use Rattle.definitions.specs.Fits.{within_limits, is_resolved, transfers_fit}
+use Rattle.definitions.specs.Fits.{within_limits, transfers_fit}
 use Rattle.definitions.specs.declared.Setup.{Setup}
 use Rattle.definitions.specs.declared.Places.{Places}
 use Rattle.definitions.specs.declared.TwoLevelBasis.{TwoLevelBasis}
 use Rattle.definitions.specs.declared.TwoLevelBasis.TheVariants.{PiecewiseConstant, JacobiSmoothed}
 use Rattle.layout.proofs.Sizes.{at}
+use Rattle.laws.proofs.Tests.{both_true}
 use Rattle.setup_record.specs.Sizes.{sizes_fit}
-use Rattle.setup_record.proofs.Products.{product_fits}
-
-pub and_left : (a b : Bool) → (a && b) ≡ true → a ≡ true
-and_left true b e = refl
-and_left false b e = e
-
-pub and_right : (a b : Bool) → (a && b) ≡ true → b ≡ true
-and_right true b e = e
-and_right false b e = let f : false ≡ true = e in cc
 
 pub record Limits (s : Setup) : Type 0 where
   pub rows : s.rows ≤ 1048576
@@ -34,27 +25,16 @@ pub record Limits (s : Setup) : Type 0 where
 pub limits_of : (s : Setup) → within_limits s ≡ true → Limits s
 unfolding within_limits
 limits_of s e =
-    let a = leb s.rows 1048576 in
-    let b = leb s.entries 16777216 in
-    let c = leb s.block 8 in
-    let d = leb s.group 1048576 in
-    let f = leb s.coarse 2048 in
-    let l4 = and_left (a && b && c && d) f e in
-    let l3 = and_left (a && b && c) d l4 in
-    let l2 = and_left (a && b) c l3 in
-    record {
-      rows = leb-true _ _ (and_left a b l2);
-      entries = leb-true _ _ (and_right a b l2);
-      block = leb-true _ _ (and_right (a && b) c l3);
-      group = leb-true _ _ (and_right (a && b && c) d l4);
-      coarse = leb-true _ _ (and_right (a && b && c && d) f e);
-    }
+    let p = both_true _ _ e in
+    let q = both_true _ _ p.0 in
+    let r = both_true _ _ q.0 in
+    let t = both_true _ _ r.0 in
+    record { rows = leb-true _ _ t.0; entries = leb-true _ _ t.1; block = leb-true _ _ r.1; group = leb-true _ _ q.1; coarse = leb-true _ _ p.1 }
 
 -- a record whose sizes fit
 pub record Sized (s : Setup) : Type 0 where
   pub limits : Limits s
   pub some : 1 ≤ s.block
-  pub resolved : is_resolved s.policy ≡ true
   pub transfers : transfers_fit s.basis s ≡ true
   pub nodes : s.rows ≡ s.nodes * s.block
   pub groups : s.coarse ≡ s.groups * s.block
@@ -62,24 +42,11 @@ pub record Sized (s : Setup) : Type 0 where
 pub sized_of : (s : Setup) → sizes_fit s ≡ true → Sized s
 unfolding sizes_fit
 sized_of s e =
-    let a = within_limits s in
-    let b = leb 1 s.block in
-    let c = is_resolved s.policy in
-    let d = transfers_fit s.basis s in
-    let f = eqb s.rows (s.nodes * s.block) in
-    let g = eqb s.coarse (s.groups * s.block) in
-    let l5 = and_left (a && b && c && d && f) g e in
-    let l4 = and_left (a && b && c && d) f l5 in
-    let l3 = and_left (a && b && c) d l4 in
-    let l2 = and_left (a && b) c l3 in
-    record {
-      limits = limits_of s (and_left a b l2);
-      some = leb-true _ _ (and_right a b l2);
-      resolved = and_right (a && b) c l3;
-      transfers = and_right (a && b && c) d l4;
-      nodes = eqb-true _ _ (and_right (a && b && c && d) f l5);
-      groups = eqb-true _ _ (and_right (a && b && c && d && f) g e);
-    }
+    let p = both_true _ _ e in
+    let q = both_true _ _ p.0 in
+    let r = both_true _ _ q.0 in
+    let t = both_true _ _ (both_true _ _ r.0).0 in
+    record { limits = limits_of s t.0; some = leb-true _ _ t.1; transfers = r.1; nodes = eqb-true _ _ q.1; groups = eqb-true _ _ p.1 }
 
 -- how large the numbers of such a record can be
 pub record Bounds (s : Setup) : Type 0 where
@@ -88,7 +55,6 @@ pub record Bounds (s : Setup) : Type 0 where
   pub transfers : s.transfers ≤ 17825792
   pub coarse : s.coarse ≤ 2048
   pub groups : s.groups ≤ s.coarse
-  pub factors : s.rows * s.block ≤ 8388608
 
 few : (b : TwoLevelBasis) (s : Setup) → Limits s → transfers_fit b s ≡ true → s.transfers ≤ 17825792
 unfolding transfers_fit
@@ -108,7 +74,6 @@ bounds_of s e =
       transfers = few s.basis s z.limits z.transfers;
       coarse = z.limits.coarse;
       groups = one_of s.coarse s.groups s.block z.some z.groups;
-      factors = product_fits s.rows s.block z.limits.rows z.limits.block;
     }
 
 -- the room that the used integers take

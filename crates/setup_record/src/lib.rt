@@ -65,6 +65,7 @@ fn sizes_fit(s: Setup) -> bool
 }
 
 // Whether every number of a list is below a bound: a pass that does not leave early.
+#[tactic(auto, using(laws::proofs::Scans::below_all))]
 fn all_below(xs: &[u32], bound: u64) -> bool
     ensures { result ≡ all (λ k. ltb k bound) xs.now }
 {
@@ -115,9 +116,5 @@ pub fn setup_fits(s: Setup, ints: &[u32], floats: &[f64]) -> Option<Places>
         return None;
     }
     let p = layout::places(s);
-    if lists_fit(s, p, ints, floats) {
-        Some(p)
-    } else {
-        None
-    }
+    lists_fit(s, p, ints, floats).then_some(p)
 }

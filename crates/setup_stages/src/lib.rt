@@ -5,6 +5,7 @@ ghost use Rattle.std.specs.Prelude.{◌≡◌, length, take, ◌*◌};
 ghost use Rattle.definitions.specs.Numbers.{zeroᶠ, largest};
 ghost use Rattle.definitions.specs.Refusal.{result_left, work_left};
 ghost use Rattle.definitions.specs.Matrix.{csr};
+ghost use Rattle.csr32.specs.Seen.{lent};
 ghost use Rattle.definitions.specs.Answers.{answer_of, transfer_answer, factor_answer, answer_number};
 ghost use Rattle.adjacency.specs.Within.{neighbours_within};
 ghost use Rattle.transfer.specs.Call.{smoothed_transfer_call, transfer_ints, transfer_floats};
@@ -16,6 +17,25 @@ ghost use Rattle.setup_stages.specs.Policy.{lists_by};
 use causes::answer_number;
 use csr32::Csr;
 use definitions::TwoLevelAggregation;
+
+// The matrix of a caller's sizes and lists.
+fn matrix<'a>(
+    rows: u64,
+    cols: u64,
+    row_ptr: &'a [u32],
+    col_idx: &'a [u32],
+    values: &'a [f64],
+) -> Csr<'a>
+    ensures { lent result ≡ csr rows cols row_ptr.now col_idx.now values.now }
+{
+    Csr {
+        rows: rows as usize,
+        cols: cols as usize,
+        row_ptr,
+        col_idx,
+        values,
+    }
+}
 
 // Which lists a number asks for: 0 Graph's, else StrongGraph's.
 #[tactic(auto, unfolding(crate::specs::Policy::lists_by))]
@@ -45,13 +65,7 @@ pub extern "C" fn yelomawin_bench_neighbours(
         let call = neighbours_within (lists_by strong) a block_size base (length ints.old) (length floats.old) in
         (result ≡ answer_number (answer_of call)) × ((ints.new ≡ result_left 0 call ints.old) × (floats.new ≡ work_left zeroᶠ call floats.old)) }
 {
-    let a = Csr {
-        rows: rows as usize,
-        cols: cols as usize,
-        row_ptr,
-        col_idx,
-        values,
-    };
+    let a = matrix(rows, cols, row_ptr, col_idx, values);
     let made = adjacency::neighbours(
         &a,
         block_size as usize,
@@ -82,13 +96,7 @@ pub extern "C" fn yelomawin_bench_transfer(
         let call = smoothed_transfer_call a block_size ids.now groups diagonal.now damping (length ints.old) (length floats.old) in
         (result ≡ answer_number (transfer_answer call)) × ((ints.new ≡ transfer_ints call ints.old) × (floats.new ≡ transfer_floats call floats.old)) }
 {
-    let a = Csr {
-        rows: rows as usize,
-        cols: cols as usize,
-        row_ptr,
-        col_idx,
-        values,
-    };
+    let a = matrix(rows, cols, row_ptr, col_idx, values);
     let made = transfer::smoothed_transfer(
         &a,
         block_size as usize,
@@ -118,13 +126,7 @@ pub extern "C" fn yelomawin_bench_constant_coarse(
         let call = constant_coarse_call a block_size ids.now groups (length coarse.old) in
         (result ≡ answer_number (answer_of call)) × (coarse.new ≡ result_left zeroᶠ call coarse.old) }
 {
-    let a = Csr {
-        rows: rows as usize,
-        cols: cols as usize,
-        row_ptr,
-        col_idx,
-        values,
-    };
+    let a = matrix(rows, cols, row_ptr, col_idx, values);
     let made = coarse_matrix::constant_coarse(
         &a,
         block_size as usize,
@@ -153,13 +155,7 @@ pub extern "C" fn yelomawin_bench_galerkin_coarse(
         let call = galerkin_coarse_call a c transfer_ptr.now transfer_idx.now weights.now (length ints.old) (length floats.old) in
         (result ≡ answer_number (answer_of call)) × ((ints.new ≡ work_left 0 call ints.old) × (floats.new ≡ result_left zeroᶠ call floats.old)) }
 {
-    let a = Csr {
-        rows: rows as usize,
-        cols: cols as usize,
-        row_ptr,
-        col_idx,
-        values,
-    };
+    let a = matrix(rows, cols, row_ptr, col_idx, values);
     let made = coarse_matrix::galerkin_coarse(
         &a,
         c as usize,

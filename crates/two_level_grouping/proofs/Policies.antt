@@ -1,5 +1,6 @@
 -- The grouping call: where the sizes fit, the causes of the matrix and the policy asked for; else the first cause in order.
-use Rattle.std.specs.Prelude.{Err, Ok, Result}
+use Rattle.std.specs.Prelude.{Err, Ok, Result, ◌⊎◌}
+use Rattle.std.proofs.Common.{inl, inr}
 use mathlib.Core.Path.{◌≡◌, refl, ap, sym, ◌∙◌, subst}
 use mathlib.Core.Bool.{Bool, true, false}
 use mathlib.Core.List.{List}
@@ -68,13 +69,13 @@ module _ (a : Matrix) (o : Options) where
       unfolding grouping_of
       contiguous_ends e s = rw e s
 
-      pub graph_ends : o.aggregation ≡ Graph → Ends Graph (lists_of Graph a o) → Ends o.aggregation (grouping_of o.aggregation a o)
+      pub graph_ends : (o.aggregation ≡ Graph) ⊎ (o.aggregation ≡ StrongGraph) → Ends o.aggregation (lists_of o.aggregation a o) → Ends o.aggregation (grouping_of o.aggregation a o)
       unfolding grouping_of
-      graph_ends e s = rw e s
-
-      pub strong_ends : o.aggregation ≡ StrongGraph → Ends StrongGraph (lists_of StrongGraph a o) → Ends o.aggregation (grouping_of o.aggregation a o)
-      unfolding grouping_of
-      strong_ends e s = rw e s
+      graph_ends h s = rw (by_lists o.aggregation h) s
+        where
+          by_lists : (k : TwoLevelAggregation) → (k ≡ Graph) ⊎ (k ≡ StrongGraph) → grouping_of k a o ≡ lists_of k a o
+          by_lists k (inl e) = rw e
+          by_lists k (inr e) = rw e
 
     -- ---- the checks
 

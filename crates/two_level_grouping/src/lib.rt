@@ -93,11 +93,12 @@ fn contiguous(nodes: usize, size: usize, ids: &mut [u32]) -> u64
     requires { (0 < size) × ((nodes ≤ length ids.old) × ((nodes ≤ max_rows) × (size ≤ max_group))) }
     ensures { (result ≡ (nodes + (size - 1)) / size) × (ids.new ≡ padded 0 (length ids.old) (tab (λ v. v / size) nodes)) }
 {
-    for v in 0..nodes {
-        ids[v] = (v / size) as u32;
+    let (groups, rest) = ids.split_at_mut(nodes);
+    for (node, group) in groups.iter_mut().enumerate() {
+        *group = (node / size) as u32;
     }
-    ids[nodes..].fill(0);
-    ((nodes + (size - 1)) / size) as u64
+    rest.fill(0);
+    nodes.div_ceil(size) as u64
 }
 
 // The groups that the neighbour lists in work[base..] give, to `ids`. Grouping leaves zeros behind the groups, so that only those are cleared.
@@ -163,20 +164,19 @@ fn no_node(
 fn by_graph(
     a: &Csr<'_>,
     options: Options,
-    aggregation: TwoLevelAggregation,
     ids: &mut [u32],
     work_ints: &mut [u32],
     work_floats: &mut [f64],
 ) -> Result<u64, Refusal>
     requires { Ready (lent a.now) options (length ids.old) (length work_ints.old) (length work_floats.old) }
     ensures { let m = lent a.now in
-        let call = read_then aggregation m (lists_of aggregation m options) in
+        let call = read_then options.aggregation m (lists_of options.aggregation m options) in
         Answered call ids.old work_ints.old work_floats.old result ids.new work_ints.new work_floats.new }
 {
     let size = options.block as usize;
     let nodes = a.rows / size;
     if nodes == 0 {
-        return no_node(a, aggregation, ids, work_ints, work_floats);
+        return no_node(a, options.aggregation, ids, work_ints, work_floats);
     }
     let first = 4 * nodes + a.values.len() + 16;
     let base = first + 2 * nodes;
@@ -184,7 +184,7 @@ fn by_graph(
     adjacency::neighbours(
         a,
         size,
-        aggregation,
+        options.aggregation,
         2 * nodes,
         &mut work_ints[first..need],
         work_floats,
@@ -207,22 +207,9 @@ fn by_policy(
 {
     match options.aggregation {
         TwoLevelAggregation::Contiguous => by_number(a, options, ids, work_ints, work_floats),
-        TwoLevelAggregation::Graph => by_graph(
-            a,
-            options,
-            TwoLevelAggregation::Graph,
-            ids,
-            work_ints,
-            work_floats,
-        ),
-        TwoLevelAggregation::StrongGraph => by_graph(
-            a,
-            options,
-            TwoLevelAggregation::StrongGraph,
-            ids,
-            work_ints,
-            work_floats,
-        ),
+        TwoLevelAggregation::Graph | TwoLevelAggregation::StrongGraph => {
+            by_graph(a, options, ids, work_ints, work_floats)
+        }
     }
 }
 

@@ -2,7 +2,7 @@
 use Rattle.std.specs.Prelude.{Err, Ok, Result}
 use mathlib.Core.Path.{◌≡◌, refl, ap, sym, ◌∙◌, subst}
 use mathlib.Core.List.{List, [], ◌++◌, append-nil}
-use Prim.Native.Nat.{ℕ, ◌+◌, ◌*◌, ◌≤◌}
+use Prim.Native.Nat.{ℕ, ◌*◌}
 use native.Mathlib.Omega.{arith}
 use lib.ListN.{length, replicate}
 use lib.Ieee.{Float}
@@ -25,8 +25,8 @@ use Rattle.layout.specs.Layout.{layout_of}
 use Rattle.layout.proofs.Sizes.{placed, at}
 use Rattle.csr32.specs.Calls.{goes_on, stops}
 use Rattle.two_level_setup.specs.Stages.{Parts, options_of, filled, transferred, transfer_stage}
-use Rattle.two_level_setup.specs.Fit.{Ample, DampingFit, Placed, room_of}
-use Rattle.two_level_setup.specs.Promises.{Holds, Leaves, Simulates, StaysAmple, Begun, Weighted, Weighed, Damped, beside, WeightsStage}
+use Rattle.two_level_setup.specs.Fit.{Ample, DampingFit, Placed}
+use Rattle.two_level_setup.specs.Promises.{Holds, Leaves, Simulates, Begun, Weighted, Weighed, Damped, beside, WeightsStage}
 use Rattle.two_level_setup.proofs.Composition.{leaves_refused, leaves_done}
 use Rattle.two_level_setup.proofs.FineParts.{bounds, no_weights}
 use Rattle.two_level_setup.proofs.Damping.{diagonal_length}
@@ -45,28 +45,6 @@ placed_of a s room w p e =
     let n = w.counted in
     let k = at s p (e ∙ placed s (omega (arith, b.nodes, b.rows_most, n.nodes)) (omega (arith, b.rows_most, n.rows)) w.front.most (omega (arith, n.transfers, b.rows_most, b.entries_most)) w.small) in
     record { pointers = k.pointers; columns = k.columns ∙ rw n.rows; weights = k.weights ∙ rw n.rows; coarse = k.coarse ∙ rw n.rows }
-
-pub ample_same : (a : Matrix) (s : Setup) (i i' f f' wi wi' wf wf' : ℕ) → i' ≡ i → f' ≡ f → wi' ≡ wi → wf' ≡ wf → Ample a s (room_of i f wi wf) → Ample a s (room_of i' f' wi' wf')
-ample_same a s i i' f f' wi wi' wf wf' p q r t w = rw (p, q, r, t) w
-
--- one with other numbers for the transfer
-pub ample_filled : (a : Matrix) (s t : Setup) (room : Lengths) (n : ℕ) (damping : Float) → Ample a s room → n ≤ a.rows + length a.values → t ≡ filled s n damping s.scale s.complexity → Ample a t room
-unfolding filled
-ample_filled a s t room n damping w h e = subst (λ (x : Setup). Ample a x room) (sym e) (record {
-  front = w.front;
-  counted = record { rows = w.counted.rows; nodes = w.counted.nodes; coarse = w.counted.coarse; few = w.counted.few; transfers = h };
-  small = w.small;
-  ints = w.ints;
-  floats = w.floats;
-  work_ints = w.work_ints;
-  work_floats = w.work_floats;
-})
-
-pub stays_built : (a : Matrix) (room : Lengths) (s : Setup) → Ample a s room → StaysAmple a room (Ok s)
-stays_built a room s w t e = subst (λ (x : Setup). Ample a x room) (let q : s ≡ t = cc in q) w
-
-pub stays_refused : (a : Matrix) (room : Lengths) (r : Refusal) → StaysAmple a room (Err r)
-stays_refused a room r t e = absurd (let z : ◌≡◌ {A = ℕ} 0 1 = cc in omega arith)
 
 -- ---- the basis that is constant over a group
 
@@ -120,8 +98,8 @@ transfer_weighed a p q bg e =
       weights = λ smooth. smoothed_rows a p smooth t.0 t.1;
     })
 
-module _ (a : Matrix) (s : Setup) (ints : List ℕ) (floats : List Float) (work_ints : List ℕ) (work_floats : List Float) (b : s.basis ≡ JacobiSmoothed)
-    (x : (Result Estimated Refusal)) (floats1 workFloats1 : List Float) (dm : Damped a (a.rows * s.block) floats work_floats x floats1 workFloats1) where
+module _ (a : Matrix) (s : Setup) (memory : Lent) (b : s.basis ≡ JacobiSmoothed)
+    (x : (Result Estimated Refusal)) (floats1 workFloats1 : List Float) (dm : Damped a (a.rows * s.block) memory.floats memory.work_floats x floats1 workFloats1) where
   abbrev estimated : Outcome Estimate
   estimated = diagonal_of a >>= (λ d. estimate_of a d)
 
@@ -138,7 +116,7 @@ module _ (a : Matrix) (s : Setup) (ints : List ℕ) (floats : List Float) (work_
   has_estimate (done q) found e = let g : found ≡ record { rho = q.rho; damping = q.damping } = cc in (q, refl, sym (ap (λ (t : Estimated). t.damping) g))
   has_estimate (refused q) found e = cc
 
-  pub estimate_refused : (r : Refusal) (y : Lent) → x ≡ Err r → Simulates (Begun a) (transfer_stage a) s (lent_of ints floats work_ints work_floats) (Err r) y
+  pub estimate_refused : (r : Refusal) (y : Lent) → x ≡ Err r → Simulates (Begun a) (transfer_stage a) s memory (Err r) y
   unfolding transfer_stage
   estimate_refused r y e p es bg h =
       let smooth = smooth_too p es in
@@ -146,20 +124,20 @@ module _ (a : Matrix) (s : Setup) (ints : List ℕ) (floats : List Float) (work_
       leaves_refused (transfer_stage a p) r y (stops (transfer_for p.setup.basis a p.setup.block p.ids p.setup.coarse) r (λ t. done (transferred p t))
       (smoothed_is a p smooth ∙ chain_stops (diagonal_of a) (λ d. estimate_of a d) (rows_for a p smooth) r k))
 
-  pub smoothed_built : (found : Estimated) → x ≡ Ok found → length floats1 ≡ length floats → length workFloats1 ≡ length work_floats → (n : ℕ) (y : Lent) → WeightsStage a s found.damping (lent_of ints floats1 work_ints workFloats1) n y
-      → (t : Setup) → t ≡ filled s n found.damping s.scale s.complexity → Simulates (Begun a) (transfer_stage a) s (lent_of ints floats work_ints work_floats) (Ok t) y
+  pub smoothed_built : (found : Estimated) → x ≡ Ok found → length floats1 ≡ length memory.floats → length workFloats1 ≡ length memory.work_floats → (n : ℕ) (y : Lent) → WeightsStage a s found.damping (lent_of memory.ints floats1 memory.work_ints workFloats1) n y
+      → (t : Setup) → t ≡ filled s n found.damping s.scale s.complexity → Simulates (Begun a) (transfer_stage a) s memory (Ok t) y
   unfolding transfer_stage transferred
   smoothed_built found e lf lw n y ws t et p es bg h =
       let smooth = smooth_too p es in
       let q = has_estimate estimated found (sym e ∙ dm.answer) in
       let b = bind_done (diagonal_of a) (λ d. estimate_of a d) q.0 q.1 in
       let d = b.0 in
-      let before : floats ≡ padded zeroᶠ (length floats) p.factors
-      = h.floats ∙ ap (λ l. padded zeroᶠ (length floats) l) (rw (bg.weights, bg.sound.coarse) (no_weights p.factors [] ∙ append-nil p.factors)) in
+      let before : memory.floats ≡ padded zeroᶠ (length memory.floats) p.factors
+      = h.floats ∙ ap (λ l. padded zeroᶠ (length memory.floats) l) (rw (bg.weights, bg.sound.coarse) (no_weights p.factors [] ∙ append-nil p.factors)) in
       let behind : floats1 ≡ padded zeroᶠ (length floats1) (p.factors ++ transfer_floats p.weights ++ d)
       = dm.diagonal d b.1 p.factors (bg.sound.factors ∙ ap (λ (z : Setup). a.rows * z.block) es) before ∙ ap (λ m. padded zeroᶠ m (p.factors ++ d)) (sym lf)
       ∙ ap (λ l. padded zeroᶠ (length floats1) l) (sym (ap (λ l. p.factors ++ transfer_floats l ++ d) bg.weights ∙ no_weights p.factors d)) in
-      let hb : Holds (beside p d) (lent_of ints floats1 work_ints workFloats1) = record {
+      let hb : Holds (beside p d) (lent_of memory.ints floats1 memory.work_ints workFloats1) = record {
         ints = h.ints;
         floats = behind;
         work_ints = h.work_ints;

@@ -1,9 +1,7 @@
 -- All of setup: its checks, what is built, and the lists cleared after a refusal.
 use Rattle.std.specs.Prelude.{Err, Ok, Result}
 use mathlib.Core.Path.{◌≡◌, refl, ap, sym, ◌∙◌}
-use mathlib.Core.Bool.{Bool, true, false}
-use Prim.Native.Nat.{ℕ}
-use native.Mathlib.Omega.{arith}
+use mathlib.Core.Bool.{true, false}
 use lib.ListN.{length}
 use Rattle.definitions.specs.Numbers.{zeroᶠ}
 use Rattle.definitions.specs.Refusal.{Outcome, refused, done, require, ◌>>=◌, result_left, work_left, keeps_all, cause_of}
@@ -25,12 +23,9 @@ use Rattle.two_level_setup.proofs.Composition.{setup_splits}
 use Rattle.two_level_setup.proofs.Composition.{refused_is as parts-refused, built_is as parts-built}
 use Rattle.laws.proofs.Clearing.{clears_refused}
 use Rattle.two_level_setup.proofs.Clearing.{clears_all}
-use Rattle.two_level_setup.proofs.Asking.{by_outcome, judged_valid}
+use Rattle.two_level_setup.proofs.Asking.{by_outcome, differ, judged_valid}
 
 -- ---- building, and clearing after a refusal
-
-differ : (b : Bool) → b ≡ true → b ≡ false → ⊥
-differ b e f = let z : ◌≡◌ {A = ℕ} 0 1 = cc in omega arith
 
 abbrev pub SameLengths : Lent → Lent → Type 0
 SameLengths x y = (length y.ints ≡ length x.ints) × (length y.floats ≡ length x.floats) × (length y.work_ints ≡ length x.work_ints) × (length y.work_floats ≡ length x.work_floats)
@@ -86,10 +81,10 @@ module _ (a : Matrix) (o : Options) (x y : Lent) (r : (Result Setup Refusal)) (j
   same_cause : (q t : Refusal) → r ≡ Err q → valid_of a ≡ refused t → q ≡ t
   same_cause q t e k = let p = (j.invalid t k).0 in cc
 
-  pub judged_built : (s : Setup) → r ≡ Ok s → SameLengths x y → (Ok s ≡ setup_answer call) × (y ≡ setup_left call x)
+  judged_built : (s : Setup) → r ≡ Ok s → SameLengths x y → (Ok s ≡ setup_answer call) × (y ≡ setup_left call x)
   judged_built s e n = let v = judged_valid a (build_of a o (lengths_of x)) x r y j s e in rw (passes v) (cleared_built a o x y r (j.valid v) s e n)
 
-  pub judged_kept : (q : Refusal) → r ≡ Err q → keeps_all q ≡ true → (Err q ≡ setup_answer call) × (y ≡ setup_left call x)
+  judged_kept : (q : Refusal) → r ≡ Err q → keeps_all q ≡ true → (Err q ≡ setup_answer call) × (y ≡ setup_left call x)
   judged_kept q e k = by_outcome (valid_of a)
       (λ v. absurd (differ (keeps_all q) k (refused_clears a o x y r (j.valid v) q e)))
       (λ t w. rw (j.invalid t w).1 (kept call x q k (fails t w ∙ ap (λ u. refused u) (sym (same_cause q t e w)))))
@@ -98,6 +93,14 @@ module _ (a : Matrix) (o : Options) (x y : Lent) (r : (Result Setup Refusal)) (j
   judged_cleared q z e k c n = by_outcome (valid_of a)
       (λ v. rw (passes v) (cleared_refused a o x y r (j.valid v) q z e c n))
       (λ t w. absurd (differ (keeps_all q) (ap keeps_all (same_cause q t e w) ∙ keeps_refused (valid_of a) t (valid_keeps a) w) k))
+
+  -- what stands then, where no refusal but one that keeps all is left
+  pub judged_left : SameLengths x y → ((q : Refusal) → r ≡ Err q → keeps_all q ≡ true) → (r ≡ setup_answer call) × (y ≡ setup_left call x)
+  judged_left n k = go r refl
+    where
+      go : (t : Result Setup Refusal) → r ≡ t → (r ≡ setup_answer call) × (y ≡ setup_left call x)
+      go (Ok s) e = rw e (judged_built s e n)
+      go (Err q) e = rw e (judged_kept q e (k q e))
 
 -- ---- the checks
 

@@ -12,12 +12,12 @@ use Rattle.definitions.specs.Numbers.{zeroᶠ, largest}
 use Rattle.definitions.specs.Refusal.{Outcome, refused, done, ◌>>=◌}
 use Rattle.definitions.specs.Matrix.{Matrix}
 use Rattle.definitions.specs.Coarse.{averaged_square, averaged, entry_in, coarse_factor, coarse_part}
-use Rattle.definitions.specs.Setup.{coarse_entry, transfer_floats, lent_of}
+use Rattle.definitions.specs.Setup.{Lent, coarse_entry, transfer_floats, lent_of}
 use Rattle.definitions.specs.declared.Setup.{Setup}
 use Rattle.laws.proofs.Lists.{length_square}
 use Rattle.laws.proofs.Outcomes.{bind_done, done_inj}
 use Rattle.two_level_setup.specs.Stages.{Parts, parts_answer, filled, matrix_of, measured, stored, coarse_stage}
-use Rattle.two_level_setup.specs.Fit.{Ample, MatrixFit}
+use Rattle.two_level_setup.specs.Fit.{Ample}
 use Rattle.two_level_setup.specs.Promises.{room_in, Holds, Simulates, Weighed, MatrixStage, Factored, factored_answer}
 use Rattle.two_level_setup.proofs.Padding.{padded_all, padded_join}
 use Rattle.two_level_setup.proofs.Lending.{taken_zeros, put_zeros, front_padded, put_front}
@@ -37,21 +37,8 @@ unfolding factored_answer parts_answer measured filled stored ◌>>=◌
 told entries s p m (done l) e = rw e
 told entries s p m (refused r) e = refl
 
--- of ample lists, what the coarse matrix is lent
-pub matrix_fits_lem : (a : Matrix) (s : Setup) (ints : List ℕ) (floats : List Float) (work_ints : List ℕ) (work_floats : List Float) → Ample a s (room_in ints floats work_ints work_floats)
-    → MatrixFit a s (room_in ints floats (take (a.rows + 2 * s.coarse) work_ints) (take (s.coarse * s.coarse + s.coarse) work_floats))
-matrix_fits_lem a s ints floats work_ints work_floats w = record {
-  front = w.front;
-  counted = w.counted;
-  small = w.small;
-  ints = w.ints;
-  floats = omega (arith, w.floats);
-  work_ints = rw (length-take-le (a.rows + 2 * s.coarse) work_ints (omega (arith, w.work_ints))) (omega arith);
-  work_floats = rw (length-take-le (s.coarse * s.coarse + s.coarse) work_floats (omega (arith, w.work_floats))) (omega arith);
-}
-
-module _ (a : Matrix) (s : Setup) (ints : List ℕ) (floats : List Float) (work_ints : List ℕ) (work_floats : List Float) (w : Ample a s (room_in ints floats work_ints work_floats))
-    (backInts : List ℕ) (made : List Float) (li : length backInts ≡ length (take (a.rows + 2 * s.coarse) work_ints)) (lm : length made ≡ length (take (s.coarse * s.coarse + s.coarse) work_floats)) where
+module _ (a : Matrix) (s : Setup) (memory : Lent) (w : Ample a s (room_in memory))
+    (backInts : List ℕ) (made : List Float) (li : length backInts ≡ length (take (a.rows + 2 * s.coarse) memory.work_ints)) (lm : length made ≡ length (take (s.coarse * s.coarse + s.coarse) memory.work_floats)) where
   abbrev c : ℕ
   c = s.coarse
 
@@ -72,61 +59,58 @@ module _ (a : Matrix) (s : Setup) (ints : List ℕ) (floats : List Float) (work_
 
   -- the work floats behind the coarse matrix
   abbrev work : List Float
-  work = made ++ drop part work_floats
+  work = made ++ drop part memory.work_floats
 
-  part_fits : part ≤ length work_floats
+  part_fits : part ≤ length memory.work_floats
   part_fits = omega (arith, w.work_floats)
 
-  stop_fits : stop ≤ length floats
+  stop_fits : stop ≤ length memory.floats
   stop_fits = omega (arith, w.floats, w.counted.transfers)
 
   made_long : length made ≡ part
-  made_long = lm ∙ length-take-le part work_floats part_fits
+  made_long = lm ∙ length-take-le part memory.work_floats part_fits
 
   made_back : take part work ≡ made
-  made_back = take_at made (drop part work_floats) part made_long
+  made_back = take_at made (drop part memory.work_floats) part made_long
 
-  work_long : length work ≡ length work_floats
-  work_long = length_front work_floats made part lm
+  work_long : length work ≡ length memory.work_floats
+  work_long = length_front memory.work_floats made part lm
 
-  pub work_fits : part ≤ length work
-  work_fits = omega (arith, work_long, part_fits)
-
-  pub stop_front : length (take stop floats) ≡ stop
-  stop_front = length-take-le stop floats stop_fits
+  pub stop_front : length (take stop memory.floats) ≡ stop
+  stop_front = length-take-le stop memory.floats stop_fits
 
   pub work_front : length (take part work) ≡ part
   work_front = ap length made_back ∙ made_long
 
-  pub factor_fits : (c ≤ 2048) × (start + c * c ≤ length (take stop floats)) × (c * c ≤ length (take part work))
+  pub factor_fits : (c ≤ 2048) × (start + c * c ≤ length (take stop memory.floats)) × (c * c ≤ length (take part work))
   factor_fits = (w.small, rw stop_front (omega arith), rw work_front (omega arith))
 
-  module _ (r : (Result Setup Refusal)) (floats1 back : List Float) (lf : length floats1 ≡ length (take stop floats)) (lb : length back ≡ length (take part work)) where
-    pub coarse_left : MatrixStage a s ints floats (take few work_ints) (take part work_floats) backInts made → Factored (measured entries s (take (c * c) (take part work))) start (take stop floats) (take part work) r floats1 back
-        → Simulates (Weighed a) (coarse_stage a) s (lent_of ints floats work_ints work_floats) r (lent_of ints (floats1 ++ drop stop floats) (backInts ++ drop few work_ints) (back ++ drop part work))
+  module _ (r : (Result Setup Refusal)) (floats1 back : List Float) (lf : length floats1 ≡ length (take stop memory.floats)) (lb : length back ≡ length (take part work)) where
+    pub coarse_left : MatrixStage a s memory.ints memory.floats (take few memory.work_ints) (take part memory.work_floats) backInts made → Factored (measured entries s (take (c * c) (take part work))) start (take stop memory.floats) (take part work) r floats1 back
+        → Simulates (Weighed a) (coarse_stage a) s memory r (lent_of memory.ints (floats1 ++ drop stop memory.floats) (backInts ++ drop few memory.work_ints) (back ++ drop part work))
     unfolding coarse_stage stored measured filled
     coarse_left stage fd p es wd h = record {
       answer = fd.answer ∙ ap (λ l. factored_answer (measured entries s l) (largest l) (coarse_factor c l)) is ∙ ap (λ n. factored_answer (measured entries s mm) (largest mm) (coarse_factor n mm)) c_same ∙ told entries s p mm (coarse_factor p.setup.coarse mm) es;
       left = λ q eq.
           let d = bind_done (coarse_factor p.setup.coarse mm) (λ l. done (stored entries p mm l)) q eq in
           let el : coarse_factor c (take (c * c) (take part work)) ≡ done d.0 = ap (λ l. coarse_factor c l) is ∙ ap (λ n. coarse_factor n mm) c_same ∙ d.1 in
-          subst (λ z. Holds z (lent_of ints (floats1 ++ drop stop floats) (backInts ++ drop few work_ints) (back ++ drop part work))) (done_inj d.2) (holds d.0 el);
+          subst (λ z. Holds z (lent_of memory.ints (floats1 ++ drop stop memory.floats) (backInts ++ drop few memory.work_ints) (back ++ drop part work))) (done_inj d.2) (holds d.0 el);
     }
       where
         mm : List Float
         mm = matrix_of a p
 
-        lent : Holds p (lent_of ints floats (take few work_ints) (take part work_floats))
-        lent = record { ints = h.ints; floats = h.floats; work_ints = taken_zeros 0 few work_ints h.work_ints; work_floats = taken_zeros zeroᶠ part work_floats h.work_floats }
+        lent : Holds p (lent_of memory.ints memory.floats (take few memory.work_ints) (take part memory.work_floats))
+        lent = record { ints = h.ints; floats = h.floats; work_ints = taken_zeros 0 few memory.work_ints h.work_ints; work_floats = taken_zeros zeroᶠ part memory.work_floats h.work_floats }
 
         c_same : c ≡ p.setup.coarse
         c_same = ap (λ (t : Setup). t.coarse) (sym es)
 
-        out : (backInts ≡ replicate (length (take few work_ints)) 0) × (made ≡ padded zeroᶠ (length (take part work_floats)) mm)
+        out : (backInts ≡ replicate (length (take few memory.work_ints)) 0) × (made ≡ padded zeroᶠ (length (take part memory.work_floats)) mm)
         out = stage p es wd lent
 
         is : take (c * c) (take part work) ≡ mm
-        is = rw (made_back, out.1) (padded_all zeroᶠ (length (take part work_floats)) (c * c) mm (matrix_long a p ∙ rw c_same))
+        is = rw (made_back, out.1) (padded_all zeroᶠ (length (take part memory.work_floats)) (c * c) mm (matrix_long a p ∙ rw c_same))
 
         -- what stands before the coarse part
         before : List Float
@@ -135,26 +119,26 @@ module _ (a : Matrix) (s : Setup) (ints : List ℕ) (floats : List Float) (work_
         before_long : length before ≡ start
         before_long = length-append p.factors (transfer_floats p.weights) ∙ rw (wd.sound.factors, wd.sound.transfers, es)
 
-        stands : floats ≡ padded zeroᶠ (length floats) before
-        stands = h.floats ∙ ap (λ l. padded zeroᶠ (length floats) (before ++ l)) wd.sound.coarse ∙ ap (λ l. padded zeroᶠ (length floats) l) (append-nil before)
+        stands : memory.floats ≡ padded zeroᶠ (length memory.floats) before
+        stands = h.floats ∙ ap (λ l. padded zeroᶠ (length memory.floats) (before ++ l)) wd.sound.coarse ∙ ap (λ l. padded zeroᶠ (length memory.floats) l) (append-nil before)
 
         short : length before ≤ stop
         short = rw before_long (omega arith)
 
-        front : take start (take stop floats) ≡ before
-        front = ap (λ l. take start l) (front_padded zeroᶠ stop floats before stands short stop_fits) ∙ padded_all zeroᶠ (length (take stop floats)) start before before_long
+        front : take start (take stop memory.floats) ≡ before
+        front = ap (λ l. take start l) (front_padded zeroᶠ stop memory.floats before stands short stop_fits) ∙ padded_all zeroᶠ (length (take stop memory.floats)) start before before_long
 
-        holds : (l : List Float) → coarse_factor c (take (c * c) (take part work)) ≡ done l → Holds (stored entries p mm l) (lent_of ints (floats1 ++ drop stop floats) (backInts ++ drop few work_ints) (back ++ drop part work))
+        holds : (l : List Float) → coarse_factor c (take (c * c) (take part work)) ≡ done l → Holds (stored entries p mm l) (lent_of memory.ints (floats1 ++ drop stop memory.floats) (backInts ++ drop few memory.work_ints) (back ++ drop part work))
         holds l el =
             let cp : List Float = coarse_part p.setup.policy p.setup.coarse l in
-            let fs : floats1 ≡ padded zeroᶠ (length (take stop floats)) (before ++ cp)
-            = fd.part l el ∙ ap (λ (t : Setup). take start (take stop floats) ++ padded zeroᶠ (length (take stop floats) - start) (coarse_part t.policy t.coarse l)) (sym es)
-            ∙ ap (λ x. x ++ padded zeroᶠ (length (take stop floats) - start) cp) front ∙ padded_join zeroᶠ (length (take stop floats)) start before cp before_long in
-            let rest : drop part work ≡ drop part work_floats = drop_at made (drop part work_floats) part made_long in
-            let zs : back ≡ replicate (length (take part work_floats)) zeroᶠ = fd.clear l el ∙ ap (λ x. replicate (length x) zeroᶠ) made_back ∙ ap (λ n. replicate n zeroᶠ) lm in
+            let fs : floats1 ≡ padded zeroᶠ (length (take stop memory.floats)) (before ++ cp)
+            = fd.part l el ∙ ap (λ (t : Setup). take start (take stop memory.floats) ++ padded zeroᶠ (length (take stop memory.floats) - start) (coarse_part t.policy t.coarse l)) (sym es)
+            ∙ ap (λ x. x ++ padded zeroᶠ (length (take stop memory.floats) - start) cp) front ∙ padded_join zeroᶠ (length (take stop memory.floats)) start before cp before_long in
+            let rest : drop part work ≡ drop part memory.work_floats = drop_at made (drop part memory.work_floats) part made_long in
+            let zs : back ≡ replicate (length (take part memory.work_floats)) zeroᶠ = fd.clear l el ∙ ap (λ x. replicate (length x) zeroᶠ) made_back ∙ ap (λ n. replicate n zeroᶠ) lm in
             record {
               ints = h.ints;
-              floats = put_front zeroᶠ stop floats before stands short stop_fits floats1 (before ++ cp) fs lf ∙ ap (λ n. padded zeroᶠ n (before ++ cp)) (sym (length_front floats floats1 stop lf));
-              work_ints = put_zeros 0 few work_ints backInts h.work_ints out.0 ∙ ap (λ n. replicate n 0) (sym (length_front work_ints backInts few li));
-              work_floats = ap (λ x. back ++ x) rest ∙ put_zeros zeroᶠ part work_floats back h.work_floats zs ∙ ap (λ n. replicate n zeroᶠ) (sym (length_front work back part lb ∙ work_long));
+              floats = put_front zeroᶠ stop memory.floats before stands short stop_fits floats1 (before ++ cp) fs lf ∙ ap (λ n. padded zeroᶠ n (before ++ cp)) (sym (length_front memory.floats floats1 stop lf));
+              work_ints = put_zeros 0 few memory.work_ints backInts h.work_ints out.0 ∙ ap (λ n. replicate n 0) (sym (length_front memory.work_ints backInts few li));
+              work_floats = ap (λ x. back ++ x) rest ∙ put_zeros zeroᶠ part memory.work_floats back h.work_floats zs ∙ ap (λ n. replicate n zeroᶠ) (sym (length_front work back part lb ∙ work_long));
             }

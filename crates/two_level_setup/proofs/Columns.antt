@@ -1,13 +1,14 @@
 -- The coarse columns of all rows as a list. With block size 1 the coarse column of a row is read from it, so that transfer and coarse matrix made from the list are those made from the ids.
 use mathlib.Core.Path.{◌≡◌, refl, ap, sym, ◌∙◌, subst, fun_ext}
 use mathlib.Core.Bool.{Bool, true, false}
-use mathlib.Core.List.{List, ◌∷◌, ◌++◌, map, flat_map}
+use mathlib.Core.List.{List, ◌∷◌, ◌++◌, map, flat_map, append_assoc}
 use Prim.Native.Nat.{ℕ, suc, ◌+◌, ◌*◌, ◌/◌, ◌%◌, ◌≤◌, ◌<◌}
 use native.Mathlib.Omega.{arith}
-use native.Mathlib.Nat.{div-add-mod', div-lt_iff_lt-mul, mod-lt, mul-le-mul_right, le-mul_of_pos_right, mul_comm, mul-add-div, mul-add-mod_self_left, div-eq_of_lt, mod-eq_of_lt, add-zero, mul-le-mul, add-mul, lt_of_mul-lt-mul_right}
+use native.Mathlib.Nat.{div-add-mod', div-lt_iff_lt-mul, mod-lt, mul-le-mul_right, le-mul_of_pos_right, mul_comm, mul-add-div, mul-add-mod_self_left, div-eq_of_lt, mod-eq_of_lt, add-zero}
 use lib.Dec.{eqb}
-use lib.Seq.{slice, length-take-le}
-use lib.ListN.{length, get_or, set, take, drop, length-set}
+use lib.Seq.{slice, length-take-le, take_at, drop_at, drop-drop}
+use borrow.Rule.Slice.PartMut.{put_mid}
+use lib.ListN.{length, get_or, take, drop}
 use lib.Ieee.{Float, ne}
 use Rattle.definitions.specs.Lists.{tab, up_to, keep}
 use Rattle.definitions.specs.Numbers.{zeroᶠ, total}
@@ -16,8 +17,8 @@ use Rattle.definitions.specs.Matrix.{Matrix, Entry, entries_of, row_of, values_w
 use Rattle.definitions.specs.Transfer.{coarse_column, tentative, smoothing_terms, weight_at, transfer_row, transfer_of}
 use Rattle.definitions.specs.Coarse.{constant_terms, constant_entry}
 use Rattle.definitions.specs.Setup.{max_coarse}
-use Rattle.laws.proofs.Lists.{Each, none, more, each_imp, each_take, each_drop, each_by, each_at, each_zip_with, each_up_to, each_tab, tab_cong, get_d_tab}
-use Rattle.laws.proofs.Growing.{tab_none, tab_more, tab_all}
+use Rattle.laws.proofs.Lists.{Each, none, more, each_imp, each_take, each_drop, each_by, each_at, each_zip_with, each_up_to, each_tab, tab_cong, tab_append, length_tab, get_d_tab}
+use Rattle.laws.proofs.Growing.{tab_none}
 use Rattle.csr32.specs.Rows.{rows_of}
 use Rattle.two_level_setup.specs.Promises.{Listed}
 
@@ -41,11 +42,6 @@ ids_small groups size h l b = each_imp (λ g k. omega (arith, le-mul_of_pos_righ
 pub whole_nodes : (rows size nodes : ℕ) → rows % size ≡ 0 → nodes ≡ rows / size → rows ≡ nodes * size
 whole_nodes rows size nodes w e = rw e (omega (arith, div-add-mod' rows size, w))
 
--- the list of columns is as long as the ids ask
-pub columns_fit : (size nodes rows : ℕ) (ints work : List ℕ) → rows ≡ nodes * size → nodes ≤ length ints → rows ≤ length work → length (take rows work) ≡ length (take nodes ints) * size
-columns_fit size nodes rows ints work e h l =
-    length-take-le rows work l ∙ e ∙ ap (λ m. m * size) (sym (length-take-le nodes ints h))
-
 -- the unknown `part` of a node
 pub unknown_of : (size : ℕ) (ids : List ℕ) (node part : ℕ) → part < size → coarse_column size ids (node * size + part) ≡ get_or ids node 0 * size + part
 unfolding coarse_column
@@ -55,44 +51,27 @@ unknown_of size ids node part h =
     positive : {x y : ℕ} → x < y → 0 < y
     positive l = omega arith
 
-pub product_most : (x y : ℕ) → x ≤ 2_048 → y ≤ 8 → x * y ≤ 16_384
-product_most x y h k = mul-le-mul h k
-
 -- ---- the list as it fills
 
--- `row` rows are listed; the next is the unknown `part` of a node
-pub record Listing (size : ℕ) (ids columns₀ columns : List ℕ) (node part row : ℕ) : Type 0 where
-  pub is : row ≡ node * size + part
-  pub inside : part < size
-  pub long : length columns ≡ length columns₀
-  pub front : Each (λ g. g ≤ max_coarse) ids → columns ≡ tab (coarse_column size ids) row ++ drop row columns₀
+-- `row` rows are listed
+abbrev pub Listing : ℕ → List ℕ → List ℕ → List ℕ → ℕ → Type 0
+Listing size ids columns₀ columns row = Each (λ g. g ≤ max_coarse) ids → columns ≡ tab (coarse_column size ids) row ++ drop row columns₀
 
-module _ (size : ℕ) (ids columns₀ : List ℕ) where
-  pub listing_first : 1 ≤ size → Listing size ids columns₀ columns₀ 0 0 0
-  listing_first h = record { is = omega arith; inside = h; long = refl; front = λ _. tab_none (coarse_column size ids) columns₀ }
+pub listing_first : (size : ℕ) (ids columns : List ℕ) → Listing size ids columns columns (0 * size)
+listing_first size ids columns = let z : 0 * size ≡ 0 = omega arith in rw z (λ _. tab_none (coarse_column size ids) columns)
 
-  module _ (columns : List ℕ) (node part row : ℕ) (g : Listing size ids columns₀ columns node part row) where
-    pub listing_reads : length columns₀ ≡ length ids * size → row < length columns₀ → node < length ids
-    listing_reads e h = lt_of_mul-lt-mul_right size (let m : node * size < length ids * size = omega (arith, g.is, e) in m)
+-- and those of one more node
+module _ (size : ℕ) (ids columns₀ columns part : List ℕ) (node v : ℕ) (k : node < length ids) (e : get_or ids node 0 ≤ max_coarse → v ≡ get_or ids node 0 * size) (p : part ≡ tab (λ j. v + j) size) where
+  abbrev row : ℕ
+  row = node * size
 
-    module _ (k : node < length ids) (h : row < length columns₀) (v : ℕ) (e : get_or ids node 0 ≤ max_coarse → v ≡ get_or ids node 0 * size + part) where
-      listing_stored : (node' part' : ℕ) → part' < size → node' * size + part' ≡ node * size + part + 1 → Listing size ids columns₀ (set columns row v) node' part' (row + 1)
-      listing_stored node' part' l m = record {
-        is = rw m (omega (arith, g.is));
-        inside = l;
-        long = length-set columns row v ∙ g.long;
-        front = λ b. tab_more (coarse_column size ids) row columns columns₀ v h (g.front b) (e (each_at ids node 0 b k) ∙ sym (unknown_of size ids node part g.inside) ∙ ap (λ i. coarse_column size ids i) (sym g.is));
-      }
-
-      -- then comes the next unknown of the node, or the first one of the next node
-      pub listing_on : (part + 1 ≡ size → ⊥) → Listing size ids columns₀ (set columns row v) node (part + 1) (row + 1)
-      listing_on n = listing_stored node (part + 1) (omega (arith, n, g.inside)) (omega arith)
-
-      pub listing_over : part + 1 ≡ size → Listing size ids columns₀ (set columns row v) (node + 1) 0 (row + 1)
-      listing_over q = listing_stored (node + 1) 0 (omega (arith, g.inside)) (omega (arith, add-mul node 1 size))
-
-    pub listing_last : row ≡ length columns₀ → Each (λ g. g ≤ max_coarse) ids → columns ≡ tab (coarse_column size ids) (length columns₀)
-    listing_last e b = tab_all (coarse_column size ids) row columns columns₀ e (g.front b)
+  pub listing_node : Listing size ids columns₀ columns row → Listing size ids columns₀ (put_mid row size columns part) (row + size)
+  listing_node g b =
+      let f : ℕ → ℕ = coarse_column size ids in
+      let t : take row columns ≡ tab f row = ap (take row) (g b) ∙ take_at (tab f row) (drop row columns₀) row (length_tab f row) in
+      let d : drop row columns ≡ drop row columns₀ = ap (drop row) (g b) ∙ drop_at (tab f row) (drop row columns₀) row (length_tab f row) in
+      let q : part ≡ tab (λ j. f (row + j)) size = p ∙ tab_cong (λ j. v + j) (λ j. f (row + j)) size (λ j h. rw (e (each_at ids node 0 b k)) (sym (unknown_of size ids node j h))) in
+      rw (t, d, q, tab_append f row size, drop-drop size row columns₀) (sym (append_assoc (tab f row) (tab (λ j. f (row + j)) size) (drop (row + size) columns₀)))
 
 -- ---- the list that is made, where the ids stand at the front of a list
 

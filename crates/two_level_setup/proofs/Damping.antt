@@ -32,7 +32,7 @@ module _ (a : Matrix) where
   sums_length (suc left) i sums d e = go (stored_at a i i) (λ k. sums_length left (suc i) (sums ++ (total (stored_at a i i) ∷ [])) d k) e
     where
       go : (s : List Float) → (diagonal_from a left (suc i) (sums ++ (total (stored_at a i i) ∷ [])) ≡ done d → length d ≡ length (sums ++ (total (stored_at a i i) ∷ [])) + left) → ◌≡◌ {A = Outcome (List Float)} (elim s [ [] ↦ refused (MissingDiagonal i) | v ∷ vs ↦ diagonal_from a left (suc i) (sums ++ (total (stored_at a i i) ∷ [])) ]) (done d) → length d ≡ length sums + suc left
-      go [] q k = absurd (let z : ◌≡◌ {A = ℕ} 0 1 = cc in omega arith)
+      go [] q k = absurd (cc)
       go (v ∷ vs) q k = omega (arith, q k, length-append sums (total (stored_at a i i) ∷ []))
 
   pub diagonal_length : (d : List Float) → diagonal_of a ≡ done d → length d ≡ a.rows

@@ -109,14 +109,14 @@ module _ (a : Matrix) (o : Options) (f : Front a o) where
 
 -- ---- the two calls
 
-module _ (a : Matrix) (o : Options) (ints : List ℕ) (floats : List Float) (work_ints : List ℕ) (work_floats : List Float) (f : Fit a o (room_in ints floats work_ints work_floats)) where
-  blocks_pass : blocks_call a o.block (length floats) ≡ factors_of a o.block
+module _ (a : Matrix) (o : Options) (memory : Lent) (f : Fit a o (room_in memory)) where
+  blocks_pass : blocks_call a o.block (length memory.floats) ≡ factors_of a o.block
   unfolding blocks_call
   blocks_pass =
       goes_on (valid_of a) tt _ f.front.valid
       ∙ goes_on _ tt _ (passed _ NotSquare (eq-eqb a.cols a.rows f.front.square))
       ∙ goes_on _ tt _ (passed _ BlockSize (rw (le-leb 1 o.block f.front.least, le-leb o.block max_block f.front.most)))
-      ∙ goes_on _ tt _ (passed _ ListTooShort (le-leb (a.rows * o.block) (length floats) (omega (arith, f.floats))))
+      ∙ goes_on _ tt _ (passed _ ListTooShort (le-leb (a.rows * o.block) (length memory.floats) (omega (arith, f.floats))))
 
   -- what 1 to 12 leave tells that they pass
   front_passes : front_of a o ≡ done tt
@@ -128,17 +128,17 @@ module _ (a : Matrix) (o : Options) (ints : List ℕ) (floats : List Float) (wor
       ∙ goes_on _ tt _ (passed _ GroupSize (rw (le-leb 1 o.group f.front.some, le-leb o.group max_group f.front.fewest)))
       ∙ passed _ NotMultiple (eq-eqb (a.rows % o.block) 0 f.front.whole)
 
-  aggregate_passes : aggregate_call a o (length ints) (length work_ints) (length work_floats) ≡ grouping_of o.aggregation a o
+  aggregate_passes : aggregate_call a o (length memory.ints) (length memory.work_ints) (length memory.work_floats) ≡ grouping_of o.aggregation a o
   unfolding aggregate_call has_room
   aggregate_passes =
       goes_on (asked a o) tt _ (front_asked a o front_passes)
       ∙ goes_on _ tt _ (passed _ ListTooShort (rw (
-        le-leb (node_count a o) (length ints) (omega (arith, f.ints)),
-        le-leb (8 * node_count a o + 4 * length a.values + 16) (length work_ints) (omega (arith, f.work_ints, div-le_self a.rows o.block)),
-        le-leb (3 * node_count a o) (length work_floats) (omega (arith, f.work_floats, div-le_self a.rows o.block)),
+        le-leb (node_count a o) (length memory.ints) (omega (arith, f.ints)),
+        le-leb (8 * node_count a o + 4 * length a.values + 16) (length memory.work_ints) (omega (arith, f.work_ints, div-le_self a.rows o.block)),
+        le-leb (3 * node_count a o) (length memory.work_floats) (omega (arith, f.work_floats, div-le_self a.rows o.block)),
       )))
 
-  module _ (x : (Result (Unit {0}) Refusal)) (ex : x ≡ answer_of (blocks_call a o.block (length floats))) where
+  module _ (x : (Result (Unit {0}) Refusal)) (ex : x ≡ answer_of (blocks_call a o.block (length memory.floats))) where
     pub blocks_refused : (r : Refusal) (y : Lent) → x ≡ Err r → Leaves (fine_of a o) (Err r) y
     unfolding fine_of
     blocks_refused r y e = leaves_refused (fine_of a o) r y (stops (factors_of a o.block) r _ (refused_is (factors_of a o.block) r (ap answer_of (sym blocks_pass) ∙ sym ex ∙ e)))
@@ -149,7 +149,7 @@ module _ (a : Matrix) (o : Options) (ints : List ℕ) (floats : List Float) (wor
     has_factors (refused r) e = ([], cc)
 
     module _ (accepted : x ≡ (Ok tt)) (z : (Result ℕ Refusal)) (ints1 workInts1 : List ℕ) (workFloats1 : List Float)
-        (s : Answered (aggregate_call a o (length ints) (length work_ints) (length work_floats)) ints work_ints work_floats z ints1 workInts1 workFloats1) where
+        (s : Answered (aggregate_call a o (length memory.ints) (length memory.work_ints) (length memory.work_floats)) memory.ints memory.work_ints memory.work_floats z ints1 workInts1 workFloats1) where
       abbrev factors : (l : List Float) × (factors_of a o.block ≡ done l)
       factors = has_factors (factors_of a o.block) (sym accepted ∙ ex ∙ ap answer_of blocks_pass)
 
@@ -178,23 +178,23 @@ module _ (a : Matrix) (o : Options) (ints : List ℕ) (floats : List Float) (wor
         pub groups_few : groups ≤ node_count a o
         groups_few = rw grouping.2 (count_few a o grouping.0 o.aggregation f.front.some grouping.1)
 
-        pub fine_built : (t : Setup) → t ≡ started a.rows (length a.values) o groups → (floats1 : List Float) → floats1 ≡ blocks_left a o.block floats
-            → length ints1 ≡ length ints → length floats1 ≡ length floats → length workInts1 ≡ length work_ints → length workFloats1 ≡ length work_floats
+        pub fine_built : (t : Setup) → t ≡ started a.rows (length a.values) o groups → (floats1 : List Float) → floats1 ≡ blocks_left a o.block memory.floats
+            → length ints1 ≡ length memory.ints → length floats1 ≡ length memory.floats → length workInts1 ≡ length memory.work_ints → length workFloats1 ≡ length memory.work_floats
             → Leaves (fine_of a o) (Ok t) (lent_of ints1 floats1 workInts1 workFloats1)
         unfolding fine_of grouped started blocks_left result_left work_left ids_left ◌>>=◌
         fine_built t et floats1 ef li lf lwi lwf =
             let l = factors.0 in
             let g = grouping.0 in
-            let p : aggregate_call a o (length ints) (length work_ints) (length work_floats) ≡ done g = aggregate_passes ∙ grouping.1 in
+            let p : aggregate_call a o (length memory.ints) (length memory.work_ints) (length memory.work_floats) ≡ done g = aggregate_passes ∙ grouping.1 in
             let short : length g.ids < length ints1 = omega (arith, ids_length a o g o.aggregation grouping.1, f.ints, li) in
             let k : fine_of a o ≡ done (grouped a o l g) = goes_on (factors_of a o.block) l _ factors.1 ∙ goes_on (grouping_of o.aggregation a o) g _ grouping.1 in
-            let st : floats1 ≡ padded zeroᶠ (length floats1) l = ef ∙ ap (λ q. result_left zeroᶠ q floats) (blocks_pass ∙ factors.1) ∙ ap (λ n. padded zeroᶠ n l) (sym lf) in
-            let si : ints1 ≡ padded 0 (length ints1) g.ids = s.groups ∙ ap (λ q. ids_left q ints) p ∙ ap (λ n. padded 0 n g.ids) (sym li) in
+            let st : floats1 ≡ padded zeroᶠ (length floats1) l = ef ∙ ap (λ q. result_left zeroᶠ q memory.floats) (blocks_pass ∙ factors.1) ∙ ap (λ n. padded zeroᶠ n l) (sym lf) in
+            let si : ints1 ≡ padded 0 (length ints1) g.ids = s.groups ∙ ap (λ q. ids_left q memory.ints) p ∙ ap (λ n. padded 0 n g.ids) (sym li) in
             let h : Holds (grouped a o l g) (lent_of ints1 floats1 workInts1 workFloats1) = record {
               ints = si ∙ sym (no_rows o.basis (length ints1) g.ids short);
               floats = st ∙ ap (λ q. padded zeroᶠ (length floats1) q) (sym (no_weights l [] ∙ append-nil l));
-              work_ints = s.ints ∙ ap (λ q. work_left 0 q work_ints) p ∙ ap (λ n. replicate n 0) (sym lwi);
-              work_floats = s.floats ∙ ap (λ q. work_left zeroᶠ q work_floats) p ∙ ap (λ n. replicate n zeroᶠ) (sym lwf);
+              work_ints = s.ints ∙ ap (λ q. work_left 0 q memory.work_ints) p ∙ ap (λ n. replicate n 0) (sym lwi);
+              work_floats = s.floats ∙ ap (λ q. work_left zeroᶠ q memory.work_floats) p ∙ ap (λ n. replicate n zeroᶠ) (sym lwf);
             } in
             subst (λ q. Leaves (fine_of a o) (Ok q) (lent_of ints1 floats1 workInts1 workFloats1)) (sym (et ∙ ap (λ n. started a.rows (length a.values) o n) grouping.2))
             (leaves_done (fine_of a o) (grouped a o l g) (lent_of ints1 floats1 workInts1 workFloats1) k h)

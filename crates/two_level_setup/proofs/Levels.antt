@@ -1,7 +1,6 @@
 -- The two levels put together: room, transfer and coarse part; then the fine level and these.
 use Rattle.std.specs.Prelude.{Err, Ok, Result}
 use mathlib.Core.Path.{◌≡◌, ap, sym, ◌∙◌, subst}
-use lib.ListN.{length}
 use Rattle.definitions.specs.Refusal.{done, ◌>>=◌}
 use Rattle.definitions.specs.Matrix.{Matrix, valid_of}
 use Rattle.definitions.specs.Places.{Lengths}
@@ -45,16 +44,12 @@ module _ (a : Matrix) (s : Setup) (room : Lengths) (x : Lent) (z : (Result (Unit
 
 -- ---- the fine level, then the coarse one
 
-module _ (a : Matrix) (o : Options) (x : Lent) (sized : Sized a o (room_in x.ints x.floats x.work_ints x.work_floats)) (r : (Result Setup Refusal)) (y : Lent) (j : Judged a (fine_of a o) x r y)
-    (li : length y.ints ≡ length x.ints) (lf : length y.floats ≡ length x.floats) (lwi : length y.work_ints ≡ length x.work_ints) (lwf : length y.work_floats ≡ length x.work_floats) where
+module _ (a : Matrix) (o : Options) (x : Lent) (sized : Sized a o (room_in x)) (r : (Result Setup Refusal)) (y : Lent) (j : Judged a (fine_of a o) x r y) (same : room_in y ≡ room_in x) where
   abbrev before : Lengths
-  before = room_in x.ints x.floats x.work_ints x.work_floats
+  before = room_in x
 
   abbrev after : Lengths
-  after = room_in y.ints y.floats y.work_ints y.work_floats
-
-  same : after ≡ before
-  same = rw (li, lf, lwi, lwf)
+  after = room_in y
 
   pub built_refused : (q : Refusal) → r ≡ Err q → Judged a (build_of a o before) x (Err q) y
   unfolding build_of

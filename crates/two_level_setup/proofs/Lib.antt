@@ -6,7 +6,6 @@ pub mod Composition
 pub mod Clearing
 -- the stages: fine level, transfer, coarse part
 pub mod FineParts
-pub mod Policy
 pub mod Damping
 pub mod Columns
 pub mod Weights
@@ -19,3 +18,4 @@ pub mod Rooms
 pub mod Asking
 pub mod Levels
 pub mod Checks
+pub mod Lengths

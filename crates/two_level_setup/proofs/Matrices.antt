@@ -55,7 +55,7 @@ is_true : (b : Bool) → T b → b ≡ true
 is_true true t = refl
 is_true false t = elim t [ ]
 
-module _ (a : Matrix) (s : Setup) (ints : List ℕ) (floats : List Float) (work_ints : List ℕ) (work_floats : List Float) (w : MatrixFit a s (room_in ints floats work_ints work_floats)) where
+module _ (a : Matrix) (s : Setup) (ints : List ℕ) (floats : List Float) (work_ints : List ℕ) (work_floats : List Float) (w : MatrixFit a s (room_in (lent_of ints floats work_ints work_floats))) where
   abbrev n : ℕ
   n = s.nodes
 

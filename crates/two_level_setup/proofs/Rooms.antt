@@ -2,7 +2,7 @@
 use Rattle.std.specs.Prelude.{Err, Ok}
 use mathlib.Core.Path.{◌≡◌, refl, ap, sym, ◌∙◌}
 use mathlib.Core.Bool.{Bool, true, false, ◌&&◌}
-use Prim.Native.Nat.{ℕ, ◌+◌, ◌*◌, ◌≤◌, ◌<◌}
+use Prim.Native.Nat.{◌+◌, ◌*◌, ◌≤◌, ◌<◌}
 use native.Mathlib.Omega.{arith}
 use lib.Dec.{leb}
 use borrow.Author.Tests.{le-leb, lt-leb, leb-true}
@@ -18,29 +18,7 @@ use Rattle.laws.proofs.Outcomes.{test_true, last_true}
 use Rattle.csr32.specs.Calls.{accepted_done, goes_on, stops, passed, failed}
 use Rattle.two_level_grouping.specs.Front.{Front}
 use Rattle.two_level_setup.specs.Stages.{options_of, room_checked}
-use Rattle.two_level_setup.specs.Fit.{Fit, Counted, Ample, room_of}
-
--- ---- four lengths
-
-module _ (ni nf nwi nwf i f wi wf : ℕ) where
-  abbrev all : Bool
-  all = covers (room_of i f wi wf) (room_of ni nf nwi nwf)
-
-  pub short_ints : i < ni → false ≡ all
-  unfolding covers
-  short_ints h = rw (lt-leb ni i h)
-
-  pub short_floats : ni ≤ i → f < nf → false ≡ all
-  unfolding covers
-  short_floats a h = rw (le-leb ni i a, lt-leb nf f h)
-
-  pub short_work : ni ≤ i → nf ≤ f → wi < nwi → false ≡ all
-  unfolding covers
-  short_work a b h = rw (le-leb ni i a, le-leb nf f b, lt-leb nwi wi h)
-
-  pub last_length : ni ≤ i → nf ≤ f → nwi ≤ wi → leb nwf wf ≡ all
-  unfolding covers
-  last_length a b d = rw (le-leb ni i a, le-leb nf f b, le-leb nwi wi d)
+use Rattle.two_level_setup.specs.Fit.{Fit, Counted, Ample}
 
 -- ---- lists that are long enough
 

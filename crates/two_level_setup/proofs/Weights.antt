@@ -58,8 +58,8 @@ weighted a d damping size ids c = record {
 }
 
 -- with the coarse columns placed behind the ids
-module _ (a : Matrix) (s : Setup) (damping : Float) (ints : List ℕ) (floats : List Float) (work_ints : List ℕ) (work_floats : List Float) (w : Ample a s (room_in ints floats work_ints work_floats))
-    (placed cleared : List ℕ) (lp : length placed ≡ length ints) (lc : length cleared ≡ length work_ints) (pc : ColumnsPlaced s.block s.nodes a.rows ints work_ints placed cleared) where
+module _ (a : Matrix) (s : Setup) (damping : Float) (memory : Lent) (w : Ample a s (room_in memory))
+    (placed cleared : List ℕ) (lp : length placed ≡ length memory.ints) (lc : length cleared ≡ length memory.work_ints) (pc : ColumnsPlaced s.block s.nodes a.rows memory.ints memory.work_ints placed cleared) where
   abbrev used : ℕ
   used = a.rows * s.block
 
@@ -77,13 +77,13 @@ module _ (a : Matrix) (s : Setup) (damping : Float) (ints : List ℕ) (floats : 
   lent_ints = take few_ints cleared
 
   abbrev lent_floats : List Float
-  lent_floats = take few_floats work_floats
+  lent_floats = take few_floats memory.work_floats
 
   ints_long : length lent_ints ≡ few_ints
   ints_long = length-take-le few_ints cleared (omega (arith, lc, w.work_ints))
 
   floats_long : length lent_floats ≡ few_floats
-  floats_long = length-take-le few_floats work_floats (omega (arith, w.work_floats))
+  floats_long = length-take-le few_floats memory.work_floats (omega (arith, w.work_floats))
 
   abbrev listed : List ℕ → List ℕ
   listed ids = tab (coarse_column s.block ids) a.rows
@@ -126,23 +126,23 @@ module _ (a : Matrix) (s : Setup) (damping : Float) (ints : List ℕ) (floats : 
 
   -- ---- what stands in the lists before it
 
-  module _ (p : Parts) (d : List Float) (es : p.setup ≡ s) (bg : Begun a p) (ld : length d ≡ a.rows) (h : Holds (beside p d) (lent_of ints floats work_ints work_floats)) where
+  module _ (p : Parts) (d : List Float) (es : p.setup ≡ s) (bg : Begun a p) (ld : length d ≡ a.rows) (h : Holds (beside p d) memory) where
     nodes_are : length p.ids ≡ s.nodes
     nodes_are = bg.sound.ids ∙ ap (λ (t : Setup). t.nodes) es
 
     factors_are : length p.factors ≡ used
     factors_are = bg.sound.factors ∙ ap (λ (t : Setup). a.rows * t.block) es
 
-    ints_are : ints ≡ padded 0 (length ints) p.ids
-    ints_are = h.ints ∙ ap (λ l. padded 0 (length ints) (p.ids ++ transfer_ints p.setup.basis l)) bg.weights ∙ no_rows p.setup.basis (length ints) p.ids (omega (arith, nodes_are, w.ints))
+    ints_are : memory.ints ≡ padded 0 (length memory.ints) p.ids
+    ints_are = h.ints ∙ ap (λ l. padded 0 (length memory.ints) (p.ids ++ transfer_ints p.setup.basis l)) bg.weights ∙ no_rows p.setup.basis (length memory.ints) p.ids (omega (arith, nodes_are, w.ints))
 
-    floats_are : floats ≡ padded zeroᶠ (length floats) (p.factors ++ d)
-    floats_are = h.floats ∙ ap (λ l. padded zeroᶠ (length floats) (p.factors ++ transfer_floats l ++ d)) bg.weights ∙ ap (λ l. padded zeroᶠ (length floats) l) (no_weights p.factors d)
+    floats_are : memory.floats ≡ padded zeroᶠ (length memory.floats) (p.factors ++ d)
+    floats_are = h.floats ∙ ap (λ l. padded zeroᶠ (length memory.floats) (p.factors ++ transfer_floats l ++ d)) bg.weights ∙ ap (λ l. padded zeroᶠ (length memory.floats) l) (no_weights p.factors d)
 
     ids_below : Each (λ x. x < s.groups) p.ids
     ids_below = subst (λ (t : Setup). Each (λ x. x < t.groups) p.ids) es bg.sound.below
 
-    columns_placed : (placed ≡ padded 0 (length ints) (p.ids ++ listed p.ids)) × (cleared ≡ replicate (length work_ints) 0)
+    columns_placed : (placed ≡ padded 0 (length memory.ints) (p.ids ++ listed p.ids)) × (cleared ≡ replicate (length memory.work_ints) 0)
     columns_placed = pc p.ids ints_are nodes_are (ids_small s.groups s.block w.front.least (subst (λ m. m ≤ 2048) w.counted.coarse w.small) ids_below) h.work_ints
 
     cleared_is : cleared ≡ replicate (length cleared) 0
@@ -162,28 +162,28 @@ module _ (a : Matrix) (s : Setup) (damping : Float) (ints : List ℕ) (floats : 
         let m : s.nodes + a.rows - s.nodes ≡ a.rows = omega arith in
         rw (m, placed_behind) (padded_all 0 (length placed - s.nodes) a.rows (listed p.ids) (length_tab (coarse_column s.block p.ids) a.rows))
 
-    diagonal_read : between used (used + a.rows) floats ≡ d
+    diagonal_read : between used (used + a.rows) memory.floats ≡ d
     unfolding padded
     diagonal_read =
-        ap (λ l. between used (used + a.rows) l) (floats_are ∙ append_assoc p.factors d (replicate (length floats - length (p.factors ++ d)) zeroᶠ))
-        ∙ part_mid p.factors d (replicate (length floats - length (p.factors ++ d)) zeroᶠ) used (used + a.rows) factors_are (ap (λ n. used + n) ld)
+        ap (λ l. between used (used + a.rows) l) (floats_are ∙ append_assoc p.factors d (replicate (length memory.floats - length (p.factors ++ d)) zeroᶠ))
+        ∙ part_mid p.factors d (replicate (length memory.floats - length (p.factors ++ d)) zeroᶠ) used (used + a.rows) factors_are (ap (λ n. used + n) ld)
 
-    call_is : call_for (between s.nodes (s.nodes + a.rows) placed) (between used (used + a.rows) floats) ≡ done (rows_of d p.ids)
+    call_is : call_for (between s.nodes (s.nodes + a.rows) placed) (between used (used + a.rows) memory.floats) ≡ done (rows_of d p.ids)
     call_is = rw (columns_read, diagonal_read) (call_passes p.ids d nodes_are ids_below ld)
 
   -- ---- the call
 
   abbrev call : Outcome (List (List Entry))
-  call = call_for (between s.nodes (s.nodes + a.rows) placed) (between used (used + a.rows) floats)
+  call = call_for (between s.nodes (s.nodes + a.rows) placed) (between used (used + a.rows) memory.floats)
 
   module _ (x : (Result ℕ Refusal)) (ex : x ≡ transfer_answer call) where
-    pub transfer_refused : (r : Refusal) (n : ℕ) (y : Lent) → x ≡ Err r → n ≤ a.rows + length a.values → WeightsStage a s damping (lent_of ints floats work_ints work_floats) n y
+    pub transfer_refused : (r : Refusal) (n : ℕ) (y : Lent) → x ≡ Err r → n ≤ a.rows + length a.values → WeightsStage a s damping memory n y
     unfolding transfer_answer
     transfer_refused r n y e most = record {
       few = most;
       rows = λ p d es bg ld h.
           let q : Err r ≡ Ok (length (joined_lists (rows_of d p.ids))) = sym e ∙ ex ∙ ap transfer_answer (call_is p d es bg ld h) in
-          absurd (let z : ◌≡◌ {A = ℕ} 0 1 = cc in omega arith);
+          absurd (cc);
     }
 
     counted : (n : ℕ) (ws : List (List Entry)) → x ≡ Ok n → call ≡ done ws → n ≡ length (joined_lists ws)
@@ -197,11 +197,11 @@ module _ (a : Matrix) (s : Setup) (damping : Float) (ints : List ℕ) (floats : 
       mid_ints = backInts ++ drop few_ints cleared
 
       abbrev mid_floats : List Float
-      mid_floats = backFloats ++ drop few_floats work_floats
+      mid_floats = backFloats ++ drop few_floats memory.work_floats
 
-      pub weights_kept : length mid_ints ≡ length work_ints → length mid_floats ≡ length work_floats → MovedInts s.nodes (a.rows + 1 + transfers) placed mid_ints ints1 workInts1 → MovedFloats used (used + a.rows) transfers floats mid_floats floats1 workFloats1
-          → length ints1 ≡ length ints → length floats1 ≡ length floats → length workInts1 ≡ length work_ints → length workFloats1 ≡ length work_floats
-          → WeightsStage a s damping (lent_of ints floats work_ints work_floats) transfers (lent_of ints1 floats1 workInts1 workFloats1)
+      pub weights_kept : length mid_ints ≡ length memory.work_ints → length mid_floats ≡ length memory.work_floats → MovedInts s.nodes (a.rows + 1 + transfers) placed mid_ints ints1 workInts1 → MovedFloats used (used + a.rows) transfers memory.floats mid_floats floats1 workFloats1
+          → length ints1 ≡ length memory.ints → length floats1 ≡ length memory.floats → length workInts1 ≡ length memory.work_ints → length workFloats1 ≡ length memory.work_floats
+          → WeightsStage a s damping memory transfers (lent_of ints1 floats1 workInts1 workFloats1)
       unfolding ints_left floats_left result_left ◌>>=◌ transfer_ints transfer_floats transferred filled
       weights_kept lmi lmf mi mf li lf lwi lwf = record {
         few = most;
@@ -219,22 +219,22 @@ module _ (a : Matrix) (s : Setup) (damping : Float) (ints : List ℕ) (floats : 
             = put_padded 0 few_ints cleared backInts all (cleared_is p d es bg ld h) (omega (arith, lc, w.work_ints)) (rw pl (omega arith)) (ei ∙ ap (λ q. ints_left q lent_ints) is ∙ ap (λ q. padded 0 (length lent_ints) (pointers_from 0 ws ++ q)) (map_joined (λ (q : Entry). q.col) ws))
             ∙ ap (λ m. padded 0 m all) (lc ∙ sym lmi) in
             let f1 : mid_floats ≡ padded zeroᶠ (length mid_floats) (numbers_of ws)
-            = put_padded zeroᶠ few_floats work_floats backFloats (numbers_of ws) h.work_floats (omega (arith, w.work_floats)) (rw t (omega arith)) (ef ∙ ap (λ q. floats_left q lent_floats) is ∙ ap (λ q. padded zeroᶠ (length lent_floats) q) (map_joined (λ (q : Entry). q.value) ws))
+            = put_padded zeroᶠ few_floats memory.work_floats backFloats (numbers_of ws) h.work_floats (omega (arith, w.work_floats)) (rw t (omega arith)) (ef ∙ ap (λ q. floats_left q lent_floats) is ∙ ap (λ q. padded zeroᶠ (length lent_floats) q) (map_joined (λ (q : Entry). q.value) ws))
             ∙ ap (λ m. padded zeroᶠ m (numbers_of ws)) (sym lmf) in
             let ni = nodes_are p d es bg ld h in
             let nf = factors_are p d es bg ld h in
             let sf = floats_are p d es bg ld h in
-            let past : drop (used + a.rows) floats ≡ replicate (length floats - (used + a.rows)) zeroᶠ
-            = ap (λ q. drop (used + a.rows) q) sf ∙ padded_past zeroᶠ (length floats) (used + a.rows) (p.factors ++ d) (rw (length-append p.factors d, nf, ld) (omega arith)) in
-            let ff : take used floats ≡ p.factors = ap (λ q. take used q) sf ∙ padded_front zeroᶠ (length floats) used p.factors d nf in
+            let past : drop (used + a.rows) memory.floats ≡ replicate (length memory.floats - (used + a.rows)) zeroᶠ
+            = ap (λ q. drop (used + a.rows) q) sf ∙ padded_past zeroᶠ (length memory.floats) (used + a.rows) (p.factors ++ d) (rw (length-append p.factors d, nf, ld) (omega arith)) in
+            let ff : take used memory.floats ≡ p.factors = ap (λ q. take used q) sf ∙ padded_front zeroᶠ (length memory.floats) used p.factors d nf in
             let smooth : p.setup.basis ≡ JacobiSmoothed = ap (λ (q : Setup). q.basis) es ∙ basis in (
               sym t,
               record {
                 ints = mi.moved all (listed p.ids) i1 pl (omega (arith, lp, w.ints)) (rw (length_tab (coarse_column s.block p.ids) a.rows) (omega arith)) (placed_behind p d es bg ld h)
                     ∙ ap (λ q. q ++ padded 0 (length placed - s.nodes) all) (placed_front p d es bg ld h) ∙ padded_join 0 (length placed) s.nodes p.ids all ni
                     ∙ ap (λ q. padded 0 (length placed) (p.ids ++ transfer_ints q ws)) (sym smooth) ∙ ap (λ m. padded 0 m (p.ids ++ transfer_ints p.setup.basis ws)) (lp ∙ sym li);
-                floats = mf.moved (numbers_of ws) f1 t (omega (arith, w.floats)) past ∙ ap (λ q. q ++ padded zeroᶠ (length floats - used) (numbers_of ws)) ff ∙ padded_join zeroᶠ (length floats) used p.factors (numbers_of ws) nf
-                    ∙ ap (λ q. padded zeroᶠ (length floats) q) (sym (ap (λ q. p.factors ++ numbers_of ws ++ q) bg.sound.coarse ∙ append-nil (p.factors ++ numbers_of ws))) ∙ ap (λ m. padded zeroᶠ m (p.factors ++ numbers_of ws ++ p.coarse)) (sym lf);
+                floats = mf.moved (numbers_of ws) f1 t (omega (arith, w.floats)) past ∙ ap (λ q. q ++ padded zeroᶠ (length memory.floats - used) (numbers_of ws)) ff ∙ padded_join zeroᶠ (length memory.floats) used p.factors (numbers_of ws) nf
+                    ∙ ap (λ q. padded zeroᶠ (length memory.floats) q) (sym (ap (λ q. p.factors ++ numbers_of ws ++ q) bg.sound.coarse ∙ append-nil (p.factors ++ numbers_of ws))) ∙ ap (λ m. padded zeroᶠ m (p.factors ++ numbers_of ws ++ p.coarse)) (sym lf);
                 work_ints = mi.clear all i1 pl ∙ ap (λ m. replicate m 0) (lmi ∙ sym lwi);
                 work_floats = mf.clear (numbers_of ws) f1 t ∙ ap (λ m. replicate m zeroᶠ) (lmf ∙ sym lwf);
               },

@@ -2,4 +2,5 @@
 pub mod Stages
 pub mod Fit
 pub mod Promises
+pub mod Memory
 pub mod Asking

@@ -23,8 +23,8 @@ use Rattle.two_level_setup.specs.Fit.{room_of, Ample}
 use Rattle.definitions.specs.declared.Refusal.{Refusal}
 use Rattle.definitions.specs.declared.Estimated.{Estimated}
 
-abbrev pub room_in : List ℕ → List Float → List ℕ → List Float → Lengths
-room_in ints floats work_ints work_floats = room_of (length ints) (length floats) (length work_ints) (length work_floats)
+abbrev pub room_in : Lent → Lengths
+room_in x = room_of (length x.ints) (length x.floats) (length x.work_ints) (length x.work_floats)
 
 -- ---- the simulation
 

@@ -1,39 +1,29 @@
 // The transfer: constant over each group, or smoothed by the diagonal and the damping factor.
-ghost use Rattle.std.specs.Prelude.{◌≡◌, ◌+◌, ◌*◌, ◌<◌, ◌≤◌, length};
-ghost use Rattle.definitions.specs.Setup.{lent_of, max_coarse};
+ghost use Rattle.std.specs.Prelude.{◌≡◌, ◌+◌, ◌*◌, ◌^◌, ◌≤◌, length};
+ghost use Rattle.definitions.specs.Lists.{tab};
 ghost use Rattle.definitions.specs.declared.TwoLevelBasis.TheVariants.{JacobiSmoothed};
 ghost use Rattle.definitions.specs.Block.{max_block};
 ghost use Rattle.csr32.specs.Seen.{lent};
 ghost use Rattle.two_level_setup.specs.Stages.{transfer_stage};
 ghost use Rattle.two_level_setup.specs.Fit.{Ample, DampingFit, Placed};
-ghost use Rattle.two_level_setup.specs.Promises.{room_in, Listed, ColumnsPlaced, Damped, MovedInts, MovedFloats, WeightsStage, Begun, Simulates, StaysAmple};
+ghost use Rattle.two_level_setup.specs.Memory.{lists, room, SameLists};
+ghost use Rattle.two_level_setup.specs.Promises.{Listed, ColumnsPlaced, Damped, MovedInts, MovedFloats, WeightsStage, Begun, Simulates, StaysAmple};
 
+use super::memory::Memory;
 use csr32::Csr;
 use definitions::{Estimated, MAX_COARSE, Places, Refusal, Setup, TwoLevelBasis};
 use transfer::smoothed_transfer;
 
-// The coarse column of an unknown of a node. An id above the limit of coarse columns, which no node has, counts as that limit.
-fn column_of(id: u32, size: usize, part: usize) -> u32
-    requires { (size ≤ max_block) × (part < size) }
-    ensures { id ≤ max_coarse → result ≡ id * size + part }
-{
-    let group = (id as usize).min(MAX_COARSE);
-    (group * size + part) as u32
-}
-
-// The coarse column of each row, so that whoever reads it for every entry need not divide.
+// The coarse column of each row, so that whoever reads it for every entry need not divide. An id above the limit of coarse columns, which no node has, counts as that limit.
 pub(crate) fn list_columns(size: usize, ids: &[u32], columns: &mut [u32])
     requires { (1 ≤ size) × (size ≤ max_block) × (length columns.old ≡ length ids.now * size) }
     ensures { Listed size ids.now columns.old columns.new }
 {
-    let mut node: usize = 0;
-    let mut part: usize = 0;
-    for row in 0..columns.len() {
-        columns[row] = column_of(ids[node], size, part);
-        part += 1;
-        if part == size {
-            part = 0;
-            node += 1;
+    for (node, id) in ids.iter().enumerate() {
+        let row = node * size;
+        let first = (*id).min(MAX_COARSE as u32) * size as u32;
+        for (part, column) in columns[row..row + size].iter_mut().enumerate() {
+            *column = first + part as u32;
         }
     }
 }
@@ -85,21 +75,11 @@ fn damping(
 }
 
 // The weights for a damping factor, in the fronts of the work lists, and from there to their places; how many they are.
-fn weights(
-    a: &Csr<'_>,
-    setup: Setup,
-    p: Places,
-    damping: f64,
-    ints: &mut [u32],
-    floats: &mut [f64],
-    work_ints: &mut [u32],
-    work_floats: &mut [f64],
-) -> usize
-    requires ample { Ample (lent a.now) setup (room_in ints.old floats.old work_ints.old work_floats.old) }
+fn weights(a: &Csr<'_>, setup: Setup, p: Places, damping: f64, memory: &mut Memory<'_>) -> usize
+    requires ample { Ample (lent a.now) setup (room memory.old) }
     requires basis_value { (setup.basis ≡ JacobiSmoothed) × Placed a.now.rows setup p }
-    ensures { let x = lent_of ints.old floats.old work_ints.old work_floats.old in
-        let y = lent_of ints.new floats.new work_ints.new work_floats.new in
-        WeightsStage (lent a.now) setup damping x result y }
+    ensures kept { SameLists memory.old memory.new }
+    ensures placed { WeightsStage (lent a.now) setup damping (lists memory.old) result (lists memory.new) }
 {
     let rows = a.rows;
     let size = setup.block as usize;
@@ -111,6 +91,11 @@ fn weights(
     let most = rows + a.values.len();
     let few = rows + most + 1 + 2 * c;
     let part = most + c;
+    // Each list on its own: the check refuses slices of two lists at once where both are taken through `memory`.
+    let ints = &mut *memory.ints;
+    let floats = &mut *memory.floats;
+    let work_ints = &mut *memory.work_ints;
+    let work_floats = &mut *memory.work_floats;
     place_columns(size, nodes, rows, ints, work_ints);
     let answer = smoothed_transfer(
         a,
@@ -134,59 +119,34 @@ fn weights(
 }
 
 // The smoothed basis: damping factor, then weights.
-fn smoothed(
-    a: &Csr<'_>,
-    setup: Setup,
-    ints: &mut [u32],
-    floats: &mut [f64],
-    work_ints: &mut [u32],
-    work_floats: &mut [f64],
-) -> Result<Setup, Refusal>
-    requires ample { Ample (lent a.now) setup (room_in ints.old floats.old work_ints.old work_floats.old) }
+fn smoothed(a: &Csr<'_>, setup: Setup, memory: &mut Memory<'_>) -> Result<Setup, Refusal>
+    requires ample { Ample (lent a.now) setup (room memory.old) }
     requires basis_value { setup.basis ≡ JacobiSmoothed }
-    ensures { let m = lent a.now in
-        let room = room_in ints.old floats.old work_ints.old work_floats.old in
-        let x = lent_of ints.old floats.old work_ints.old work_floats.old in
-        let y = lent_of ints.new floats.new work_ints.new work_floats.new in
-        (Simulates (Begun m) (transfer_stage m) setup x result y) × (StaysAmple m room result) }
+    ensures kept { SameLists memory.old memory.new }
+    ensures built { let m = lent a.now in
+        Simulates (Begun m) (transfer_stage m) setup (lists memory.old) result (lists memory.new) }
+    ensures ample { StaysAmple (lent a.now) (room memory.old) result }
 {
     let p = layout::places(setup);
-    let used = p.weights;
-    let found = damping(a, used, floats, work_floats)?;
-    let count = weights(
-        a,
-        setup,
-        p,
-        found.damping,
-        ints,
-        floats,
-        work_ints,
-        work_floats,
-    );
-    let mut filled = setup;
-    filled.transfers = count as u64;
-    filled.damping = found.damping;
-    Ok(filled)
+    let found = damping(a, p.weights, memory.floats, memory.work_floats)?;
+    let count = weights(a, setup, p, found.damping, memory);
+    Ok(Setup {
+        transfers: count as u64,
+        damping: found.damping,
+        ..setup
+    })
 }
 
 // The transfer by the basis asked for.
-pub(crate) fn transfer(
-    a: &Csr<'_>,
-    setup: Setup,
-    ints: &mut [u32],
-    floats: &mut [f64],
-    work_ints: &mut [u32],
-    work_floats: &mut [f64],
-) -> Result<Setup, Refusal>
-    requires { Ample (lent a.now) setup (room_in ints.old floats.old work_ints.old work_floats.old) }
-    ensures { let m = lent a.now in
-        let room = room_in ints.old floats.old work_ints.old work_floats.old in
-        let x = lent_of ints.old floats.old work_ints.old work_floats.old in
-        let y = lent_of ints.new floats.new work_ints.new work_floats.new in
-        (Simulates (Begun m) (transfer_stage m) setup x result y) × (StaysAmple m room result) }
+pub(crate) fn transfer(a: &Csr<'_>, setup: Setup, memory: &mut Memory<'_>) -> Result<Setup, Refusal>
+    requires { Ample (lent a.now) setup (room memory.old) }
+    ensures kept { SameLists memory.old memory.new }
+    ensures built { let m = lent a.now in
+        Simulates (Begun m) (transfer_stage m) setup (lists memory.old) result (lists memory.new) }
+    ensures ample { StaysAmple (lent a.now) (room memory.old) result }
 {
     match setup.basis {
         TwoLevelBasis::PiecewiseConstant => Ok(setup),
-        TwoLevelBasis::JacobiSmoothed => smoothed(a, setup, ints, floats, work_ints, work_floats),
+        TwoLevelBasis::JacobiSmoothed => smoothed(a, setup, memory),
     }
 }

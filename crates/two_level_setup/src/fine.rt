@@ -1,35 +1,33 @@
 // The fine level: block factors, groups, and the record that starts with them.
 ghost use Rattle.std.specs.Prelude.{◌≡◌, ◌*◌, ◌≤◌};
 ghost use Rattle.definitions.specs.Matrix.{max_entries, max_rows};
-ghost use Rattle.definitions.specs.Setup.{lent_of};
 ghost use Rattle.definitions.specs.Coarse.{resolved};
 ghost use Rattle.definitions.specs.Block.{max_block};
 ghost use Rattle.csr32.specs.Seen.{lent};
 ghost use Rattle.two_level_setup.specs.Stages.{started, fine_of};
 ghost use Rattle.two_level_setup.specs.Asking.{Sized, Judged};
-ghost use Rattle.two_level_setup.specs.Promises.{room_in};
+ghost use Rattle.two_level_setup.specs.Memory.{lists, room, SameLists};
 
+use super::memory::Memory;
 use csr32::Csr;
 use definitions::{INVERSE_FROM, Options, Refusal, Setup, TwoLevelCoarseApplyPolicy};
 
 // Auto takes the inverse from a coarse dimension of 1,024 on.
+#[tactic(auto, unfolding(definitions::specs::Coarse::resolved))]
 fn resolve(policy: TwoLevelCoarseApplyPolicy, c: u64) -> TwoLevelCoarseApplyPolicy
     ensures { result ≡ resolved policy c }
 {
     match policy {
-        TwoLevelCoarseApplyPolicy::Auto => {
-            if c < INVERSE_FROM as u64 {
-                TwoLevelCoarseApplyPolicy::FactorSolve
-            } else {
-                TwoLevelCoarseApplyPolicy::ExplicitInverse
-            }
+        TwoLevelCoarseApplyPolicy::Auto if c < INVERSE_FROM as u64 => {
+            TwoLevelCoarseApplyPolicy::FactorSolve
         }
-        TwoLevelCoarseApplyPolicy::FactorSolve => TwoLevelCoarseApplyPolicy::FactorSolve,
-        TwoLevelCoarseApplyPolicy::ExplicitInverse => TwoLevelCoarseApplyPolicy::ExplicitInverse,
+        TwoLevelCoarseApplyPolicy::Auto => TwoLevelCoarseApplyPolicy::ExplicitInverse,
+        asked => asked,
     }
 }
 
 // The record once the groups are known.
+#[tactic(auto, unfolding(crate::specs::Stages::started))]
 fn start(rows: usize, entries: usize, options: Options, groups: u64) -> Setup
     requires { (groups * options.block ≤ max_rows * max_block) × (entries ≤ max_entries) × (1 ≤ options.block) }
     ensures { result ≡ started rows entries options groups }
@@ -55,22 +53,20 @@ fn start(rows: usize, entries: usize, options: Options, groups: u64) -> Setup
 }
 
 // Block factors, then groups: causes 1 to 8, which the blocks ask, and 14 to 16.
-pub(crate) fn fine(
-    a: &Csr<'_>,
-    options: Options,
-    ints: &mut [u32],
-    floats: &mut [f64],
-    work_ints: &mut [u32],
-    work_floats: &mut [f64],
-) -> Result<Setup, Refusal>
-    requires { Sized (lent a.now) options (room_in ints.old floats.old work_ints.old work_floats.old) }
-    ensures { let m = lent a.now in
-        let x = lent_of ints.old floats.old work_ints.old work_floats.old in
-        let y = lent_of ints.new floats.new work_ints.new work_floats.new in
-        Judged m (fine_of m options) x result y }
+pub(crate) fn fine(a: &Csr<'_>, options: Options, memory: &mut Memory<'_>) -> Result<Setup, Refusal>
+    requires { Sized (lent a.now) options (room memory.old) }
+    ensures kept { SameLists memory.old memory.new }
+    ensures built { let m = lent a.now in
+        Judged m (fine_of m options) (lists memory.old) result (lists memory.new) }
 {
     let size = options.block as usize;
-    block_factor::blocks(a, size, floats)?;
-    let groups = two_level_grouping::aggregate(a, options, ints, work_ints, work_floats)?;
+    block_factor::blocks(a, size, memory.floats)?;
+    let groups = two_level_grouping::aggregate(
+        a,
+        options,
+        memory.ints,
+        memory.work_ints,
+        memory.work_floats,
+    )?;
     Ok(start(a.rows, a.values.len(), options, groups))
 }

@@ -1,16 +1,9 @@
 -- The diagonal's place and the work list are long enough, and the estimate reads what the diagonal left.
 use Rattle.two_level_setup.proofs.Damping.{diagonal_refused, damped}
 use Rattle.csr32.specs.Seen.{lent}
-use Prim.Native.Nat.{◌*◌}
-use lib.Seq.{length-take-le}
-use mathlib.Core.Path.{refl, sym}
+use mathlib.Core.Path.{refl}
 use Rattle.std.proofs.lemmas.Result.{err_from_is_err_and}
 use Rattle.two_level_setup.proofs.basis.damping.Goals as goal
-
-pub slice_bounds-estimate-end-3 : goal.slice_bounds-estimate-end-3
-slice_bounds-estimate-end-3 c =
-    let a = c.args in
-    sym (length-take-le (3 * a.a.now.rows) a.work.now c.requires.work)
 
 pub returns-in_err-diagonal : goal.returns-in_err-diagonal
 returns-in_err-diagonal c =

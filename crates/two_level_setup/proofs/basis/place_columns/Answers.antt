@@ -1,19 +1,7 @@
 -- Listed at the front of the work list, and moved from there.
-use Rattle.two_level_setup.proofs.Columns.{columns_fit}
 use Rattle.two_level_setup.proofs.Weights.{columns_moved}
-use lib.Seq.{length-take-le, length_front}
-use native.Mathlib.Omega.{arith}
-use mathlib.Core.Path.{sym}
+use lib.Seq.{length_front}
 use Rattle.two_level_setup.proofs.basis.place_columns.Goals as goal
-
-pub slice_bounds-list_columns-end-4 : goal.slice_bounds-list_columns-end-4
-slice_bounds-list_columns-end-4 c = let a = c.args in sym (length-take-le a.rows a.work.now c.requires.4)
-
-pub list_columns-requires : goal.list_columns-requires
-list_columns-requires c =
-    let a = c.args in
-    let h = c.requires in
-    (h.0, h.1, columns_fit a.size a.nodes a.rows a.ints.now a.work.now h.2 (omega (arith, h.3)) h.4)
 
 pub returns : goal.returns
 returns c =

@@ -1,7 +1,8 @@
 -- The fine level, then the coarse one.
+use Rattle.two_level_setup.specs.Memory.{lists}
+use Rattle.two_level_setup.proofs.Lengths.{same_room}
 use Rattle.two_level_setup.proofs.Levels.{level_fits, built_refused, built_whole}
 use Rattle.csr32.specs.Seen.{lent}
-use Rattle.definitions.specs.Setup.{lent_of}
 use Rattle.std.proofs.lemmas.Result.{err_from_is_err_and}
 use mathlib.Core.Path.{refl}
 use Rattle.two_level_setup.proofs.build.build.Goals as goal
@@ -9,18 +10,19 @@ use Rattle.two_level_setup.proofs.build.build.Goals as goal
 pub coarse_level-requires : goal.coarse_level-requires
 coarse_level-requires c =
     let a = c.args in
-    let f = c.fine in
-    let z = level_fits (lent a.a.now) a.options (lent_of a.ints.now a.floats.now a.work_ints.now a.work_floats.now) c.requires _ (lent_of f.new.ints f.new.floats f.new.work_ints f.new.work_floats) c.in_ok-started.ensures f.auto.ints f.auto.floats f.auto.work_ints f.auto.work_floats _ refl in record { fit = z.0; counted = z.1 }
+    let f = c.in_ok-started.ensures in
+    let z = level_fits (lent a.a.now) a.options (lists a.memory.now) c.requires _ (lists c.fine.new.memory) f.built (same_room _ _ f.kept) _ refl in
+    record { fit = z.0; counted = z.1 }
 
-pub returns-in_err-started : goal.returns-in_err-started
-returns-in_err-started c =
+pub returns-in_err-started-clause-built : goal.returns-in_err-started-clause-built
+returns-in_err-started-clause-built c =
     let a = c.args in
-    let f = c.fine in
+    let f = c.in_err-started.ensures in
     let p = err_from_is_err_and c.from_residual.result c.from_residual.ensures.1 in
-    rw (p.1, p.2) (built_refused (lent a.a.now) a.options (lent_of a.ints.now a.floats.now a.work_ints.now a.work_floats.now) c.requires _ (lent_of f.new.ints f.new.floats f.new.work_ints f.new.work_floats) c.in_err-started.ensures f.auto.ints f.auto.floats f.auto.work_ints f.auto.work_floats _ refl)
+    rw (p.1, p.2) (built_refused (lent a.a.now) a.options (lists a.memory.now) c.requires _ (lists c.fine.new.memory) f.built (same_room _ _ f.kept) _ refl)
 
-pub returns : goal.returns
-returns c =
+pub returns-clause-built : goal.returns-clause-built
+returns-clause-built c =
     let a = c.args in
-    let f = c.fine in
-    built_whole (lent a.a.now) a.options (lent_of a.ints.now a.floats.now a.work_ints.now a.work_floats.now) c.requires _ (lent_of f.new.ints f.new.floats f.new.work_ints f.new.work_floats) c.in_ok-started.ensures f.auto.ints f.auto.floats f.auto.work_ints f.auto.work_floats _ refl _ _ c.coarse_level.ensures
+    let f = c.in_ok-started.ensures in
+    built_whole (lent a.a.now) a.options (lists a.memory.now) c.requires _ (lists c.fine.new.memory) f.built (same_room _ _ f.kept) _ refl _ _ c.coarse_level.ensures.built
