@@ -3,7 +3,6 @@ use Prim.Native.Nat.{ℕ, zero, suc, ◌+◌, ◌-◌, ◌*◌, ◌/◌, ◌%◌
 use mathlib.Core.Path.{◌≡◌, refl, sym, ap, ◌∙◌}
 use mathlib.Core.List.{List, [], ◌∷◌, ◌++◌, append_assoc}
 use native.Mathlib.Nat.{mul-zero, add-zero, mul-add-div, div-eq_of_lt, div-one, suc-mul, zero-mul, mul-le-mul_right, le-div_iff_mul-le}
-use native.Mathlib.Numerals.{add-one}
 use native.Mathlib.Omega.{arith}
 use borrow.Rule.Slice.PartMut.{put_mid}
 use mathlib.Core.Bool.{Bool, true}
@@ -12,27 +11,25 @@ use Rattle.std.specs.Int.{w64, to_le_bytes, from_le_bytes}
 use Rattle.std.proofs.lemmas.Nat.{div-mul-add, mod-mul-add}
 use lib.ListN.{length, get_or, set, take, drop, replicate, length-append, length-replicate, length-drop}
 use Rattle.std.proofs.lemmas.List.{drop-replicate, get_or_read}
-use lib.Seq.{drop-cons, drop-drop, set_at, take_at, drop_at}
+use lib.Seq.{drop-drop, take_at, drop_at}
 use Rattle.definitions.specs.Lists.{tab, padded}
 use Rattle.laws.proofs.Lists.{length_tab, tab_append, tab_cong, tab_is}
+use Rattle.laws.proofs.Growing.{tab_more}
 use Rattle.byte_lists.specs.Bytes.{spelled, word_at, byte_of, readable, writable, over}
 use Rattle.byte_lists.proofs.Laws.{piece, readable_room, writable_room}
 use Rattle.byte_lists.proofs.RoundTrip.{power}
-
-tab_snoc : {A : Type 0} (f : ℕ → A) (n : ℕ) → tab f (suc n) ≡ tab f n ++ (f n ∷ [])
-unfolding tab
-tab_snoc f zero = refl
-tab_snoc f (suc n) = ap (λ l. f zero ∷ l) (tab_snoc (λ i. f (suc i)) n)
 
 module _ {A : Type 0} (f : ℕ → A) (lent : List A) where
   pub over_none_yet : lent ≡ over (tab f 0) lent
   unfolding over tab
   over_none_yet = refl
 
-  pub over_more : (k : ℕ) (room : List A) (v : A) → room ≡ over (tab f k) lent → k < length lent → v ≡ f k → set room k v ≡ over (tab f (k + 1)) lent
+  over_is : (k : ℕ) → over (tab f k) lent ≡ tab f k ++ drop k lent
   unfolding over
-  over_more k room v e l g =
-      rw (e, g, length_tab f k, length_tab f (k + 1), add-one, drop-cons lent k (f k) l, set_at (tab f k) (get_or lent k (f k)) (drop (suc k) lent) (f k) k (length_tab f k), tab_snoc f k, append_assoc (tab f k) (f k ∷ []) (drop (suc k) lent))
+  over_is k = rw (length_tab f k)
+
+  pub over_more : (k : ℕ) (room : List A) (v : A) → room ≡ over (tab f k) lent → k < length lent → v ≡ f k → set room k v ≡ over (tab f (k + 1)) lent
+  over_more k room v e l g = tab_more f k room lent v l (e ∙ over_is k) g ∙ sym (over_is (k + 1))
 
   -- w elements at once
   over_part : (k w : ℕ) (room part : List A) → room ≡ over (tab f k) lent → part ≡ tab (λ j. f (k + j)) w → put_mid k w room part ≡ over (tab f (k + w)) lent

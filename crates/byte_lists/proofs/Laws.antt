@@ -1,11 +1,11 @@
 -- What is read stands in the front of its room, and is as long as the bytes say; zeros behind a list that is written are zeros behind its bytes.
 use Prim.Native.Nat.{ℕ, zero, suc, ◌/◌, ◌%◌, ◌*◌, ◌^◌, ◌+◌, ◌-◌, ◌<◌, ◌≤◌}
 use mathlib.Core.Path.{◌≡◌, refl, sym, ap, ◌∙◌}
-use mathlib.Core.Bool.{Bool, true, false, ◌&&◌}
+use mathlib.Core.Bool.{Bool, true, false}
 use mathlib.Core.List.{List, [], ◌∷◌, ◌++◌}
 use native.Mathlib.Nat.{add-zero, add-suc, suc-add, zero-div, le_trans, mul-le-mul_right, div-lt_iff_lt-mul, le-div_iff_mul-le}
 use native.Mathlib.Omega.{arith}
-use borrow.Author.Tests.{ltb-true, ltb-false, leb-true}
+use Rattle.std.proofs.lemmas.Bool.{and_parts, ltb-true, ltb-false, leb-true}
 use lib.Dec.{ltb, leb, eqb}
 use lib.Ieee.{Float, nan, binary64, of_bits, to_bits}
 use lib.ListN.{length, get_or, take, drop, replicate, length-append, length-replicate, get_or-eq_default}
@@ -23,9 +23,6 @@ front f n room new e = rw (e) (take_at (tab f n) (drop (length (tab f n)) room) 
 pub room_for_lem : {A : Type 0} (f : ℕ → A) (n : ℕ) (room new : List A) → new ≡ over (tab f n) room → n ≤ length new
 unfolding over
 room_for_lem f n room new e = rw (e, length-append (tab f n) (drop (length (tab f n)) room), length_tab f n) (omega arith)
-
-pub count : {A : Type 0} (f : ℕ → A) (n : ℕ) (room new : List A) → new ≡ over (tab f n) room → n ≡ length (take n new)
-count f n room new e = rw (front f n room new e, length_tab f n)
 
 -- ---- a number's bytes in a list
 
@@ -53,9 +50,6 @@ module _ {A : Type 0} (z : A) where
   get_d_zeros (x ∷ xs) n zero = refl
   get_d_zeros (x ∷ xs) n (suc i) = get_d_zeros xs n i
 
-back_to : (a m : ℕ) → a ≤ m → a + (m - a) ≡ m
-back_to a m h = omega arith
-
 -- elements by their patterns, w bytes each, where zero's pattern is 0
 module _ {A : Type 0} (pattern : A → ℕ) (z d : A) (none : pattern z ≡ 0) (w : ℕ) (some : 0 < w) where
   abbrev laid : A → List A → ℕ → ℕ
@@ -74,7 +68,7 @@ module _ {A : Type 0} (pattern : A → ℕ) (z d : A) (none : pattern z ≡ 0) (
   whole : (m : ℕ) (xs : List A) → length xs * w ≤ m → padded 0 m (tab (laid d xs) (length xs * w)) ≡ tab (laid z xs) m
   unfolding padded
   whole m xs h =
-      let long : length (padded 0 m (tab (laid d xs) (length xs * w))) ≡ m = rw (length-append (tab (laid d xs) (length xs * w)) (replicate (m - length (tab (laid d xs) (length xs * w))) 0), length-replicate {A = ℕ} (m - length (tab (laid d xs) (length xs * w))) 0, length_tab (laid d xs) (length xs * w)) (back_to (length xs * w) m h) in
+      let long : length (padded 0 m (tab (laid d xs) (length xs * w))) ≡ m = rw (length-append (tab (laid d xs) (length xs * w)) (replicate (m - length (tab (laid d xs) (length xs * w))) 0), length-replicate {A = ℕ} (m - length (tab (laid d xs) (length xs * w))) 0, length_tab (laid d xs) (length xs * w)) (omega arith) in
       tab_is 0 (padded 0 m (tab (laid d xs) (length xs * w))) (laid z xs) m long (λ i _. at xs m i (ltb i (length xs * w)) refl)
 
   pub laid_padded : (m n : ℕ) (xs : List A) → length (padded z n xs) * w ≤ m → padded 0 m (tab (laid d (padded z n xs)) (length (padded z n xs) * w)) ≡ padded 0 m (tab (laid d xs) (length xs * w))
@@ -87,7 +81,7 @@ pub ints_padded : (m n : ℕ) (xs : List ℕ) → length (padded 0 n xs) * 4 ≤
 unfolding bytes_of
 ints_padded m n xs h = laid_padded (λ x. x) 0 0 refl 4 (omega arith) m n xs h
 
-zero_pattern : to_bits binary64 zeroᶠ ≡ 0
+pub zero_pattern : to_bits binary64 zeroᶠ ≡ 0
 unfolding of_bits to_bits
 zero_pattern = refl
 
@@ -97,18 +91,13 @@ floats_padded m n xs h = laid_padded (to_bits binary64) zeroᶠ nan zero_pattern
 
 -- ---- what a test that held tells
 
-both : (a b : Bool) → (a && b) ≡ true → b ≡ true
-both true b e = e
-both false true e = refl
-both false false e = e
-
 pub readable_room : (w bytes room : ℕ) → readable w bytes room ≡ true → bytes / w ≤ room
 unfolding readable
-readable_room w bytes room e = leb-true (bytes / w) room (both (eqb (bytes % w) 0) (leb (bytes / w) room) e)
+readable_room w bytes room e = leb-true (bytes / w) room (and_parts (eqb (bytes % w) 0) (leb (bytes / w) room) e).1
 
 pub writable_room : (w list bytes : ℕ) → writable w list bytes ≡ true → list ≤ bytes / w
 unfolding writable
-writable_room w list bytes e = leb-true list (bytes / w) (both (eqb (bytes % w) 0) (leb list (bytes / w)) e)
+writable_room w list bytes e = leb-true list (bytes / w) (and_parts (eqb (bytes % w) 0) (leb list (bytes / w)) e).1
 
 pub writable_holds : (w list bytes : ℕ) → 0 < w → writable w list bytes ≡ true → list * w ≤ bytes
 writable_holds w list bytes some e = (le-div_iff_mul-le some).0 (writable_room w list bytes e)

@@ -14,7 +14,7 @@ use Rattle.definitions.specs.Lists.{tab}
 use Rattle.definitions.specs.Numbers.{zeroᶠ}
 use Rattle.laws.proofs.Lists.{Each, each_imp, each_read, length_tab, get_d_tab, tab_cong, tab_append, tab_same}
 use Rattle.byte_lists.specs.Bytes.{spelled, word_at, words_of, ints_of, numbers_of, floats_of, byte_of, bytes_of, bytes_of_ints, bytes_of_numbers, bytes_of_floats}
-use Rattle.byte_lists.proofs.Laws.{piece}
+use Rattle.byte_lists.proofs.Laws.{piece, zero_pattern}
 
 pub power : (j : ℕ) → 2 ^ (8 * suc j) ≡ 256 * 2 ^ (8 * j)
 power j = rw (mul-suc 8 j, pow-add 2 (8 * j) 8) (mul_comm (2 ^ (8 * j)) 256)
@@ -112,10 +112,6 @@ module _ (xs : List ℕ) (t : ℕ) where
   pub numbers_behind : Each (λ x. x < 2 ^ 64) xs → numbers_of (bytes_of_numbers xs ++ replicate t 0) ≡ xs ++ replicate (t / 8) 0
   unfolding words_of bytes_of
   numbers_behind e = read_back (λ x. x) (λ x. x) 0 0 refl refl 8 (omega arith) xs t (each_imp (λ x h. (h, refl)) e)
-
-zero_pattern : to_bits binary64 zeroᶠ ≡ 0
-unfolding of_bits to_bits
-zero_pattern = refl
 
 pub floats_behind : (xs : List Float) (t : ℕ) → Each (λ x. T (fits binary64 x)) xs → floats_of (bytes_of_floats xs ++ replicate t 0) ≡ xs ++ replicate (t / 8) zeroᶠ
 unfolding floats_of bytes_of_floats

@@ -11,6 +11,7 @@ mod element;
 pub use element::Element;
 
 // The number that at most eight bytes spell.
+#[tactic(auto, using(crate::proofs::Filling::spelled_of))]
 fn word(bytes: &[u8]) -> u64
     requires { length bytes.now ≤ 8 }
     ensures { result ≡ spelled bytes.now }
@@ -21,6 +22,7 @@ fn word(bytes: &[u8]) -> u64
 }
 
 // Writes the bytes of one element.
+#[tactic(auto, using(crate::proofs::Filling::low_bytes))]
 fn put<T: Element>(x: T, bytes: &mut [u8])
     requires { length bytes.old ≡ T.BYTES }
     ensures { bytes.new ≡ tab (byte_of (T.code x)) T.BYTES }
@@ -62,6 +64,7 @@ pub fn read<T: Element>(bytes: &[u8], room: &mut [T]) -> bool
 }
 
 // Writes a list of elements into a byte list, zeros after them; answers whether it fits, and leaves the bytes as they were where it does not.
+#[tactic(auto, using(crate::proofs::Filling::end_in_bytes, crate::proofs::Filling::over_none))]
 pub fn write<T: Element>(list: &[T], bytes: &mut [u8]) -> bool
     ensures { let fits = writable T.BYTES (length list.now) (length bytes.old) in
         (result ≡ fits) × (bytes.new ≡ cond fits (padded 0 (length bytes.old) (T.bytes_of list.now)) bytes.old) }

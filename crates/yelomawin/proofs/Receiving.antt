@@ -1,11 +1,9 @@
 -- Values laid over a list of zeros: what the list receives.
-use Prim.Native.Nat.{ℕ, zero, suc, ◌+◌, ◌-◌, ◌<◌, ◌≤◌}
+use Prim.Native.Nat.{ℕ, zero, suc, ◌-◌}
 use mathlib.Core.Path.{◌≡◌, refl, sym, ap, ◌∙◌}
-use mathlib.Core.List.{List, [], ◌∷◌, ◌++◌, append-nil}
-use native.Mathlib.Nat.{not-suc-le-zero, le_of_suc-le-suc, sub-zero, suc-sub-suc}
-use native.Mathlib.Numerals.{add-one}
+use mathlib.Core.List.{List, [], ◌∷◌, ◌++◌}
+use native.Mathlib.Nat.{sub-zero, suc-sub-suc}
 use lib.ListN.{length, take, drop, replicate, length-replicate}
-use lib.Seq.{drop-length}
 use Rattle.definitions.specs.Lists.{padded}
 use Rattle.definitions.specs.Refusal.{values_of, cause_of}
 use Rattle.definitions.specs.declared.Refusal.{Refusal}

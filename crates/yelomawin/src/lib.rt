@@ -4,7 +4,8 @@
 ghost use Rattle.std.specs.Prelude.{◌≡◌};
 ghost use Rattle.definitions.specs.Numbers.{rootᶠ};
 ghost use Rattle.definitions.specs.Matrix.{csr, valid_of};
-ghost use Rattle.two_level_setup.specs.Promises.{lent_of};
+ghost use Rattle.csr32.specs.Seen.{lent};
+ghost use Rattle.definitions.specs.Setup.{lent_of};
 ghost use Rattle.definitions.specs.Answers.{answer_of, answer_number};
 ghost use Rattle.yelomawin.specs.Calls.{handed, result_work, log_lists, exported_diagonal, exported_blocks, exported_block_apply, exported_group, exported_group_log, exported_estimate, exported_setup, exported_apply};
 
@@ -16,6 +17,25 @@ use answers::receive;
 use csr32::Csr;
 use definitions::Options;
 use told::tell;
+
+// The matrix of a caller's sizes and lists.
+fn matrix<'a>(
+    rows: u64,
+    cols: u64,
+    row_ptr: &'a [u32],
+    col_idx: &'a [u32],
+    values: &'a [f64],
+) -> Csr<'a>
+    ensures { lent result ≡ csr rows cols row_ptr.now col_idx.now values.now }
+{
+    Csr {
+        rows: rows as usize,
+        cols: cols as usize,
+        row_ptr,
+        col_idx,
+        values,
+    }
+}
 
 pub fn yelomawin_root(x: f64) -> f64
     ensures { result ≡ rootᶠ x }
@@ -32,13 +52,7 @@ pub fn yelomawin_validate(
 ) -> u64
     ensures { result ≡ answer_number (answer_of (valid_of (csr rows cols row_ptr.now col_idx.now values.now))) }
 {
-    let a = Csr {
-        rows: rows as usize,
-        cols: cols as usize,
-        row_ptr,
-        col_idx,
-        values,
-    };
+    let a = matrix(rows, cols, row_ptr, col_idx, values);
     let answer = a.validate();
     causes::answer_number(answer)
 }
@@ -55,13 +69,7 @@ pub fn yelomawin_diagonal(
     ensures { handed result diagonal.new answer.new
         ≡ exported_diagonal (csr rows cols row_ptr.now col_idx.now values.now) diagonal.old answer.old }
 {
-    let a = Csr {
-        rows: rows as usize,
-        cols: cols as usize,
-        row_ptr,
-        col_idx,
-        values,
-    };
+    let a = matrix(rows, cols, row_ptr, col_idx, values);
     let made = a.diagonal(diagonal);
     tell(made, answer)
 }
@@ -79,13 +87,7 @@ pub fn yelomawin_blocks(
     ensures { handed result factors.new answer.new
         ≡ exported_blocks (csr rows cols row_ptr.now col_idx.now values.now) block_size factors.old answer.old }
 {
-    let a = Csr {
-        rows: rows as usize,
-        cols: cols as usize,
-        row_ptr,
-        col_idx,
-        values,
-    };
+    let a = matrix(rows, cols, row_ptr, col_idx, values);
     let made = block_factor::blocks(&a, block_size as usize, factors);
     tell(made, answer)
 }
@@ -101,14 +103,14 @@ pub fn yelomawin_block_apply(
     ensures { handed result correction.new answer.new
         ≡ exported_block_apply rows block_size factors.now residual.now correction.old answer.old }
 {
-    let a = block_apply::block_apply(
+    let made = block_apply::block_apply(
         rows as usize,
         block_size as usize,
         factors,
         residual,
         correction,
     );
-    tell(a, answer)
+    tell(made, answer)
 }
 
 pub fn yelomawin_group(
@@ -123,7 +125,7 @@ pub fn yelomawin_group(
     ensures { handed result (result_work ids.new work.new) answer.new
         ≡ exported_group nodes group_size offsets.now neighbours.now ids.old work.old answer.old }
 {
-    let a = aggregates::group(
+    let made = aggregates::group(
         nodes as usize,
         group_size as usize,
         offsets,
@@ -131,7 +133,7 @@ pub fn yelomawin_group(
         ids,
         work,
     );
-    tell(a, answer)
+    tell(made, answer)
 }
 
 pub fn yelomawin_group_log(
@@ -147,7 +149,7 @@ pub fn yelomawin_group_log(
     ensures { handed result (log_lists ids.new log.new work.new) answer.new
         ≡ exported_group_log nodes group_size offsets.now neighbours.now (log_lists ids.old log.old work.old) answer.old }
 {
-    let a = aggregates::group_log(
+    let made = aggregates::group_log(
         nodes as usize,
         group_size as usize,
         offsets,
@@ -156,7 +158,7 @@ pub fn yelomawin_group_log(
         log,
         work,
     );
-    tell(a, answer)
+    tell(made, answer)
 }
 
 pub fn yelomawin_estimate(
@@ -172,13 +174,7 @@ pub fn yelomawin_estimate(
     ensures { handed result work.new answer.new
         ≡ exported_estimate (csr rows cols row_ptr.now col_idx.now values.now) diagonal.now work.old answer.old }
 {
-    let a = Csr {
-        rows: rows as usize,
-        cols: cols as usize,
-        row_ptr,
-        col_idx,
-        values,
-    };
+    let a = matrix(rows, cols, row_ptr, col_idx, values);
     let made = spectral_radius::estimate(&a, diagonal, work);
     tell(made, answer)
 }
@@ -205,37 +201,27 @@ pub fn yelomawin_setup(
         ≡ exported_setup (csr rows cols row_ptr.now col_idx.now values.now) block_size group_size aggregation basis coarse_policy
         (lent_of setup_ints.old setup_floats.old work_ints.old work_floats.old) «record».old }
 {
-    if record::are_policies(aggregation, basis, coarse_policy) {
-        let g = record::aggregation_of(aggregation);
-        let b = record::basis_of(basis);
-        let p = record::policy_of(coarse_policy);
-        let options = Options {
-            block: block_size,
-            group: group_size,
-            aggregation: g,
-            basis: b,
-            policy: p,
-        };
-        let a = Csr {
-            rows: rows as usize,
-            cols: cols as usize,
-            row_ptr,
-            col_idx,
-            values,
-        };
-        let made = two_level_setup::setup(
-            &a,
-            options,
-            setup_ints,
-            setup_floats,
-            work_ints,
-            work_floats,
-        );
-        tell(made, record)
-    } else {
+    if !record::are_policies(aggregation, basis, coarse_policy) {
         receive(record, &[]);
-        255
+        return 255;
     }
+    let options = Options {
+        block: block_size,
+        group: group_size,
+        aggregation: record::aggregation_of(aggregation),
+        basis: record::basis_of(basis),
+        policy: record::policy_of(coarse_policy),
+    };
+    let a = matrix(rows, cols, row_ptr, col_idx, values);
+    let made = two_level_setup::setup(
+        &a,
+        options,
+        setup_ints,
+        setup_floats,
+        work_ints,
+        work_floats,
+    );
+    tell(made, record)
 }
 
 // A list that is no record answers 26, with the correction and the work list kept.
@@ -252,12 +238,11 @@ pub fn yelomawin_apply(
         ≡ exported_apply «record».now setup_ints.now setup_floats.now residual.now
         correction.old work.old answer.old }
 {
-    if record::is_record(record) {
-        let s = record::record_of(record);
-        let a = two_level_apply::apply(s, setup_ints, setup_floats, residual, correction, work);
-        tell(a, answer)
-    } else {
+    if !record::is_record(record) {
         receive(answer, &[]);
-        26
+        return 26;
     }
+    let s = record::record_of(record);
+    let made = two_level_apply::apply(s, setup_ints, setup_floats, residual, correction, work);
+    tell(made, answer)
 }

@@ -1,7 +1,7 @@
 -- What is handed out by a call's number is what 01 says of its lists: a result's bytes are a result list, its room is a work list.
 use Prim.Native.Nat.{ℕ, ◌-◌, ◌*◌, ◌≤◌, ◌<◌}
 use mathlib.Core.Path.{◌≡◌, refl, sym, ap, ◌∙◌}
-use mathlib.Core.Bool.{Bool, true, false, cond, not, ◌&&◌}
+use mathlib.Core.Bool.{Bool, true, false, cond, not}
 use lib.Dec.{eqb}
 use mathlib.Core.List.{List, []}
 use native.Mathlib.Omega.{arith}
@@ -140,40 +140,23 @@ no_policy_lem : leaves_all 255 ≡ true
 unfolding leaves_all
 no_policy_lem = refl
 
--- ---- of every call, where the lists fit
+-- ---- of every call
 
-module _ {fits : Bool} (e : fits ≡ true) where
-  pub told : {A : Type 0} {l x : A} (y : A) → l ≡ x → l ≡ cond fits x y
-  told y h = rw (e) h
+pub told_where : {A : Type 0} {l : A} (made : Bool) (x y : A) → l ≡ whether made x y → l ≡ cond made x y
+unfolding whether
+told_where true x y h = h
+told_where false x y h = h
 
-  pub told_where : {A : Type 0} {l : A} (made : Bool) (x y : A) → l ≡ whether made x y → l ≡ cond (fits && made) x y
-  unfolding whether
-  told_where true x y h = rw (e) h
-  told_where false x y h = rw (e) h
+-- room that was read into, and cleared
+pub emptied_out : {A : Type 0} (z : A) {w : ℕ} {numbers : List ℕ → List A} {bytes : List ℕ} {lent room room' : List A} → Read w numbers bytes lent room → room' ≡ emptied z room → room' ≡ emptied z lent
+emptied_out z r h = h ∙ ap (λ k. replicate k z) r.long
 
-  -- room that was read into, and cleared
-  pub emptied_out : {A : Type 0} (z : A) {w : ℕ} {numbers : List ℕ → List A} {bytes : List ℕ} {lent room room' : List A} → Read w numbers bytes lent room → room' ≡ emptied z room → room' ≡ after fits (emptied z) lent
-  emptied_out z r h = told _ (h ∙ ap (λ k. replicate k z) r.long)
+pub both_emptied : {A : Type 0} (z : A) {w u : ℕ} {numbers numbers' : List ℕ → List A} {b c : List ℕ} {xs ys xs₁ ys₁ xs₂ ys₂ : List A} → Read w numbers b xs xs₁ → Read u numbers' c ys ys₁ → xs₂ ≡ emptied z xs₁ → ys₂ ≡ emptied z ys₁ → BothEmptied true z xs ys xs₂ ys₂
+both_emptied z r s h k = record { first = emptied_out z r h; second = emptied_out z s k }
 
-  pub both_emptied : {A : Type 0} (z : A) {w u : ℕ} {numbers numbers' : List ℕ → List A} {b c : List ℕ} {xs ys xs₁ ys₁ xs₂ ys₂ : List A} → Read w numbers b xs xs₁ → Read u numbers' c ys ys₁ → xs₂ ≡ emptied z xs₁ → ys₂ ≡ emptied z ys₁ → BothEmptied fits z xs ys xs₂ ys₂
-  both_emptied z r s h k = record { first = emptied_out z r h; second = emptied_out z s k }
-
-  pub matrix_emptied : {p i v row col row₁ col₁ row₂ col₂ : List ℕ} {value value₁ value₂ : List Float} → Read 4 ints_of p row row₁ → Read 4 ints_of i col col₁ → Read 8 floats_of v value value₁
-      → row₂ ≡ emptied 0 row₁ → col₂ ≡ emptied 0 col₁ → value₂ ≡ emptied zeroᶠ value₁ → MatrixEmptied fits row col value row₂ col₂ value₂
-  matrix_emptied r s t h k l = record { row_room = emptied_out 0 r h; col_room = emptied_out 0 s k; value_room = emptied_out zeroᶠ t l }
-
--- what is not called leaves all
-pub matrix_kept : {row col : List ℕ} {value : List Float} → MatrixEmptied false row col value row col value
-matrix_kept = record { row_room = refl; col_room = refl; value_room = refl }
-
-pub both_kept : {A : Type 0} {z : A} {xs ys : List A} → BothEmptied false z xs ys xs ys
-both_kept = record { first = refl; second = refl }
-
-pub result_kept : {A : Type 0} {f : List A → List A} {g : List ℕ → List ℕ} {room : List A} {bytes : List ℕ} → ResultLeft false f g room bytes room bytes
-result_kept = record { in_room = refl; in_bytes = refl }
-
-pub lent_kept : {s : Outcome Built} {lent : Lent} → LentLeft false s lent lent
-lent_kept = record { ints = refl; floats = refl; work_ints = refl; work_floats = refl }
+pub matrix_emptied : {p i v row col row₁ col₁ row₂ col₂ : List ℕ} {value value₁ value₂ : List Float} → Read 4 ints_of p row row₁ → Read 4 ints_of i col col₁ → Read 8 floats_of v value value₁
+    → row₂ ≡ emptied 0 row₁ → col₂ ≡ emptied 0 col₁ → value₂ ≡ emptied zeroᶠ value₁ → MatrixEmptied true row col value row₂ col₂ value₂
+matrix_emptied r s t h k l = record { row_room = emptied_out 0 r h; col_room = emptied_out 0 s k; value_room = emptied_out zeroᶠ t l }
 
 -- the four lists of setup, one by one
 setup_left_lem : (made : Bool) (s : Outcome Built) (lent left : Lent) → left ≡ whether made (setup_left s lent) lent
@@ -183,54 +166,53 @@ unfolding whether setup_left
 setup_left_lem true s lent left e = (ap (λ x. x.ints) e, ap (λ x. x.floats) e, ap (λ x. x.work_ints) e, ap (λ x. x.work_floats) e)
 setup_left_lem false s lent left e = (ap (λ x. x.ints) e, ap (λ x. x.floats) e, ap (λ x. x.work_ints) e, ap (λ x. x.work_floats) e)
 
--- ---- what is handed out, where the lists fit; `made` is false where the call is refused before its checks, by a number that leaves all
+-- ---- what is handed out; `made` is false where the call is refused before its checks, by a number that leaves all
 
-module _ {fits : Bool} (e : fits ≡ true) where
-  pub answer_told : (values : List ℕ) {lent room room' bytes bytes' : List ℕ} → writes 8 lent bytes ≡ true → length room ≡ length lent → Handed 8 0 bytes_of_numbers false room bytes room' bytes' → room ≡ received values lent → AnswerLeft fits values lent bytes room' bytes'
-  unfolding answer_left
-  answer_told values {bytes = bytes} fit same h t = record { in_room = told e _ (h.cleared ∙ ap (λ n. replicate n 0) same); in_bytes = told e _ (h.written (rw (same) fit) ∙ ap (λ l. padded 0 (length bytes) (bytes_of_numbers l)) t) }
+pub answer_told : (values : List ℕ) {lent room room' bytes bytes' : List ℕ} → writes 8 lent bytes ≡ true → length room ≡ length lent → Handed 8 0 bytes_of_numbers false room bytes room' bytes' → room ≡ received values lent → AnswerLeft true values lent bytes room' bytes'
+unfolding answer_left
+answer_told values {bytes = bytes} fit same h t = record { in_room = h.cleared ∙ ap (λ n. replicate n 0) same; in_bytes = h.written (rw (same) fit) ∙ ap (λ l. padded 0 (length bytes) (bytes_of_numbers l)) t }
 
-  pub floats_made : (made : Bool) (o : Outcome (List Float)) {number : ℕ} {lent room room' : List Float} {bytes bytes' : List ℕ} → writes 8 lent bytes ≡ true → length room ≡ length lent → Handed 8 zeroᶠ bytes_of_floats (leaves_all number) room bytes room' bytes'
-      → number ≡ whether made (answer_number (answer_of o)) 26 → room ≡ whether made (result_left zeroᶠ o lent) lent → ResultLeft (fits && made) (work_left zeroᶠ o) (bytes_left bytes_of_floats o) lent bytes room' bytes'
-  floats_made made o {lent = lent} fit same h n t =
-      rw (e) (handed_where zeroᶠ 8 (omega arith) bytes_of_floats (λ x. x) no_floats floats_padded lent same fit h made 26 o no_record (ap leaves_all (n ∙ ap (λ x. whether made x 26) (answer_number_lem o))) (t ∙ ap (λ p. whether made (result_left zeroᶠ p lent) lent) (sym (bind_done o))))
+pub floats_made : (made : Bool) (o : Outcome (List Float)) {number : ℕ} {lent room room' : List Float} {bytes bytes' : List ℕ} → writes 8 lent bytes ≡ true → length room ≡ length lent → Handed 8 zeroᶠ bytes_of_floats (leaves_all number) room bytes room' bytes'
+    → number ≡ whether made (answer_number (answer_of o)) 26 → room ≡ whether made (result_left zeroᶠ o lent) lent → ResultLeft made (work_left zeroᶠ o) (bytes_left bytes_of_floats o) lent bytes room' bytes'
+floats_made made o {lent = lent} fit same h n t =
+    handed_where zeroᶠ 8 (omega arith) bytes_of_floats (λ x. x) no_floats floats_padded lent same fit h made 26 o no_record (ap leaves_all (n ∙ ap (λ x. whether made x 26) (answer_number_lem o))) (t ∙ ap (λ p. whether made (result_left zeroᶠ p lent) lent) (sym (bind_done o)))
 
-  pub floats_told : (o : Outcome (List Float)) {number : ℕ} {lent room room' : List Float} {bytes bytes' : List ℕ} → writes 8 lent bytes ≡ true → length room ≡ length lent → Handed 8 zeroᶠ bytes_of_floats (leaves_all number) room bytes room' bytes'
-      → number ≡ answer_number (answer_of o) → room ≡ result_left zeroᶠ o lent → ResultLeft fits (work_left zeroᶠ o) (bytes_left bytes_of_floats o) lent bytes room' bytes'
-  unfolding whether
-  floats_told o fit same h n t = rw (e) (rw (e) at (floats_made true o fit same h n t))
+pub floats_told : (o : Outcome (List Float)) {number : ℕ} {lent room room' : List Float} {bytes bytes' : List ℕ} → writes 8 lent bytes ≡ true → length room ≡ length lent → Handed 8 zeroᶠ bytes_of_floats (leaves_all number) room bytes room' bytes'
+    → number ≡ answer_number (answer_of o) → room ≡ result_left zeroᶠ o lent → ResultLeft true (work_left zeroᶠ o) (bytes_left bytes_of_floats o) lent bytes room' bytes'
+unfolding whether
+floats_told o fit same h n t = floats_made true o fit same h n t
 
-  -- grouping alone leaves all after every refusal
-  pub ids_told : (g : Outcome Grouping) {number : ℕ} {lent room room' bytes bytes' : List ℕ} → writes 4 lent bytes ≡ true → length room ≡ length lent → Handed 4 0 bytes_of_ints (not (eqb number 0)) room bytes room' bytes'
-      → number ≡ answer_number (grouping_answer g) → room ≡ grouping_left g lent → ResultLeft fits (grouping_work_left g) (ids_left g) lent bytes room' bytes'
-  unfolding answer_number grouping_answer grouping_left grouping_work_left ids_left ◌>>=◌ number_in leaves_all result_left work_left bytes_left
-  ids_told (done x) {lent = lent} fit same h n t = rw (e) (handed 0 4 (omega arith) bytes_of_ints (λ (y : Grouping). y.ids) no_ints ints_padded lent same fit h (done x) (rw (n)) t)
-  ids_told (refused r) {lent = lent} fit same h n t =
-      let u = by_cause 0 4 (omega arith) bytes_of_ints (λ (y : Grouping). y.ids) no_ints ints_padded lent same fit h true (rw (n, (left ℕ 0 lent r).2)) t in
-      rw (e) (record { in_room = u.0; in_bytes = u.1 })
+-- grouping alone leaves all after every refusal
+pub ids_told : (g : Outcome Grouping) {number : ℕ} {lent room room' bytes bytes' : List ℕ} → writes 4 lent bytes ≡ true → length room ≡ length lent → Handed 4 0 bytes_of_ints (not (eqb number 0)) room bytes room' bytes'
+    → number ≡ answer_number (grouping_answer g) → room ≡ grouping_left g lent → ResultLeft true (grouping_work_left g) (ids_left g) lent bytes room' bytes'
+unfolding answer_number grouping_answer grouping_left grouping_work_left ids_left ◌>>=◌ number_in leaves_all result_left work_left bytes_left
+ids_told (done x) {lent = lent} fit same h n t = handed 0 4 (omega arith) bytes_of_ints (λ (y : Grouping). y.ids) no_ints ints_padded lent same fit h (done x) (rw (n)) t
+ids_told (refused r) {lent = lent} fit same h n t =
+    let u = by_cause 0 4 (omega arith) bytes_of_ints (λ (y : Grouping). y.ids) no_ints ints_padded lent same fit h true (rw (n, (left ℕ 0 lent r).2)) t in
+    record { in_room = u.0; in_bytes = u.1 }
 
-  -- and so does grouping with a log
-  pub logged_ids_told : (g : Outcome Logged) {number : ℕ} {lent room room' bytes bytes' : List ℕ} → writes 4 lent bytes ≡ true → length room ≡ length lent → Handed 4 0 bytes_of_ints (not (eqb number 0)) room bytes room' bytes'
-      → number ≡ answer_number (grouping_log_answer g) → room ≡ grouping_left (grouping_in g) lent → ResultLeft fits (grouping_work_left (grouping_in g)) (ids_left (grouping_in g)) lent bytes room' bytes'
-  logged_ids_told g fit same h n t = ids_told (grouping_in g) fit same h (n ∙ log_number g) t
+-- and so does grouping with a log
+pub logged_ids_told : (g : Outcome Logged) {number : ℕ} {lent room room' bytes bytes' : List ℕ} → writes 4 lent bytes ≡ true → length room ≡ length lent → Handed 4 0 bytes_of_ints (not (eqb number 0)) room bytes room' bytes'
+    → number ≡ answer_number (grouping_log_answer g) → room ≡ grouping_left (grouping_in g) lent → ResultLeft true (grouping_work_left (grouping_in g)) (ids_left (grouping_in g)) lent bytes room' bytes'
+logged_ids_told g fit same h n t = ids_told (grouping_in g) fit same h (n ∙ log_number g) t
 
-  pub log_told : (g : Outcome Logged) {number : ℕ} {lent room room' bytes bytes' : List ℕ} → writes 4 lent bytes ≡ true → length room ≡ length lent → Handed 4 0 bytes_of_ints (not (eqb number 0)) room bytes room' bytes'
-      → number ≡ answer_number (grouping_log_answer g) → room ≡ log_left g lent → ResultLeft fits (grouping_work_left (grouping_in g)) (log_bytes_left g) lent bytes room' bytes'
-  unfolding answer_number grouping_log_answer grouping_in grouping_work_left log_left log_bytes_left ◌>>=◌ number_in leaves_all result_left work_left bytes_left
-  log_told (done x) {lent = lent} fit same h n t = rw (e) (handed 0 4 (omega arith) bytes_of_ints (λ (y : Logged). y.log) no_ints ints_padded lent same fit h (done x) (rw (n)) t)
-  log_told (refused r) {lent = lent} fit same h n t =
-      let u = by_cause 0 4 (omega arith) bytes_of_ints (λ (y : Logged). y.log) no_ints ints_padded lent same fit h true (rw (n, (left ℕ 0 lent r).2)) t in
-      rw (e) (record { in_room = u.0; in_bytes = u.1 })
+pub log_told : (g : Outcome Logged) {number : ℕ} {lent room room' bytes bytes' : List ℕ} → writes 4 lent bytes ≡ true → length room ≡ length lent → Handed 4 0 bytes_of_ints (not (eqb number 0)) room bytes room' bytes'
+    → number ≡ answer_number (grouping_log_answer g) → room ≡ log_left g lent → ResultLeft true (grouping_work_left (grouping_in g)) (log_bytes_left g) lent bytes room' bytes'
+unfolding answer_number grouping_log_answer grouping_in grouping_work_left log_left log_bytes_left ◌>>=◌ number_in leaves_all result_left work_left bytes_left
+log_told (done x) {lent = lent} fit same h n t = handed 0 4 (omega arith) bytes_of_ints (λ (y : Logged). y.log) no_ints ints_padded lent same fit h (done x) (rw (n)) t
+log_told (refused r) {lent = lent} fit same h n t =
+    let u = by_cause 0 4 (omega arith) bytes_of_ints (λ (y : Logged). y.log) no_ints ints_padded lent same fit h true (rw (n, (left ℕ 0 lent r).2)) t in
+    record { in_room = u.0; in_bytes = u.1 }
 
-  pub setup_told : (known : Bool) (s : Outcome Built) (lent : Lent) {number : ℕ} {ints work_ints ints' bytes bytes' : List ℕ} {floats work_floats floats' : List Float} {float_bytes floatBytes' : List ℕ}
-      → writes 4 lent.ints bytes ≡ true → writes 8 lent.floats float_bytes ≡ true → length ints ≡ length lent.ints → length floats ≡ length lent.floats
-      → Handed 4 0 bytes_of_ints (leaves_all number) ints bytes ints' bytes' → Handed 8 zeroᶠ bytes_of_floats (leaves_all number) floats float_bytes floats' floatBytes'
-      → number ≡ whether known (answer_number (setup_answer s)) 255 → lent_of ints floats work_ints work_floats ≡ whether known (setup_left s lent) lent
-      → LentLeft (fits && known) s lent (lent_of ints' floats' work_ints work_floats)
-      × ((bytes' ≡ after (fits && known) (bytes_left (λ (b : Built). bytes_of_ints b.ints) s) bytes) × (floatBytes' ≡ after (fits && known) (bytes_left (λ (b : Built). bytes_of_floats b.floats) s) float_bytes))
-  setup_told known s lent fit fit' same same' h h' n t =
-      let k = ap leaves_all (n ∙ ap (λ x. whether known x 255) (setup_number_lem s)) in
-      let l = setup_left_lem known s lent _ t in
-      let u = handed_where 0 4 (omega arith) bytes_of_ints (λ (b : Built). b.ints) no_ints ints_padded lent.ints same fit h known 255 s no_policy_lem k l.0 in
-      let v = handed_where zeroᶠ 8 (omega arith) bytes_of_floats (λ (b : Built). b.floats) no_floats floats_padded lent.floats same' fit' h' known 255 s no_policy_lem k l.1 in
-      rw (e) (record { ints = u.in_room; floats = v.in_room; work_ints = l.2; work_floats = l.3 }, (u.in_bytes, v.in_bytes))
+pub setup_told : (known : Bool) (s : Outcome Built) (lent : Lent) {number : ℕ} {ints work_ints ints' bytes bytes' : List ℕ} {floats work_floats floats' : List Float} {float_bytes floatBytes' : List ℕ}
+    → writes 4 lent.ints bytes ≡ true → writes 8 lent.floats float_bytes ≡ true → length ints ≡ length lent.ints → length floats ≡ length lent.floats
+    → Handed 4 0 bytes_of_ints (leaves_all number) ints bytes ints' bytes' → Handed 8 zeroᶠ bytes_of_floats (leaves_all number) floats float_bytes floats' floatBytes'
+    → number ≡ whether known (answer_number (setup_answer s)) 255 → lent_of ints floats work_ints work_floats ≡ whether known (setup_left s lent) lent
+    → LentLeft known s lent (lent_of ints' floats' work_ints work_floats)
+    × ((bytes' ≡ after known (bytes_left (λ (b : Built). bytes_of_ints b.ints) s) bytes) × (floatBytes' ≡ after known (bytes_left (λ (b : Built). bytes_of_floats b.floats) s) float_bytes))
+setup_told known s lent fit fit' same same' h h' n t =
+    let k = ap leaves_all (n ∙ ap (λ x. whether known x 255) (setup_number_lem s)) in
+    let l = setup_left_lem known s lent _ t in
+    let u = handed_where 0 4 (omega arith) bytes_of_ints (λ (b : Built). b.ints) no_ints ints_padded lent.ints same fit h known 255 s no_policy_lem k l.0 in
+    let v = handed_where zeroᶠ 8 (omega arith) bytes_of_floats (λ (b : Built). b.floats) no_floats floats_padded lent.floats same' fit' h' known 255 s no_policy_lem k l.1 in
+    (record { ints = u.in_room; floats = v.in_room; work_ints = l.2; work_floats = l.3 }, (u.in_bytes, v.in_bytes))

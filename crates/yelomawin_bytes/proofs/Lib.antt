@@ -1,4 +1,3 @@
-pub mod Tests
 pub mod Carried
 pub mod Handing
 pub mod Reading

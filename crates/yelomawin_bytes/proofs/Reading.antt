@@ -5,7 +5,7 @@ use mathlib.Core.Bool.{Bool, true, cond}
 use mathlib.Core.List.{List}
 use lib.ListN.{length}
 use Rattle.byte_lists.specs.Bytes.{over}
-use Rattle.byte_lists.proofs.Laws.{front, room_for_lem, count}
+use Rattle.byte_lists.proofs.Laws.{front, room_for_lem}
 use Rattle.definitions.specs.Lists.{tab}
 use Rattle.yelomawin_bytes.specs.Handed.{Read}
 
@@ -13,4 +13,4 @@ pub read_in : {A : Type 0} (w : ℕ) (numbers : List ℕ → List A) (f : ℕ �
 read_in w numbers f {b} {lent} {room} q e same h =
     let n = length b / w in
     let t : room ≡ over (tab f n) lent = rw (e, q) at h in
-    record { long = same; fit = room_for_lem f n lent room t; count = count f n lent room t; front = front f n lent room t ∙ sym q }
+    record { long = same; fit = room_for_lem f n lent room t; front = front f n lent room t ∙ sym q }

@@ -7,7 +7,6 @@ use Rattle.yelomawin_bytes.specs.Calls.{writes}
 pub record Read {A : Type 0} (w : ℕ) (numbers : List ℕ → List A) (bytes : List ℕ) (lent room : List A) : Type 0 where
   pub long : length room ≡ length lent
   pub fit : length bytes / w ≤ length room
-  pub count : length bytes / w ≡ length (take (length bytes / w) room)
   pub front : take (length bytes / w) room ≡ numbers bytes
 
 -- the call with this number leaves all: refused, and not by 14 to 24

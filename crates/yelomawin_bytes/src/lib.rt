@@ -26,6 +26,8 @@ ghost use Rattle.yelomawin_bytes.specs.Calls.{misfit, reads, writes, matrix_of, 
 mod fits;
 mod rooms;
 
+use byte_lists::zero;
+
 pub fn yelomawin_bytes_root(bits: u64) -> u64
     ensures { result ≡ to_bits binary64 (rootᶠ (of_bits binary64 bits)) }
 {
@@ -48,24 +50,14 @@ pub fn yelomawin_bytes_validate(
         (result ≡ cond fits (answer_number (answer_of (valid_of (matrix_of rows cols row_ptr.now col_idx.now values.now)))) misfit)
         × MatrixEmptied fits row_room.old col_room.old value_room.old row_room.new col_room.new value_room.new }
 {
-    if fits::matrix(
-        row_ptr.len(),
-        col_idx.len(),
-        values.len(),
-        row_room.len(),
-        col_room.len(),
-        value_room.len(),
-    ) {
+    if fits::matrix(row_ptr, col_idx, values, row_room, col_room, value_room) {
         rooms::read_matrix(row_ptr, col_idx, values, row_room, col_room, value_room);
-        let row_ptr_count = row_ptr.len() / 4;
-        let col_idx_count = col_idx.len() / 4;
-        let values_count = values.len() / 8;
         let number = yelomawin::yelomawin_validate(
             rows,
             cols,
-            &row_room[..row_ptr_count],
-            &col_room[..col_idx_count],
-            &value_room[..values_count],
+            rooms::filled(row_ptr, row_room),
+            rooms::filled(col_idx, col_room),
+            rooms::filled(values, value_room),
         );
         rooms::clear_matrix(row_room, col_room, value_room);
         return number;
@@ -95,34 +87,23 @@ pub fn yelomawin_bytes_diagonal(
         × ResultLeft fits (work_left zeroᶠ o) (bytes_left bytes_of_floats o) diagonal_room.old diagonal.old diagonal_room.new diagonal.new
         × AnswerLeft fits (answer_values (answer_of o)) answer_room.old answer.old answer_room.new answer.new }
 {
-    if fits::matrix(
-        row_ptr.len(),
-        col_idx.len(),
-        values.len(),
-        row_room.len(),
-        col_room.len(),
-        value_room.len(),
-    ) && fits::floats(
-        diagonal_room.len(),
-        answer_room.len(),
-        diagonal.len(),
-        answer.len(),
-    ) {
+    if fits::matrix(row_ptr, col_idx, values, row_room, col_room, value_room)
+        && fits::output(diagonal_room, diagonal)
+        && fits::output(answer_room, answer)
+    {
         rooms::read_matrix(row_ptr, col_idx, values, row_room, col_room, value_room);
-        let row_ptr_count = row_ptr.len() / 4;
-        let col_idx_count = col_idx.len() / 4;
-        let values_count = values.len() / 8;
         let number = yelomawin::yelomawin_diagonal(
             rows,
             cols,
-            &row_room[..row_ptr_count],
-            &col_room[..col_idx_count],
-            &value_room[..values_count],
+            rooms::filled(row_ptr, row_room),
+            rooms::filled(col_idx, col_room),
+            rooms::filled(values, value_room),
             diagonal_room,
             answer_room,
         );
         rooms::clear_matrix(row_room, col_room, value_room);
-        rooms::hand_result(number, diagonal_room, diagonal, answer_room, answer);
+        rooms::hand(rooms::leaves_all(number), diagonal_room, diagonal);
+        rooms::hand(false, answer_room, answer);
         return number;
     }
     254
@@ -151,35 +132,24 @@ pub fn yelomawin_bytes_blocks(
         × ResultLeft fits (work_left zeroᶠ o) (bytes_left bytes_of_floats o) factor_room.old factors.old factor_room.new factors.new
         × AnswerLeft fits (answer_values (answer_of o)) answer_room.old answer.old answer_room.new answer.new }
 {
-    if fits::matrix(
-        row_ptr.len(),
-        col_idx.len(),
-        values.len(),
-        row_room.len(),
-        col_room.len(),
-        value_room.len(),
-    ) && fits::floats(
-        factor_room.len(),
-        answer_room.len(),
-        factors.len(),
-        answer.len(),
-    ) {
+    if fits::matrix(row_ptr, col_idx, values, row_room, col_room, value_room)
+        && fits::output(factor_room, factors)
+        && fits::output(answer_room, answer)
+    {
         rooms::read_matrix(row_ptr, col_idx, values, row_room, col_room, value_room);
-        let row_ptr_count = row_ptr.len() / 4;
-        let col_idx_count = col_idx.len() / 4;
-        let values_count = values.len() / 8;
         let number = yelomawin::yelomawin_blocks(
             rows,
             cols,
-            &row_room[..row_ptr_count],
-            &col_room[..col_idx_count],
-            &value_room[..values_count],
+            rooms::filled(row_ptr, row_room),
+            rooms::filled(col_idx, col_room),
+            rooms::filled(values, value_room),
             block_size,
             factor_room,
             answer_room,
         );
         rooms::clear_matrix(row_room, col_room, value_room);
-        rooms::hand_result(number, factor_room, factors, answer_room, answer);
+        rooms::hand(rooms::leaves_all(number), factor_room, factors);
+        rooms::hand(false, answer_room, answer);
         return number;
     }
     254
@@ -205,30 +175,25 @@ pub fn yelomawin_bytes_block_apply(
         × ResultLeft fits (work_left zeroᶠ o) (bytes_left bytes_of_floats o) correction_room.old correction.old correction_room.new correction.new
         × AnswerLeft fits (answer_values (answer_of o)) answer_room.old answer.old answer_room.new answer.new }
 {
-    if fits::solve(
-        factors.len(),
-        residual.len(),
-        factor_room.len(),
-        residual_room.len(),
-    ) && fits::floats(
-        correction_room.len(),
-        answer_room.len(),
-        correction.len(),
-        answer.len(),
-    ) {
-        rooms::read_solve(factors, residual, factor_room, residual_room);
-        let factors_count = factors.len() / 8;
-        let residual_count = residual.len() / 8;
+    if fits::input(factors, factor_room)
+        && fits::input(residual, residual_room)
+        && fits::output(correction_room, correction)
+        && fits::output(answer_room, answer)
+    {
+        rooms::read(factors, factor_room);
+        rooms::read(residual, residual_room);
         let number = yelomawin::yelomawin_block_apply(
             rows,
             block_size,
-            &factor_room[..factors_count],
-            &residual_room[..residual_count],
+            rooms::filled(factors, factor_room),
+            rooms::filled(residual, residual_room),
             correction_room,
             answer_room,
         );
-        rooms::clear_solve(factor_room, residual_room);
-        rooms::hand_result(number, correction_room, correction, answer_room, answer);
+        zero(factor_room);
+        zero(residual_room);
+        rooms::hand(rooms::leaves_all(number), correction_room, correction);
+        rooms::hand(false, answer_room, answer);
         return number;
     }
     254
@@ -257,26 +222,24 @@ pub fn yelomawin_bytes_group(
         × (work.new ≡ after fits (grouping_work_left g) work.old)
         × AnswerLeft fits (grouping_values (grouping_answer g)) answer_room.old answer.old answer_room.new answer.new }
 {
-    if fits::graph(
-        offsets.len(),
-        neighbours.len(),
-        offset_room.len(),
-        neighbour_room.len(),
-    ) && fits::ints(ids_room.len(), answer_room.len(), ids.len(), answer.len())
+    if fits::input(offsets, offset_room)
+        && fits::input(neighbours, neighbour_room)
+        && fits::output(ids_room, ids)
+        && fits::output(answer_room, answer)
     {
-        rooms::read_graph(offsets, neighbours, offset_room, neighbour_room);
-        let offsets_count = offsets.len() / 4;
-        let neighbours_count = neighbours.len() / 4;
+        rooms::read(offsets, offset_room);
+        rooms::read(neighbours, neighbour_room);
         let number = yelomawin::yelomawin_group(
             nodes,
             group_size,
-            &offset_room[..offsets_count],
-            &neighbour_room[..neighbours_count],
+            rooms::filled(offsets, offset_room),
+            rooms::filled(neighbours, neighbour_room),
             ids_room,
             work,
             answer_room,
         );
-        rooms::clear_graph(offset_room, neighbour_room);
+        zero(offset_room);
+        zero(neighbour_room);
         rooms::hand(number != 0, ids_room, ids);
         rooms::hand(false, answer_room, answer);
         return number;
@@ -311,34 +274,27 @@ pub fn yelomawin_bytes_group_log(
         × (work.new ≡ after fits (grouping_work_left (grouping_in g)) work.old)
         × AnswerLeft fits (grouping_log_values (grouping_log_answer g)) answer_room.old answer.old answer_room.new answer.new }
 {
-    if fits::graph(
-        offsets.len(),
-        neighbours.len(),
-        offset_room.len(),
-        neighbour_room.len(),
-    ) && fits::logged(
-        ids_room.len(),
-        log_room.len(),
-        answer_room.len(),
-        ids.len(),
-        log.len(),
-        answer.len(),
-    ) {
-        rooms::read_graph(offsets, neighbours, offset_room, neighbour_room);
-        let offsets_count = offsets.len() / 4;
-        let neighbours_count = neighbours.len() / 4;
+    if fits::input(offsets, offset_room)
+        && fits::input(neighbours, neighbour_room)
+        && fits::output(ids_room, ids)
+        && fits::output(log_room, log)
+        && fits::output(answer_room, answer)
+    {
+        rooms::read(offsets, offset_room);
+        rooms::read(neighbours, neighbour_room);
         let number = yelomawin::yelomawin_group_log(
             nodes,
             group_size,
-            &offset_room[..offsets_count],
-            &neighbour_room[..neighbours_count],
+            rooms::filled(offsets, offset_room),
+            rooms::filled(neighbours, neighbour_room),
             ids_room,
             log_room,
             work,
             answer_room,
         );
         let kept = number != 0;
-        rooms::clear_graph(offset_room, neighbour_room);
+        zero(offset_room);
+        zero(neighbour_room);
         rooms::hand(kept, ids_room, ids);
         rooms::hand(kept, log_room, log);
         rooms::hand(false, answer_room, answer);
@@ -371,37 +327,24 @@ pub fn yelomawin_bytes_estimate(
         × (work.new ≡ after fits (work_left zeroᶠ o) work.old)
         × AnswerLeft fits (estimate_values (estimate_answer o)) answer_room.old answer.old answer_room.new answer.new }
 {
-    if fits::matrix(
-        row_ptr.len(),
-        col_idx.len(),
-        values.len(),
-        row_room.len(),
-        col_room.len(),
-        value_room.len(),
-    ) && fits::diagonal(
-        diagonal.len(),
-        diagonal_room.len(),
-        answer_room.len(),
-        answer.len(),
-    ) {
+    if fits::matrix(row_ptr, col_idx, values, row_room, col_room, value_room)
+        && fits::input(diagonal, diagonal_room)
+        && fits::output(answer_room, answer)
+    {
         rooms::read(diagonal, diagonal_room);
         rooms::read_matrix(row_ptr, col_idx, values, row_room, col_room, value_room);
-        let row_ptr_count = row_ptr.len() / 4;
-        let col_idx_count = col_idx.len() / 4;
-        let values_count = values.len() / 8;
-        let diagonal_count = diagonal.len() / 8;
         let number = yelomawin::yelomawin_estimate(
             rows,
             cols,
-            &row_room[..row_ptr_count],
-            &col_room[..col_idx_count],
-            &value_room[..values_count],
-            &diagonal_room[..diagonal_count],
+            rooms::filled(row_ptr, row_room),
+            rooms::filled(col_idx, col_room),
+            rooms::filled(values, value_room),
+            rooms::filled(diagonal, diagonal_room),
             work,
             answer_room,
         );
         rooms::clear_matrix(row_room, col_room, value_room);
-        byte_lists::zero(diagonal_room);
+        zero(diagonal_room);
         rooms::hand(false, answer_room, answer);
         return number;
     }
@@ -448,31 +391,18 @@ pub fn yelomawin_bytes_setup(
         × (setup_floats.new ≡ h.floats)
         × («record».new ≡ h.numbers) }
 {
-    if fits::matrix(
-        row_ptr.len(),
-        col_idx.len(),
-        values.len(),
-        row_room.len(),
-        col_room.len(),
-        value_room.len(),
-    ) && fits::setup(
-        ints_room.len(),
-        floats_room.len(),
-        record_room.len(),
-        setup_ints.len(),
-        setup_floats.len(),
-        record.len(),
-    ) {
+    if fits::matrix(row_ptr, col_idx, values, row_room, col_room, value_room)
+        && fits::output(ints_room, setup_ints)
+        && fits::output(floats_room, setup_floats)
+        && fits::output(record_room, record)
+    {
         rooms::read_matrix(row_ptr, col_idx, values, row_room, col_room, value_room);
-        let row_ptr_count = row_ptr.len() / 4;
-        let col_idx_count = col_idx.len() / 4;
-        let values_count = values.len() / 8;
         let number = yelomawin::yelomawin_setup(
             rows,
             cols,
-            &row_room[..row_ptr_count],
-            &col_room[..col_idx_count],
-            &value_room[..values_count],
+            rooms::filled(row_ptr, row_room),
+            rooms::filled(col_idx, col_room),
+            rooms::filled(values, value_room),
             block_size,
             group_size,
             aggregation,
@@ -485,8 +415,10 @@ pub fn yelomawin_bytes_setup(
             record_room,
         );
         rooms::clear_matrix(row_room, col_room, value_room);
-        rooms::hand(rooms::leaves_all(number), ints_room, setup_ints);
-        rooms::hand_result(number, floats_room, setup_floats, record_room, record);
+        let kept = rooms::leaves_all(number);
+        rooms::hand(kept, ints_room, setup_ints);
+        rooms::hand(kept, floats_room, setup_floats);
+        rooms::hand(false, record_room, record);
         return number;
     }
     254
@@ -525,46 +457,32 @@ pub fn yelomawin_bytes_apply(
         × (correction.new ≡ h.correction)
         × AnswerLeft fits (whether known (answer_values (answer_of o)) []) answer_room.old answer.old answer_room.new answer.new }
 {
-    if fits::kept(
-        record.len(),
-        setup_ints.len(),
-        setup_floats.len(),
-        residual.len(),
-        record_room.len(),
-        ints_room.len(),
-        floats_room.len(),
-        residual_room.len(),
-    ) && fits::floats(
-        correction_room.len(),
-        answer_room.len(),
-        correction.len(),
-        answer.len(),
-    ) {
-        rooms::read_kept(
-            record,
-            setup_ints,
-            setup_floats,
-            residual,
-            record_room,
-            ints_room,
-            floats_room,
-            residual_room,
-        );
-        let record_count = record.len() / 8;
-        let setup_ints_count = setup_ints.len() / 4;
-        let setup_floats_count = setup_floats.len() / 8;
-        let residual_count = residual.len() / 8;
+    if fits::input(record, record_room)
+        && fits::input(setup_ints, ints_room)
+        && fits::input(setup_floats, floats_room)
+        && fits::input(residual, residual_room)
+        && fits::output(correction_room, correction)
+        && fits::output(answer_room, answer)
+    {
+        rooms::read(record, record_room);
+        rooms::read(setup_ints, ints_room);
+        rooms::read(setup_floats, floats_room);
+        rooms::read(residual, residual_room);
         let number = yelomawin::yelomawin_apply(
-            &record_room[..record_count],
-            &ints_room[..setup_ints_count],
-            &floats_room[..setup_floats_count],
-            &residual_room[..residual_count],
+            rooms::filled(record, record_room),
+            rooms::filled(setup_ints, ints_room),
+            rooms::filled(setup_floats, floats_room),
+            rooms::filled(residual, residual_room),
             correction_room,
             work,
             answer_room,
         );
-        rooms::clear_kept(record_room, ints_room, floats_room, residual_room);
-        rooms::hand_result(number, correction_room, correction, answer_room, answer);
+        zero(record_room);
+        zero(ints_room);
+        zero(floats_room);
+        zero(residual_room);
+        rooms::hand(rooms::leaves_all(number), correction_room, correction);
+        rooms::hand(false, answer_room, answer);
         return number;
     }
     254

@@ -1,17 +1,26 @@
 // Rooms stand for byte lists while a call is made: inputs are read into theirs, results handed out of theirs, and what was used is cleared.
-ghost use Rattle.std.specs.Prelude.{◌≡◌, true, false};
-ghost use Rattle.byte_lists.specs.Bytes.{ints_of, numbers_of, floats_of, bytes_of_ints, bytes_of_floats, bytes_of_numbers};
+ghost use Rattle.std.specs.Prelude.{◌≡◌, ◌≤◌, ◌/◌, true, length, take};
+ghost use Rattle.byte_lists.specs.Bytes.{ints_of, floats_of};
 ghost use Rattle.definitions.specs.Numbers.{zeroᶠ};
 ghost use Rattle.yelomawin_bytes.specs.Calls.{reads, emptied};
 ghost use Rattle.yelomawin_bytes.specs.Handed.{Read, leaves_all, Handed};
 
 use byte_lists::{Element, zero};
 
+#[tactic(auto, using(crate::proofs::Reading::read_in))]
 pub(crate) fn read<T: Element>(bytes: &[u8], room: &mut [T])
     requires { reads T.BYTES bytes.now room.old ≡ true }
     ensures { Read T.BYTES T.list_of bytes.now room.old room.new }
 {
     byte_lists::read(bytes, room);
+}
+
+// The part of a room that an input's bytes fill.
+pub(crate) fn filled<'a, T: Element>(bytes: &[u8], room: &'a [T]) -> &'a [T]
+    requires { length bytes.now / T.BYTES ≤ length room.now }
+    ensures { result.now ≡ take (length bytes.now / T.BYTES) room.now }
+{
+    &room[..bytes.len() / T::BYTES]
 }
 
 pub(crate) fn read_matrix(
@@ -34,61 +43,6 @@ pub(crate) fn read_matrix(
     read(values, value_room);
 }
 
-pub(crate) fn read_graph(
-    offsets: &[u8],
-    neighbours: &[u8],
-    offset_room: &mut [u32],
-    neighbour_room: &mut [u32],
-)
-    requires offset_room_fits { reads 4 offsets.now offset_room.old ≡ true }
-    requires neighbour_room_fits { reads 4 neighbours.now neighbour_room.old ≡ true }
-    ensures offset_room_read { Read 4 ints_of offsets.now offset_room.old offset_room.new }
-    ensures neighbour_room_read { Read 4 ints_of neighbours.now neighbour_room.old neighbour_room.new }
-{
-    read(offsets, offset_room);
-    read(neighbours, neighbour_room);
-}
-
-pub(crate) fn read_solve(
-    factors: &[u8],
-    residual: &[u8],
-    factor_room: &mut [f64],
-    residual_room: &mut [f64],
-)
-    requires factor_room_fits { reads 8 factors.now factor_room.old ≡ true }
-    requires residual_room_fits { reads 8 residual.now residual_room.old ≡ true }
-    ensures factor_room_read { Read 8 floats_of factors.now factor_room.old factor_room.new }
-    ensures residual_room_read { Read 8 floats_of residual.now residual_room.old residual_room.new }
-{
-    read(factors, factor_room);
-    read(residual, residual_room);
-}
-
-// A setup's record and lists, and a residual.
-pub(crate) fn read_kept(
-    record: &[u8],
-    setup_ints: &[u8],
-    setup_floats: &[u8],
-    residual: &[u8],
-    record_room: &mut [u64],
-    ints_room: &mut [u32],
-    floats_room: &mut [f64],
-    residual_room: &mut [f64],
-)
-    requires record_room_fits { reads 8 «record».now record_room.old ≡ true }
-    requires ints_room_fits { reads 4 setup_ints.now ints_room.old ≡ true }
-    requires floats_room_fits { reads 8 setup_floats.now floats_room.old ≡ true }
-    requires residual_room_fits { reads 8 residual.now residual_room.old ≡ true }
-    ensures record_room_read { Read 8 numbers_of «record».now record_room.old record_room.new }
-    ensures ints_room_read { Read 4 ints_of setup_ints.now ints_room.old ints_room.new }
-    ensures floats_room_read { Read 8 floats_of setup_floats.now floats_room.old floats_room.new }
-    ensures residual_room_read { Read 8 floats_of residual.now residual_room.old residual_room.new }
-{
-    read(record, record_room);
-    read(setup_ints, ints_room);
-    read_solve(setup_floats, residual, floats_room, residual_room);
-}
-
 pub(crate) fn clear_matrix(row_room: &mut [u32], col_room: &mut [u32], value_room: &mut [f64])
     ensures row_room_after { row_room.new ≡ emptied 0 row_room.old }
     ensures col_room_after { col_room.new ≡ emptied 0 col_room.old }
@@ -99,38 +53,6 @@ pub(crate) fn clear_matrix(row_room: &mut [u32], col_room: &mut [u32], value_roo
     zero(value_room);
 }
 
-pub(crate) fn clear_graph(offset_room: &mut [u32], neighbour_room: &mut [u32])
-    ensures offset_room_after { offset_room.new ≡ emptied 0 offset_room.old }
-    ensures neighbour_room_after { neighbour_room.new ≡ emptied 0 neighbour_room.old }
-{
-    zero(offset_room);
-    zero(neighbour_room);
-}
-
-pub(crate) fn clear_solve(factor_room: &mut [f64], residual_room: &mut [f64])
-    ensures factor_room_after { factor_room.new ≡ emptied zeroᶠ factor_room.old }
-    ensures residual_room_after { residual_room.new ≡ emptied zeroᶠ residual_room.old }
-{
-    zero(factor_room);
-    zero(residual_room);
-}
-
-pub(crate) fn clear_kept(
-    record_room: &mut [u64],
-    ints_room: &mut [u32],
-    floats_room: &mut [f64],
-    residual_room: &mut [f64],
-)
-    ensures record_room_after { record_room.new ≡ emptied 0 record_room.old }
-    ensures ints_room_after { ints_room.new ≡ emptied 0 ints_room.old }
-    ensures floats_room_after { floats_room.new ≡ emptied zeroᶠ floats_room.old }
-    ensures residual_room_after { residual_room.new ≡ emptied zeroᶠ residual_room.old }
-{
-    zero(record_room);
-    zero(ints_room);
-    clear_solve(floats_room, residual_room);
-}
-
 // Whether the call with this number leaves every list as it was.
 #[tactic(auto, unfolding(crate::specs::Handed::leaves_all))]
 pub(crate) fn leaves_all(number: u64) -> bool
@@ -139,6 +61,7 @@ pub(crate) fn leaves_all(number: u64) -> bool
     1 <= number && (number <= 13 || 25 <= number)
 }
 
+// Hands a result out of its room into its bytes; where `kept`, the call has left both as they were. An answer is never kept.
 pub(crate) fn hand<T: Element>(kept: bool, room: &mut [T], bytes: &mut [u8])
     ensures { Handed T.BYTES T.ZERO T.bytes_of kept room.old bytes.old room.new bytes.new }
 {
@@ -147,20 +70,4 @@ pub(crate) fn hand<T: Element>(kept: bool, room: &mut [T], bytes: &mut [u8])
     }
     byte_lists::write(room, bytes);
     zero(room);
-}
-
-// A result of floats, by the call's number, and its answer.
-pub(crate) fn hand_result(
-    number: u64,
-    room: &mut [f64],
-    bytes: &mut [u8],
-    answer_room: &mut [u64],
-    answer: &mut [u8],
-)
-    ensures result_handed { Handed 8 zeroᶠ bytes_of_floats (leaves_all number) room.old bytes.old room.new bytes.new }
-    ensures answer_handed { Handed 8 0 bytes_of_numbers false answer_room.old answer.old answer_room.new answer.new }
-{
-    hand(leaves_all(number), room, bytes);
-    // An answer is written whatever it is.
-    hand(false, answer_room, answer);
 }

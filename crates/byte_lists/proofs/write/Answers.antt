@@ -1,22 +1,10 @@
-use Rattle.std.proofs.Common.{◌≡◌, sym, ◌∙◌, true, length, replicate, arith, rules}
+use Rattle.std.proofs.Common.{◌≡◌, sym, ◌∙◌, true, length, replicate, arith}
 use Rattle.byte_lists.specs.Bytes.{writable}
-use Rattle.byte_lists.proofs.Filling.{over_none, over_next, over_zeros, end_in_bytes}
+use Rattle.byte_lists.proofs.Filling.{over_next, over_zeros, end_in_bytes}
 use Rattle.byte_lists.proofs.write.Goals as goal
-
-pub loop-k-init : goal.loop-k-init
-loop-k-init g c =
-    let e = g.T.Element in
-    let z : c.fill.new.self ≡ replicate (length c.args.bytes.now) 0 = search rules in
-    z ∙ over_none e.code g.met.T.Element.laws.default c.args.list.now e.BYTES _
 
 pub overflow_mul-k : goal.overflow_mul-k
 overflow_mul-k g c = let h = end_in_bytes g.met.T.Element.laws.some c.BYTES-width.ensures c.writable.ensures c.if-not-writable.false c.loop-k-test.true in omega (arith, h)
-
-pub overflow_mul-k-in-loop-k : goal.overflow_mul-k-in-loop-k
-overflow_mul-k-in-loop-k g c = let h = end_in_bytes g.met.T.Element.laws.some c.BYTES-width.ensures c.writable.ensures c.if-not-writable.false c.loop-k-test.true in omega (arith, h)
-
-pub slice_bounds-put-end : goal.slice_bounds-put-end
-slice_bounds-put-end g c = let h = end_in_bytes g.met.T.Element.laws.some c.BYTES-width.ensures c.writable.ensures c.if-not-writable.false c.loop-k-test.true in omega (arith, h)
 
 pub loop-k-preserved : goal.loop-k-preserved
 loop-k-preserved g c = over_next g.T.Element.code g.met.T.Element.laws.default _ _ _ _ _ (replicate (length c.args.bytes.now) 0) _ _ c.BYTES-width.ensures c.loop-k.invariant c.index-list-k.is c.loop-k-test.true c.put.ensures

@@ -1,33 +1,24 @@
 -- What is read stands in the front of its room; what the call yields is handed out; the rooms are cleared.
-use mathlib.Core.Path.{refl}
+use mathlib.Core.Path.{sym, ◌∙◌}
 use Rattle.definitions.specs.Diagonal.{diagonal_left}
 use Rattle.yelomawin.specs.Calls.{exported_diagonal, exported}
 use Rattle.yelomawin.proofs.Handing.{parts}
-use Rattle.yelomawin_bytes.specs.Calls.{writes}
-use Rattle.yelomawin_bytes.proofs.Tests.{two, passed, first_failed, second_failed}
-use Rattle.yelomawin_bytes.proofs.Handing.{told, matrix_emptied, matrix_kept, floats_told, answer_told, result_kept}
+use Rattle.yelomawin_bytes.proofs.Handing.{matrix_emptied, floats_told, answer_told}
 use Rattle.yelomawin_bytes.proofs.yelomawin_bytes_diagonal.Goals as goal
-use Rattle.yelomawin_bytes.proofs.yelomawin_bytes_diagonal.Goals.{else-matrix-via-then-matrix+else-floats, else-matrix-via-else-matrix}
 
-pub returns-then-floats : goal.returns-then-floats
+pub returns-then-output-2 : goal.returns-then-output-2
 unfolding diagonal_left exported_diagonal exported
-returns-then-floats c =
-    let a = c.args in
-    let q = passed c.matrix.ensures c.if-matrix.true c.floats.ensures c.if-floats.true in
-    let w = two (writes 8 a.diagonal_room.now a.diagonal.now) (writes 8 a.answer_room.now a.answer.now) q.1.1 in
+returns-then-output-2 c =
+    let m = sym c.matrix.ensures ∙ c.if-matrix.true in
+    let d = sym c.output.ensures ∙ c.if-output.true in
+    let w = sym c.output-then-output.ensures ∙ c.if-output-2.true in
     let r = c.read_matrix.ensures in
     let k = c.clear_matrix.ensures in
-    let h = c.hand_result.ensures in
-    let t = rw (r.row_room_read.front, r.col_room_read.front, r.value_room_read.front) at (parts c.yelomawin_diagonal-number.ensures) in (
-      told q.0 _ t.0,
-      matrix_emptied q.0 r.row_room_read r.col_room_read r.value_room_read k.row_room_after k.col_room_after k.value_room_after,
-      floats_told q.0 _ w.0 c.yelomawin_diagonal-number.auto.diagonal h.result_handed t.0 t.1.0,
-      answer_told q.0 _ w.1 c.yelomawin_diagonal-number.auto.answer h.answer_handed t.1.1,
+    let call = c.yelomawin_diagonal-number in
+    let t = rw (c.filled.ensures ∙ r.row_room_read.front, c.filled-then-output-2.ensures ∙ r.col_room_read.front, c.filled-then-output-2-2.ensures ∙ r.value_room_read.front) at (parts call.ensures) in
+    rw (m, d, w) (
+      t.0,
+      matrix_emptied r.row_room_read r.col_room_read r.value_room_read k.row_room_after k.col_room_after k.value_room_after,
+      floats_told _ d call.auto.diagonal (rw c.leaves_all.ensures at c.hand.ensures) t.0 t.1.0,
+      answer_told _ w call.auto.answer c.hand-then-output-2.ensures t.1.1,
     )
-
-pub returns : goal.returns
-returns c =
-    elim c.else-matrix.branch [
-      | else-matrix-via-then-matrix+else-floats w ↦ rw (second_failed _ w.floats.ensures w.if-floats.false) (refl, matrix_kept, result_kept, result_kept)
-      | else-matrix-via-else-matrix w ↦ rw (first_failed _ c.matrix.ensures w.if-matrix.false) (refl, matrix_kept, result_kept, result_kept)
-    ]

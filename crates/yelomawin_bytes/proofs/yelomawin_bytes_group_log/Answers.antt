@@ -1,33 +1,27 @@
 -- What is read stands in the front of its room; what the call yields is handed out; the rooms are cleared.
-use mathlib.Core.Path.{refl}
+use mathlib.Core.Path.{sym, ◌∙◌}
 use Rattle.yelomawin.specs.Calls.{exported_group_log}
 use Rattle.yelomawin.proofs.Handing.{log_parts}
-use Rattle.yelomawin_bytes.specs.Calls.{writes}
-use Rattle.yelomawin_bytes.proofs.Tests.{three, passed, first_failed, second_failed}
-use Rattle.yelomawin_bytes.proofs.Handing.{told, both_emptied, both_kept, logged_ids_told, log_told, answer_told, result_kept}
+use Rattle.yelomawin_bytes.proofs.Handing.{both_emptied, logged_ids_told, log_told, answer_told}
 use Rattle.yelomawin_bytes.proofs.yelomawin_bytes_group_log.Goals as goal
-use Rattle.yelomawin_bytes.proofs.yelomawin_bytes_group_log.Goals.{else-graph-via-then-graph+else-logged, else-graph-via-else-graph}
 
-pub returns-then-logged : goal.returns-then-logged
+pub returns-then-output-3 : goal.returns-then-output-3
 unfolding exported_group_log
-returns-then-logged c =
-    let a = c.args in
-    let q = passed c.graph.ensures c.if-graph.true c.logged.ensures c.if-logged.true in
-    let w = three (writes 4 a.ids_room.now a.ids.now) (writes 4 a.log_room.now a.log.now) (writes 8 a.answer_room.now a.answer.now) q.1.1 in
-    let r = c.read_graph.ensures in
-    let k = c.clear_graph.ensures in
-    let t = rw (r.offset_room_read.front, r.neighbour_room_read.front) at (log_parts c.yelomawin_group_log-number.ensures) in (
-      told q.0 _ t.0,
-      both_emptied q.0 0 r.offset_room_read r.neighbour_room_read k.offset_room_after k.neighbour_room_after,
-      logged_ids_told q.0 _ w.0 c.yelomawin_group_log-number.auto.ids c.hand.ensures t.0 t.1.0,
-      log_told q.0 _ w.1.0 c.yelomawin_group_log-number.auto.log c.hand-then-logged.ensures t.0 t.1.1.0,
-      told q.0 _ t.1.1.1.0,
-      answer_told q.0 _ w.1.1 c.yelomawin_group_log-number.auto.answer c.hand-then-logged-2.ensures t.1.1.1.1,
+returns-then-output-3 c =
+    let o = sym c.input.ensures ∙ c.if-input.true in
+    let n = sym c.input-then-input.ensures ∙ c.if-input-2.true in
+    let i = sym c.output.ensures ∙ c.if-output.true in
+    let l = sym c.output-then-output.ensures ∙ c.if-output-2.true in
+    let w = sym c.output-then-output-2.ensures ∙ c.if-output-3.true in
+    let r = c.read.ensures in
+    let s = c.read-then-output-3.ensures in
+    let call = c.yelomawin_group_log-number in
+    let t = rw (c.filled.ensures ∙ r.front, c.filled-then-output-3.ensures ∙ s.front) at (log_parts call.ensures) in
+    rw (o, n, i, l, w) (
+      t.0,
+      both_emptied 0 r s c.zero.ensures c.zero-then-output-3.ensures,
+      logged_ids_told _ i call.auto.ids c.hand.ensures t.0 t.1.0,
+      log_told _ l call.auto.log c.hand-then-output-3.ensures t.0 t.1.1.0,
+      t.1.1.1.0,
+      answer_told _ w call.auto.answer c.hand-then-output-3-2.ensures t.1.1.1.1,
     )
-
-pub returns : goal.returns
-returns c =
-    elim c.else-graph.branch [
-      | else-graph-via-then-graph+else-logged w ↦ rw (second_failed _ w.logged.ensures w.if-logged.false) (refl, both_kept, result_kept, result_kept, refl, result_kept)
-      | else-graph-via-else-graph w ↦ rw (first_failed _ c.graph.ensures w.if-graph.false) (refl, both_kept, result_kept, result_kept, refl, result_kept)
-    ]

@@ -3,7 +3,6 @@ use mathlib.Core.Path.{ap, ◌∙◌}
 use Rattle.causes.specs.Told.{told_of}
 use Rattle.causes.specs.declared.Row.{Row}
 use Rattle.yelomawin.proofs.Receiving.{told}
-use borrow.Author.Rules.{rules}
 use Rattle.yelomawin.proofs.answers.refuse.Goals as goal
 
 pub returns : goal.returns
