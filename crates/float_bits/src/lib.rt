@@ -1,4 +1,4 @@
-// A float's pattern of 64 bits, and the float of a pattern. All NaNs are one.
+// A float's pattern of 64 bits, and the float of a pattern. All NaNs are one. Two functions of std under shorter names, which are public here.
 #![tactic(auto)]
 
 ghost use Rattle.std.specs.Prelude.{◌≡◌};

@@ -9,6 +9,7 @@ use borrow.Author.Tests.{leb-true, leb-false, le-leb, lt-leb, ne_eqb, not-true}
 use lib.Dec.{leb, ltb, eqb}
 use lib.ListN.{length, get_or, take, drop, length-append}
 use lib.Seq.{append_snoc, length-take-le}
+use Rattle.std.proofs.lemmas.List.{length-map, map-append}
 use Rattle.definitions.specs.Lists.{any, falls}
 use Rattle.definitions.specs.Refusal.{Outcome, refused, done, require, ◌>>=◌}
 use Rattle.definitions.specs.Matrix.{max_rows, max_entries}
@@ -150,14 +151,6 @@ end_agrees (b ∷ bs) = split (is_blank b)
 
 -- ---- one node
 
-map_append : (xs : List ℕ) (x : ℕ) → map cap (xs ++ (x ∷ [])) ≡ map cap xs ++ (cap x ∷ [])
-map_append [] x = refl
-map_append (y ∷ xs) x = ap (λ l. cap y ∷ l) (map_append xs x)
-
-map_length : (xs : List ℕ) → length (map cap xs) ≡ length xs
-map_length [] = refl
-map_length (x ∷ xs) = ap suc (map_length xs)
-
 -- k numbers further
 abbrev passed : ℕ → Spelling → Spelling
 passed k t = record { numbers = drop k t.numbers; whole = t.whole }
@@ -189,7 +182,7 @@ module _ (k : ℕ) (g : Listing) (x : Read) (t : spells g.rest ≡ behind (cap x
   named_on (refused r) p = (p.0, rw t (omega (arith, p.1)))
   named_on (done h) p = record {
     offs = p.offs;
-    names = p.names ∙ rw (t, map_append g.neighbours x.number) (append_snoc (map cap g.neighbours) (cap x.number) (take k (spells x.rest).numbers));
+    names = p.names ∙ rw (t, map-append cap g.neighbours (x.number ∷ [])) (append_snoc (map cap g.neighbours) (cap x.number) (take k (spells x.rest).numbers));
     left = p.left ∙ rw t refl;
     enough = rw t (omega (arith, p.enough));
   }
@@ -218,8 +211,8 @@ spelled g = listing g.offsets (map cap g.neighbours) (spells g.rest).numbers
 test_agrees : (nb : List ℕ) (x : ℕ) → leb (length (map cap nb) + cap x) 2048 ≡ leb (length nb + x) 2048
 unfolding cap
 test_agrees nb x = split (leb (length nb + x) 2048)
-    (λ e. rw e (le-leb (length (map cap nb) + cap x) 2048 (omega (arith, map_length nb, leb-true (length nb + x) 2048 e))))
-    (λ e. rw e (lt-leb (length (map cap nb) + cap x) 2048 (omega (arith, map_length nb, leb-false (length nb + x) 2048 e))))
+    (λ e. rw e (le-leb (length (map cap nb) + cap x) 2048 (omega (arith, length-map nb cap, leb-true (length nb + x) 2048 e))))
+    (λ e. rw e (lt-leb (length (map cap nb) + cap x) 2048 (omega (arith, length-map nb cap, leb-false (length nb + x) 2048 e))))
 
 after : Listing → Listing
 after h = listing (h.offsets ++ (length h.neighbours ∷ [])) h.neighbours h.rest
@@ -294,7 +287,7 @@ module _ (g : Listing) (x : Read) (t : spells g.rest ≡ behind (cap x.number �
     small = cap_small x.number (omega (arith, fits))
 
     test : leb (length (map cap g.neighbours) + x.number) 2048 ≡ true
-    test = le-leb (length (map cap g.neighbours) + x.number) 2048 (omega (arith, fits, map_length g.neighbours))
+    test = le-leb (length (map cap g.neighbours) + x.number) 2048 (omega (arith, fits, length-map g.neighbours cap))
 
     one_short : length (spells x.rest).numbers < x.number → node_from (spelled g).offsets (spelled g).neighbours (spelled g).rest ≡ refused NeighbourOffsets
     unfolding spelled
@@ -305,7 +298,7 @@ module _ (g : Listing) (x : Read) (t : spells g.rest ≡ behind (cap x.number �
     one_done h p =
         let ns = (spells x.rest).numbers in
         let m = map cap g.neighbours ++ take x.number ns in
-        let l : length h.neighbours ≡ length (map cap g.neighbours) + x.number = sym (map_length h.neighbours) ∙ ap length p.names ∙ length-append (map cap g.neighbours) (take x.number ns) ∙ ap (λ k. length (map cap g.neighbours) + k) (length-take-le x.number ns p.enough) in
+        let l : length h.neighbours ≡ length (map cap g.neighbours) + x.number = sym (length-map h.neighbours cap) ∙ ap length p.names ∙ length-append (map cap g.neighbours) (take x.number ns) ∙ ap (λ k. length (map cap g.neighbours) + k) (length-take-le x.number ns p.enough) in
         rw (numbers_are, small) (node_done g.offsets (map cap g.neighbours) x.number ns test (le-leb x.number (length ns) p.enough)
         ∙ rw (l, p.offs, p.names, ap (λ s. s.numbers) p.left) refl)
 
@@ -392,7 +385,7 @@ module _ (n s : ℕ) (offsets nb : List ℕ) (room work : ℕ) where
 call_agrees : (n s : ℕ) (offsets nb : List ℕ) (room work : ℕ) → n ≤ 256 → grouping_call n (cap s) offsets (map cap nb) room work ≡ grouping_call n s offsets nb room work
 call_agrees n s offsets nb room work h =
     call_is n (cap s) offsets (map cap nb) room work
-    ∙ rw (map_length nb, size_agrees s, any_capped n nb h) (ordered_alike (leb n max_rows && leb (length nb) max_entries) (leb 1 s && leb s max_group)
+    ∙ rw (length-map nb cap, size_agrees s, any_capped n nb h) (ordered_alike (leb n max_rows && leb (length nb) max_entries) (leb 1 s && leb s max_group)
     (eqb (length offsets) (n + 1) && eqb (get_or offsets 0 1) 0 && not (falls offsets) && eqb (get_or offsets n 0) (length nb)) (ltb 0 n)
     (not (any (λ w. leb n w) nb)) (leb n room && leb (8 * n + 4 * length nb + 16) work)
     (graph_grouping (listed offsets (map cap nb)) no_anchor n (cap s)) (graph_grouping (listed offsets nb) no_anchor n s)
@@ -482,7 +475,7 @@ cap_256 n = split (leb n 256)
 
 answered_call : (o : Outcome Asked) (n s : ℕ) (offsets nb : List ℕ) → n ≤ 256 → o ≡ done (record { nodes = n; size = cap s; offsets = offsets; neighbours = map cap nb }) → answered o ≡ grouping_call n s offsets nb n (8 * n + 4 * length nb + 16)
 unfolding answered
-answered_call o n s offsets nb h e = rw e (ap (λ k. grouping_call n (cap s) offsets (map cap nb) n (8 * n + 4 * k + 16)) (map_length nb) ∙ call_agrees n s offsets nb n (8 * n + 4 * length nb + 16) h)
+answered_call o n s offsets nb h e = rw e (ap (λ k. grouping_call n (cap s) offsets (map cap nb) n (8 * n + 4 * k + 16)) (length-map nb cap) ∙ call_agrees n s offsets nb n (8 * n + 4 * length nb + 16) h)
 
 -- EVERY TEXT IS ANSWERED AS ITS NUMBERS ARE
 pub text_agrees : (text : List ℕ) → answered (asked_in (spells text).numbers (spells text).whole) ≡ text_grouping text

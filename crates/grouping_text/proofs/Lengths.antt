@@ -1,11 +1,12 @@
 -- A grouping has an id for each node, and what is printed of it is a line for each.
 use mathlib.Core.Path.{◌≡◌, refl, ap, sym, ◌∙◌}
 use mathlib.Core.Bool.{Bool, true, false}
-use mathlib.Core.List.{List, [], ◌∷◌, ◌++◌, map, flat_map, zip_with}
+use mathlib.Core.List.{List, [], ◌∷◌, ◌++◌, flat_map, zip_with}
 use Prim.Native.Nat.{ℕ, zero, suc, ◌+◌}
 use native.Mathlib.Omega.{arith}
 use lib.Dec.{eqb}
 use lib.ListN.{length, get_or, set, replicate, length-set, length-replicate}
+use Rattle.std.proofs.lemmas.List.{length-map}
 use Rattle.definitions.specs.Lists.{tab, up_to}
 use Rattle.definitions.specs.Refusal.{refused, done, require, ◌>>=◌}
 use Rattle.definitions.specs.declared.Refusal.{Refusal}
@@ -42,17 +43,13 @@ module _ (lists : ℕ → List ℕ) where
   unfolding grown
   grown_length n size = from_length size n 0 0 (replicate n 0) ∙ length-replicate n 0
 
-  mapped_length : (f : ℕ → ℕ) (xs : List ℕ) → length (map f xs) ≡ length xs
-  mapped_length f [] = refl
-  mapped_length f (x ∷ xs) = ap suc (mapped_length f xs)
-
   -- an id for each node
   pub grouping_length : (n size : ℕ) → length (graph_grouping lists no_anchor n size).ids ≡ n
   unfolding graph_grouping renumbered groups_of
   grouping_length n size =
       let s = groups_of (grown lists no_anchor n size).0 (grown lists no_anchor n size).1 in
       let ids = (replay (joinings lists no_anchor n size) s).of in
-      mapped_length (λ x. place x (firsts [] ids)) ids ∙ replay_length (joinings lists no_anchor n size) s ∙ grown_length n size
+      length-map ids (λ x. place x (firsts [] ids)) ∙ replay_length (joinings lists no_anchor n size) s ∙ grown_length n size
 
 lines_from_lem : (v : ℕ) (f : ℕ → ℕ) (xs : List ℕ) → ((i : ℕ) → f i ≡ v + i) → flat_map (λ l. l) (zip_with (λ u id. line (decimal u) (decimal id)) (tab f (length xs)) xs) ≡ lines_from v xs
 unfolding tab lines_from flat_map zip_with

@@ -8,6 +8,7 @@ use native.Mathlib.Omega.{arith}
 use borrow.Author.Tests.{leb-true, leb-false, le-leb, lt-leb, ltb-true, ltb-false}
 use lib.Dec.{leb, ltb}
 use lib.ListN.{length, take, drop, set, length-append, length-take, length-set}
+use Rattle.std.proofs.lemmas.List.{drop-take}
 use lib.Seq.{take-nil, take-take, take_all, take-length, take-suc-set, set_out, append_snoc, take-append_seam, length-take-le}
 use Rattle.definitions.specs.Refusal.{Outcome, refused, done}
 use Rattle.definitions.specs.Text.{is_blank, is_digit, is_none, Listing, program, printed}
@@ -18,12 +19,6 @@ use Rattle.grouping_text.proofs.Agrees.{split, start, spelt_digit, spelt_blank, 
 use Rattle.grouping_text.specs.Feeding.{fresh, Held, held, closed, grown, spoilt, byte_in, fed, fed_all, taken, said}
 
 -- ---- the first 2,307 numbers decide: two, a count for each of 256 nodes, 2,048 neighbours, and one that is too many
-
-drop_take : (x k : ℕ) (l : List ℕ) → drop x (take k l) ≡ take (k - x) (drop x l)
-drop_take zero k l = let e : k - 0 ≡ k = omega arith in rw e refl
-drop_take (suc x) zero l = let e : 0 - suc x ≡ 0 = omega arith in rw e refl
-drop_take (suc x) (suc k) [] = sym (take-nil (suc k - suc x))
-drop_take (suc x) (suc k) (y ∷ l) = let e : suc k - suc x ≡ k - x = omega arith in rw e (drop_take x k l)
 
 abbrev cut_lists : ℕ → Listing → Listing
 cut_lists k g = listing g.offsets g.neighbours (take k g.rest)
@@ -52,12 +47,13 @@ lists_cut (suc left) o nb (x ∷ rest) (suc k) p = split (leb (length nb + x) 20
     let enough : x ≤ length rest = leb-true x (length rest) u in
     let o' = o ++ ((length nb + x) ∷ []) in
     let nb' = nb ++ take x rest in
+    let d : drop x (take k rest) ≡ take (k - x) (drop x rest) = let e : k ≡ x + (k - x) = omega arith in ap (λ i. drop x (take i rest)) e ∙ drop-take x (k - x) rest in
     let n : length nb' ≡ length nb + x = length-append nb (take x rest) ∙ ap (λ i. length nb + i) (length-take-le x rest enough) in
     rw (
       lists_next left (listing o nb (x ∷ rest)) (listing o' nb' (drop x rest)) (node_done o nb x rest t u),
       lists_next left (listing o nb (x ∷ take k rest)) (listing o' (nb ++ take x (take k rest)) (drop x (take k rest))) (node_done o nb x (take k rest) t (le-leb x (length (take k rest)) (omega arith))),
       take-take x k rest (omega arith),
-      drop_take x k rest,
+      d,
     )
     (lists_cut left o' nb' (drop x rest) (k - x) (omega arith)))
     (λ u. both_refused (lists_from (suc left) (listing o nb (x ∷ rest))) (lists_from (suc left) (listing o nb (x ∷ take k rest))) NeighbourOffsets

@@ -6,7 +6,7 @@ use native.Mathlib.Omega.{arith}
 use borrow.Author.Tests.{ltb-true, ltb-false}
 use lib.Dec.{ltb}
 use lib.ListN.{length, take, drop, length-append}
-use lib.Seq.{sets, set-append_seam, append_snoc, take-nil, take_all, take-length, set_out}
+use lib.Seq.{sets, set-append_seam, append_snoc, take-nil, take_all, take-length}
 use Rattle.definitions.specs.Refusal.{Outcome, refused, done, number_of}
 use Rattle.definitions.specs.declared.Refusal.{Refusal}
 use Rattle.definitions.specs.Groups.{grouping_call}
@@ -18,10 +18,7 @@ use Rattle.grouping_text.proofs.Agrees.{split}
 use Rattle.grouping_text.specs.Feeding.{fresh, Held, held, closed, fed, taken, said}
 use Rattle.grouping_text.proofs.Pieces.{said_program}
 use Rattle.grouping_text.specs.Puts.{Puts}
-
-sets_out : (l : List ℕ) (i : ℕ) (vs : List ℕ) → length l ≤ i → sets l i vs ≡ l
-sets_out l i [] h = refl
-sets_out l i (x ∷ vs) h = ap (λ k. sets k (suc i) vs) (set_out l i x h) ∙ sets_out l (suc i) vs (omega arith)
+use Rattle.grouping_text.proofs.printing.Bytes.{sets_out}
 
 sets_copied : (p l xs : List ℕ) → sets (p ++ l) (length p) xs ≡ p ++ (take (length l) xs ++ drop (length xs) l)
 sets_copied p l [] = ap (λ t. p ++ (t ++ l)) (sym (take-nil (length l)))

@@ -21,10 +21,9 @@ fn node_of<'a>(numbers: &'a [u32], neighbours: &mut [u32], have: usize) -> Resul
     if MAX_TEXT_NEIGHBOURS - have < count {
         return Err(Refusal::TooLarge);
     }
-    if rest.len() < count {
+    let Some((named, rest)) = rest.split_at_checked(count) else {
         return Err(Refusal::NeighbourOffsets);
-    }
-    let (named, rest) = rest.split_at(count);
+    };
     let end = have + count;
     neighbours[have..end].copy_from_slice(named);
     Ok(Got { count: end, rest })

@@ -3,6 +3,7 @@ ghost use Rattle.std.specs.Prelude.{[], ◌∷◌, ◌≤◌, length};
 ghost use Rattle.definitions.specs.Text.{decimal_in, decimal, line};
 ghost use Rattle.grouping_text.specs.Puts.{Puts, lines_from};
 
+// Kept as a list and a place: the library's `Write` says what a list holds only where the whole text fits, and `finish` says it of every list.
 fn put(out: &mut [u8], at: usize, b: u8) -> usize
     requires { at ≤ length out.old }
     ensures { Puts out.old at (b ∷ []) out.new result }

@@ -23,15 +23,10 @@ pub(crate) fn close(reader: Reader, numbers: &mut [u32]) -> Reader
     let room = numbers.len();
     if reader.count < room {
         numbers[reader.count] = value;
-        return Reader {
-            value: None,
-            count: reader.count + 1,
-            ..reader
-        };
     }
     Reader {
         value: None,
-        count: room,
+        count: reader.count.saturating_add(1).min(room),
         ..reader
     }
 }

@@ -1,73 +1,26 @@
 // Whether an answer is the recorded one.
-use crate::reading::{Base, Lines, Miss, agree};
+use crate::reading::{Base, Differs, Lines, agree};
 use definitions::Refusal;
-
-// A refusal's number.
-fn number_of(cause: Refusal) -> u64 {
-    match cause {
-        Refusal::TooLarge => 1,
-        Refusal::RowListLength => 2,
-        Refusal::ColumnListLength => 3,
-        Refusal::FirstPointer => 4,
-        Refusal::LastPointer => 5,
-        Refusal::PointerFalls => 6,
-        Refusal::ColumnOutside => 7,
-        Refusal::ValueNotFinite => 8,
-        Refusal::NotSquare => 9,
-        Refusal::BlockSize => 10,
-        Refusal::GroupSize => 11,
-        Refusal::NotMultiple => 12,
-        Refusal::ListTooShort => 13,
-        Refusal::BlockNotSymmetric(_) => 14,
-        Refusal::BlockPivot(_) => 15,
-        Refusal::NoNode => 16,
-        Refusal::CoarseTooLarge(_) => 17,
-        Refusal::CoarseListTooShort(_) => 18,
-        Refusal::MissingDiagonal(_) => 19,
-        Refusal::ZeroDiagonal(_) => 20,
-        Refusal::NegativeDiagonal(_) => 21,
-        Refusal::EstimateFailed(_) => 22,
-        Refusal::CoarseScale => 23,
-        Refusal::CoarsePivot(_) => 24,
-        Refusal::WrongLength { .. } => 25,
-        Refusal::SetupMisfit => 26,
-        Refusal::NeighbourOffsets => 27,
-        Refusal::NeighbourOutside => 28,
-        Refusal::LogTooShort => 29,
-    }
-}
 
 // Whether these are the values that the Rust tells with a refusal: it tells no row with 14, 15, 21 and 24, and does not know 1, 13, 17, 18 and
 // 26 to 29.
 fn told_with(cause: Refusal, values: &[u64]) -> bool {
-    match (cause, values) {
-        (
-            Refusal::MissingDiagonal(value)
-            | Refusal::ZeroDiagonal(value)
-            | Refusal::EstimateFailed(value),
-            [told],
-        ) => *told == value,
-        (Refusal::WrongLength { expected, actual }, [first, second]) => {
-            *first == expected && *second == actual
-        }
-        (
-            Refusal::MissingDiagonal(_)
-            | Refusal::ZeroDiagonal(_)
-            | Refusal::EstimateFailed(_)
-            | Refusal::WrongLength { .. },
-            _,
-        ) => false,
-        (_, values) => values.is_empty(),
+    match cause {
+        Refusal::MissingDiagonal(value)
+        | Refusal::ZeroDiagonal(value)
+        | Refusal::EstimateFailed(value) => values == [value].as_slice(),
+        Refusal::WrongLength { expected, actual } => values == [expected, actual].as_slice(),
+        _ => values.is_empty(),
     }
 }
 
 // The recorded answer, and the case with it, is this refusal.
-pub(crate) fn refused(mut lines: Lines<'_>, cause: Refusal) -> Result<(), Miss> {
+pub(crate) fn refused(mut lines: Lines<'_>, cause: Refusal) -> Result<(), Differs> {
     let recorded = lines.numbers(b"refused", Base::Decimal)?;
     let Some((number, values)) = recorded.as_slice().split_first() else {
-        return Err(Miss::Differs);
+        return Err(Differs);
     };
-    agree(*number == number_of(cause) && told_with(cause, values))?;
+    agree(*number == causes::number_of(cause) && told_with(cause, values))?;
     lines.end()
 }
 
@@ -89,9 +42,9 @@ impl Recorded for f64 {
 }
 
 // Our list is the recorded one, bit for bit, NaNs alike, with zeros behind.
-pub(crate) fn same<T: Recorded>(recorded: &[u64], ours: &[T]) -> Result<(), Miss> {
+pub(crate) fn same<T: Recorded>(recorded: &[u64], ours: &[T]) -> Result<(), Differs> {
     let Some((front, behind)) = ours.split_at_checked(recorded.len()) else {
-        return Err(Miss::Differs);
+        return Err(Differs);
     };
     for (expected, x) in recorded.iter().zip(front) {
         agree(x.recorded() == *expected)?;
@@ -114,7 +67,7 @@ pub(crate) fn floats_alike(
     word: &[u8],
     count: usize,
     ours: &[f64],
-) -> Result<(), Miss> {
+) -> Result<(), Differs> {
     let recorded = lines.numbers(word, Base::Hexadecimal)?;
     agree(recorded.len() == count)?;
     same(&recorded, ours)
@@ -126,12 +79,17 @@ pub(crate) fn result(
     word: &[u8],
     count: usize,
     ours: &[f64],
-) -> Result<(), Miss> {
+) -> Result<(), Differs> {
     floats_alike(&mut lines, word, count, ours)?;
     lines.end()
 }
 
 // The next line has this one number.
-pub(crate) fn one(lines: &mut Lines<'_>, word: &[u8], base: Base, ours: u64) -> Result<(), Miss> {
+pub(crate) fn one(
+    lines: &mut Lines<'_>,
+    word: &[u8],
+    base: Base,
+    ours: u64,
+) -> Result<(), Differs> {
     agree(lines.one(word, base)? == ours)
 }

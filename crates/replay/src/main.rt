@@ -10,8 +10,7 @@ mod two_level; // two_level.rt: setup and the two-level apply
 ghost use Rattle.std.specs.Prelude.{◌<◌, ◌≤◌, length, take, IfOk};
 ghost use Rattle.std.specs.Io.KnownBytes.{Consumes, IsAtEnd};
 
-use reading::{Lines, Matrix, Miss, split_line};
-use std::alloc::Global;
+use reading::{Differs, Lines, split_line};
 use std::io;
 use std::io::Read;
 
@@ -53,37 +52,28 @@ impl Kind {
         }
     }
 
-    // The kind of a case, by the first word of its name.
+    // The kind whose word begins the name, with a blank and at least one byte more behind it.
     fn of(name: &[u8]) -> Kind {
-        let end = name.iter().position(|&b| b == b' ').unwrap_or(0);
-        match &name[..end] {
-            b"root" => Kind::Root,
-            b"group" => Kind::Group,
-            b"validate" => Kind::Validate,
-            b"diagonal" => Kind::Diagonal,
-            b"blocks" => Kind::Blocks,
-            b"estimate" => Kind::Estimate,
-            b"two_level" => Kind::TwoLevel,
-            _ => Kind::Other,
+        for kind in KINDS {
+            if let Some([b' ', _, ..]) = name.strip_prefix(kind.word().as_bytes()) {
+                return kind;
+            }
         }
+        Kind::Other
     }
 }
 
 // A case, from its second line on, is answered as recorded.
-fn answered(kind: Kind, mut lines: Lines<'_>) -> Result<(), Miss> {
+fn answered(kind: Kind, lines: Lines<'_>) -> Result<(), Differs> {
     match kind {
-        Kind::Root => return alone::root(lines),
-        Kind::Group => return alone::group(lines),
-        _ => {}
-    }
-    let a = Matrix::read(&mut lines)?;
-    match kind {
-        Kind::Validate => alone::validate(lines, &a),
-        Kind::Diagonal => alone::diagonal(lines, &a),
-        Kind::Blocks => alone::blocks(lines, &a),
-        Kind::Estimate => alone::estimate(lines, &a),
-        Kind::TwoLevel => two_level::two_level(lines, &a),
-        Kind::Root | Kind::Group | Kind::Other => Err(Miss::Differs),
+        Kind::Root => alone::root(lines),
+        Kind::Group => alone::group(lines),
+        Kind::Validate => alone::validate(lines),
+        Kind::Diagonal => alone::diagonal(lines),
+        Kind::Blocks => alone::blocks(lines),
+        Kind::Estimate => alone::estimate(lines),
+        Kind::TwoLevel => two_level::two_level(lines),
+        Kind::Other => Err(Differs),
     }
 }
 
@@ -94,31 +84,26 @@ struct Tally {
 }
 
 // Counts and compares the cases of every kind, and names those that differ.
-fn replay(rt: &impl Print, alloc: Global, text: &[u8]) -> io::Result<()> {
+fn replay(rt: &impl Print, text: &[u8]) -> io::Result<()> {
     let mut tallies = [Tally {
         cases: 0,
         differences: 0,
     }; 8];
-    let mut rest = text;
-    // A case reads the text behind its first line, so the loop keeps what is left and has no list to walk.
-    while !rest.is_empty() {
-        let (line, behind) = split_line(rest);
-        rest = behind;
-        let Some(name) = line.strip_prefix(b"case ") else {
+    let mut left = text;
+    // A case reads on behind its first line, so the loop keeps what is left of the text in place of its lines.
+    while let Some((line, rest)) = split_line(left) {
+        left = rest;
+        // a text that ends right behind the word names no case
+        let Some(name @ [_, ..]) = line.strip_prefix(b"case ") else {
             continue;
         };
         let kind = Kind::of(name);
         let tally = &mut tallies[kind as usize];
         tally.cases = tally.cases.saturating_add(1);
-        let lines = Lines { alloc, rest };
-        match answered(kind, lines) {
-            Ok(()) => {}
-            Err(Miss::NoMemory) => return Err(io::ErrorKind::OutOfMemory.into()),
-            Err(Miss::Differs) => {
-                tally.differences = tally.differences.saturating_add(1);
-                rt.write_all(b"differs: ")?;
-                rt.write_all(name)?;
-            }
+        if answered(kind, Lines { rest }).is_err() {
+            tally.differences = tally.differences.saturating_add(1);
+            rt.write_all(b"differs: ")?;
+            rt.write_all(name)?;
         }
     }
     for kind in KINDS {
@@ -140,7 +125,7 @@ fn read_full<R: Read>(input: &mut R, text: &mut [u8]) -> io::Result<usize>
     ensures end { IfOk result (λ n. n < length text.old → IsAtEnd (R.remaining input.new)) }
 {
     let mut done: usize = 0;
-    // A read gives as many bytes as it likes, so no range counts the turns.
+    // A read gives as many bytes as it likes, and none is asked for once the list is full: no range and no list tells the turns.
     while done < text.len() {
         let n = input.read(&mut text[done..])?;
         if n == 0 {
@@ -157,5 +142,5 @@ fn main(rt: HostRuntime) -> io::Result<()> {
     if 65536 <= n {
         return println!(rt; "the text is too long");
     }
-    replay(&rt, rt.alloc(), &text[..n])
+    replay(&rt, &text[..n])
 }

@@ -1,21 +1,22 @@
 // Reading the recorded text. A line is a word, then numbers with a blank before each.
-ghost use Rattle.std.specs.Prelude.{◌<◌, length};
+ghost use Rattle.std.specs.Prelude.{◌<◌, length, IfSome};
 
+use arrayvec::{ArrayVec, CapacityError};
 use csr32::Csr;
-use std::alloc::{AllocError, Global};
 
-// Why a case is not answered as recorded. A text that is not what a case asks for differs too.
-#[derive(Clone, Copy, PartialEq, Eq)]
-pub enum Miss {
-    Differs,
-    NoMemory,
-}
+// A case is not answered as recorded. A text that is not what a case asks for differs too.
+#[derive(Clone, Copy)]
+pub struct Differs;
 
-impl From<AllocError> for Miss {
-    fn from(_: AllocError) -> Miss {
-        Miss::NoMemory
+// A line has more numbers than its list holds.
+impl<T: Drop> From<CapacityError<T>> for Differs {
+    fn from(_: CapacityError<T>) -> Differs {
+        Differs
     }
 }
+
+// What a line holds. The lists stand on the stack, since the program allocates nothing.
+pub type Numbers<T> = ArrayVec<T, 512>;
 
 // Numbers are decimal, and the patterns of floats hexadecimal, in capitals.
 #[derive(Clone, Copy)]
@@ -34,15 +35,19 @@ impl Base {
 }
 
 // The first line, with the line feed that ends it, and what stands behind it.
-pub(crate) fn split_line(text: &[u8]) -> (&[u8], &[u8])
-    ensures { 0 < length text.now → length result.1.now < length text.now }
+pub(crate) fn split_line(text: &[u8]) -> Option<(&[u8], &[u8])>
+    ensures { IfSome result (λ parts. length parts.1.now < length text.now) }
 {
+    if text.is_empty() {
+        return None;
+    }
     match text.iter().position(|&b| b == b'\n') {
-        Some(end) => text.split_at(end + 1),
-        None => (text, &[]),
+        Some(end) => Some(text.split_at(end + 1)),
+        None => Some((text, &[])),
     }
 }
 
+// Capitals alone: the library's `to_digit` takes small letters too.
 fn digit(b: u8) -> Option<u64> {
     match b {
         b'0'..=b'9' => Some(u64::from(b - b'0')),
@@ -51,7 +56,7 @@ fn digit(b: u8) -> Option<u64> {
     }
 }
 
-// The number that these digits write. A value from 2^60 on takes no more of them.
+// The number that these digits write. A value from 2^60 on takes no more of them, which the library's `from_str_radix` would.
 fn number(digits: &[u8], base: Base) -> Option<u64> {
     let radix = base.radix();
     if digits.is_empty() {
@@ -68,89 +73,65 @@ fn number(digits: &[u8], base: Base) -> Option<u64> {
     Some(value)
 }
 
-// The numbers of a line behind its word, 512 at most.
-fn fields(
-    alloc: Global,
-    line: &[u8],
-    word: &[u8],
-    base: Base,
-) -> Result<Option<Vec<u64>>, AllocError> {
-    let mut list = Vec::new(alloc);
-    for (i, field) in line.split(|&b| b == b' ').enumerate() {
-        if i == 0 {
-            if *field != *word {
-                return Ok(None);
-            }
-            continue;
-        }
-        let Some(n) = number(field, base) else {
-            return Ok(None);
-        };
-        if list.len() >= 512 {
-            return Ok(None);
-        }
-        list.push(n)?;
-    }
-    Ok(Some(list))
-}
-
 // The lines of a case that are left.
 #[derive(Clone, Copy)]
 pub struct Lines<'a> {
-    pub alloc: Global,
     pub rest: &'a [u8],
 }
 
 impl<'a> Lines<'a> {
     // The next line.
-    pub(crate) fn line(&mut self) -> Result<&'a [u8], Miss> {
-        let (line, rest) = split_line(self.rest);
+    pub(crate) fn line(&mut self) -> Result<&'a [u8], Differs> {
+        let (line, rest) = split_line(self.rest).ok_or(Differs)?;
         self.rest = rest;
-        line.strip_suffix(b"\n").ok_or(Miss::Differs)
+        line.strip_suffix(b"\n").ok_or(Differs)
     }
 
     // The numbers of the next line, which begins with this word.
-    pub(crate) fn numbers(&mut self, word: &[u8], base: Base) -> Result<Vec<u64>, Miss> {
-        let line = self.line()?;
-        fields(self.alloc, line, word, base)?.ok_or(Miss::Differs)
+    pub(crate) fn numbers(&mut self, word: &[u8], base: Base) -> Result<Numbers<u64>, Differs> {
+        let mut fields = self.line()?.split(|&b| b == b' ');
+        agree(fields.next() == Some(word))?;
+        let mut list = ArrayVec::new();
+        for field in fields {
+            list.try_push(number(field, base).ok_or(Differs)?)?;
+        }
+        Ok(list)
     }
 
     // The one number of the next line.
-    pub(crate) fn one(&mut self, word: &[u8], base: Base) -> Result<u64, Miss> {
+    pub(crate) fn one(&mut self, word: &[u8], base: Base) -> Result<u64, Differs> {
         match self.numbers(word, base)?.as_slice() {
             [n] => Ok(*n),
-            _ => Err(Miss::Differs),
+            _ => Err(Differs),
         }
     }
 
     // The next line's numbers as indices.
-    pub(crate) fn ints(&mut self, word: &[u8]) -> Result<Vec<u32>, Miss> {
-        let mut list = Vec::new(self.alloc);
+    pub(crate) fn ints(&mut self, word: &[u8]) -> Result<Numbers<u32>, Differs> {
+        let mut list = ArrayVec::new();
         for n in &self.numbers(word, Base::Decimal)? {
-            list.push(u32::try_from(*n).map_err(|_| Miss::Differs)?)
-                .map_err(|_| Miss::NoMemory)?;
+            list.try_push(u32::try_from(*n).map_err(|_| Differs)?)?;
         }
         Ok(list)
     }
 
     // The next line's numbers as floats, by their patterns.
-    pub(crate) fn floats(&mut self, word: &[u8]) -> Result<Vec<f64>, Miss> {
-        let read = self.numbers(word, Base::Hexadecimal)?;
-        Ok(
-            read.iter()
-                .map(|&n| float_bits::of_bits(n))
-                .collect(self.alloc)?,
-        )
+    pub(crate) fn floats(&mut self, word: &[u8]) -> Result<Numbers<f64>, Differs> {
+        let mut list = ArrayVec::new();
+        for n in &self.numbers(word, Base::Hexadecimal)? {
+            list.try_push(float_bits::of_bits(*n))?;
+        }
+        Ok(list)
     }
 
     // The case ends here.
-    pub(crate) fn end(&mut self) -> Result<(), Miss> {
+    pub(crate) fn end(&mut self) -> Result<(), Differs> {
         agree(self.line()? == b"end".as_slice())
     }
 }
 
-pub(crate) fn agree(alike: bool) -> Result<(), Miss> {
-    if alike { Ok(()) } else { Err(Miss::Differs) }
+pub(crate) fn agree(alike: bool) -> Result<(), Differs> {
+    if alike { Ok(()) } else { Err(Differs) }
 }
 
 // What the lists of a matrix are.
@@ -158,9 +139,9 @@ pub(crate) fn agree(alike: bool) -> Result<(), Miss> {
 pub struct Matrix {
     pub rows: usize,
     pub cols: usize,
-    pub row_ptr: Vec<u32>,
-    pub col_idx: Vec<u32>,
-    pub values: Vec<f64>,
+    pub row_ptr: Numbers<u32>,
+    pub col_idx: Numbers<u32>,
+    pub values: Numbers<f64>,
 }
 
 impl Matrix {
@@ -174,10 +155,10 @@ impl Matrix {
         }
     }
 
-    pub(crate) fn read(lines: &mut Lines<'_>) -> Result<Matrix, Miss> {
+    pub(crate) fn read(lines: &mut Lines<'_>) -> Result<Matrix, Differs> {
         let sizes = lines.numbers(b"matrix", Base::Decimal)?;
         let [rows, cols] = sizes.as_slice() else {
-            return Err(Miss::Differs);
+            return Err(Differs);
         };
         Ok(Matrix {
             rows: *rows as usize,

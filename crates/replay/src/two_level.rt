@@ -1,33 +1,33 @@
 // Setup and the two-level apply: whether they answer a case as recorded.
 use crate::agreement::{filled, floats_alike, one, refused, same};
 use crate::lists;
-use crate::reading::{Base, Lines, Matrix, Miss, agree};
+use crate::reading::{Base, Differs, Lines, Matrix, Numbers, agree};
 use definitions::{Options, Setup, TwoLevelAggregation, TwoLevelBasis, TwoLevelCoarseApplyPolicy};
 
 // A table for each policy: the enums share no variant, so that one function for all would hold the same three tables.
-fn aggregation_of(n: u64) -> Result<TwoLevelAggregation, Miss> {
+fn aggregation_of(n: u64) -> Result<TwoLevelAggregation, Differs> {
     match n {
         0 => Ok(TwoLevelAggregation::Contiguous),
         1 => Ok(TwoLevelAggregation::Graph),
         2 => Ok(TwoLevelAggregation::StrongGraph),
-        _ => Err(Miss::Differs),
+        _ => Err(Differs),
     }
 }
 
-fn basis_of(n: u64) -> Result<TwoLevelBasis, Miss> {
+fn basis_of(n: u64) -> Result<TwoLevelBasis, Differs> {
     match n {
         0 => Ok(TwoLevelBasis::PiecewiseConstant),
         1 => Ok(TwoLevelBasis::JacobiSmoothed),
-        _ => Err(Miss::Differs),
+        _ => Err(Differs),
     }
 }
 
-fn policy_of(n: u64) -> Result<TwoLevelCoarseApplyPolicy, Miss> {
+fn policy_of(n: u64) -> Result<TwoLevelCoarseApplyPolicy, Differs> {
     match n {
         0 => Ok(TwoLevelCoarseApplyPolicy::Auto),
         1 => Ok(TwoLevelCoarseApplyPolicy::FactorSolve),
         2 => Ok(TwoLevelCoarseApplyPolicy::ExplicitInverse),
-        _ => Err(Miss::Differs),
+        _ => Err(Differs),
     }
 }
 
@@ -40,29 +40,36 @@ fn pointers(s: Setup) -> u64 {
 }
 
 // Ids, transfer pointers and columns are ours.
-fn ints_alike(lines: &mut Lines<'_>, s: Setup, ours: &[u32]) -> Result<(), Miss> {
+fn ints_alike(lines: &mut Lines<'_>, s: Setup, ours: &[u32]) -> Result<(), Differs> {
     let mut recorded = lines.numbers(b"ids", Base::Decimal)?;
     let ptr = lines.numbers(b"transfer_ptr", Base::Decimal)?;
     let idx = lines.numbers(b"transfer_idx", Base::Decimal)?;
     agree(recorded.len() as u64 == s.nodes)?;
     agree(ptr.len() as u64 == pointers(s))?;
     agree(idx.len() as u64 == s.transfers)?;
-    recorded.extend_from_slice(&ptr)?;
-    recorded.extend_from_slice(&idx)?;
+    recorded.try_extend_from_slice(&ptr)?;
+    recorded.try_extend_from_slice(&idx)?;
     same(&recorded, ours)
 }
 
 // Factors, transfer weights and the coarse part are ours.
-fn floats_all_alike(lines: &mut Lines<'_>, ours: &[f64]) -> Result<(), Miss> {
+fn floats_all_alike(lines: &mut Lines<'_>, ours: &[f64]) -> Result<(), Differs> {
     let mut recorded = lines.numbers(b"factors", Base::Hexadecimal)?;
-    recorded.extend_from_slice(&lines.numbers(b"weights", Base::Hexadecimal)?)?;
-    recorded.extend_from_slice(&lines.numbers(b"coarse_part", Base::Hexadecimal)?)?;
+    for word in [b"weights".as_slice(), b"coarse_part"] {
+        let more = lines.numbers(word, Base::Hexadecimal)?;
+        recorded.try_extend_from_slice(&more)?;
+    }
     agree(recorded.len() == filled(ours))?;
     same(&recorded, ours)
 }
 
 // The record and its lists are ours.
-fn setup_alike(lines: &mut Lines<'_>, s: Setup, ints: &[u32], floats: &[f64]) -> Result<(), Miss> {
+fn setup_alike(
+    lines: &mut Lines<'_>,
+    s: Setup,
+    ints: &[u32],
+    floats: &[f64],
+) -> Result<(), Differs> {
     one(lines, b"groups", Base::Decimal, s.groups)?;
     one(lines, b"coarse", Base::Decimal, s.coarse)?;
     ints_alike(lines, s, ints)?;
@@ -81,22 +88,21 @@ fn corrected(
     s: Setup,
     ints: &[u32],
     floats: &[f64],
-    residual: &[f64],
-) -> Result<(), Miss> {
+    residual: &Numbers<f64>,
+) -> Result<(), Differs> {
     let n = residual.len();
-    let mut z = vec![in lines.alloc; 1.5; n]?;
-    let mut work = lists::floats(lines.alloc)?;
-    let answer = two_level_apply::apply(s, ints, floats, residual, &mut z, &mut work);
-    match answer {
-        Err(_) => Err(Miss::Differs),
-        Ok(()) => floats_alike(lines, b"corrected", n, &z),
-    }
+    let mut z = lists::FLOATS;
+    let z = &mut z[..n];
+    let mut work = lists::FLOATS;
+    two_level_apply::apply(s, ints, floats, residual, z, &mut work).map_err(|_| Differs)?;
+    floats_alike(lines, b"corrected", n, z)
 }
 
-pub(crate) fn two_level(mut lines: Lines<'_>, a: &Matrix) -> Result<(), Miss> {
+pub(crate) fn two_level(mut lines: Lines<'_>) -> Result<(), Differs> {
+    let a = Matrix::read(&mut lines)?;
     let read = lines.numbers(b"options", Base::Decimal)?;
     let [block, group, aggregation, basis, policy] = read.as_slice() else {
-        return Err(Miss::Differs);
+        return Err(Differs);
     };
     let options = Options {
         block: *block,
@@ -116,10 +122,10 @@ pub(crate) fn two_level(mut lines: Lines<'_>, a: &Matrix) -> Result<(), Miss> {
     for _ in 0..count {
         lines.line()?;
     }
-    let mut ints = lists::ints(lines.alloc)?;
-    let mut floats = lists::floats(lines.alloc)?;
-    let mut work_ints = lists::work_ints(lines.alloc)?;
-    let mut work_floats = lists::work_floats(lines.alloc)?;
+    let mut ints = lists::INTS;
+    let mut floats = lists::FLOATS;
+    let mut work_ints = lists::WORK_INTS;
+    let mut work_floats = lists::WORK_FLOATS;
     let answer = two_level_setup::setup(
         &a.csr(),
         options,

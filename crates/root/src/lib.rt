@@ -34,6 +34,7 @@ fn root_bits(table: &StartTable, b: u64) -> u64
 
 // The table that the search starts from: for k from 64 to 255 the largest t with t * t <= 65,536 k. The toolchain builds a constant array anew wherever it
 // is named, so a caller of many roots builds it once.
+#[tactic(auto, unfolding(crate::specs::Starts::whole_roots, definitions::specs::Root::isqrt))]
 pub fn table() -> StartTable
     ensures { result ≡ whole_roots 192 64 }
 {

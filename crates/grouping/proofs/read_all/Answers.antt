@@ -1,5 +1,5 @@
 -- What one more read gave goes behind what was read before.
-use Rattle.std.proofs.Common.{◌≡◌, [], ◌++◌, take, ap, sym, ◌∙◌}
+use Rattle.std.proofs.Common.{[], ◌++◌, take, ap, sym, ◌∙◌}
 use Rattle.std.proofs.KnownBytes.{Consumes-nil, Consumes-trans}
 use Rattle.grouping_text.specs.Feeding.{fresh, held, fed}
 use Rattle.grouping_text.proofs.Pieces.{fed_append}
@@ -8,19 +8,6 @@ use Rattle.grouping.proofs.read_all.Goals as goal
 pub loop-init : goal.loop-init
 unfolding fed
 loop-init g c = ([], Consumes-nil _, ap (λ r. held r c.args.numbers.now) c.start-reader.ensures)
-
-pub returns-then-n-eq0 : goal.returns-then-n-eq0
-unfolding fed
-returns-then-n-eq0 g c =
-    let i = c.loop.invariant in
-    let last = held c.loop.reader c.loop.numbers in
-    let piece = take c.in_ok-n.n c.read.new.buf in
-    let none : piece ≡ [] = ap (λ k. take k c.read.new.buf) c.if-n-eq0.true in
-    let same : fed piece last ≡ last = ap (λ p. fed p last) none in (
-      i.0 ++ piece,
-      Consumes-trans _ _ _ i.0 piece i.1 c.in_ok-n.ensures.bytes.0,
-      sym same ∙ ap (fed piece) i.2 ∙ sym (fed_append i.0 piece (held fresh c.args.numbers.now)),
-    )
 
 pub loop-preserved : goal.loop-preserved
 loop-preserved g c =

@@ -11,7 +11,7 @@ use Rattle.definitions.specs.Groups.{Grouping, grouping_call, grouping_left}
 use Rattle.definitions.specs.Answers.{grouping_answer}
 use Rattle.definitions.specs.Text.{line, decimal, printed, groups_word, refused_word}
 use Rattle.definitions.specs.declared.Refusal.{Refusal}
-use Rattle.grouping_text.specs.Puts.{Puts, lines_from}
+use Rattle.grouping_text.specs.Puts.{lines_from}
 use Rattle.grouping_text.proofs.Lengths.{call_length, printed_groups}
 
 apart : (r : Refusal) (k : ℕ) → Err r ≡ Ok k → ⊥
@@ -39,6 +39,3 @@ module _ (n s : ℕ) (offsets nb : List ℕ) (work : ℕ) (a : (Result ℕ Refus
 
   pub printed_done : a ≡ grouping_answer (grouping_call n s offsets nb n work) → a ≡ Ok k → ids ≡ grouping_left (grouping_call n s offsets nb n work) ids₀ → line groups_word (decimal k) ++ lines_from 0 ids ≡ printed (grouping_call n s offsets nb n work)
   printed_done e f l = done_printed (grouping_call n s offsets nb n work) refl e f l
-
-pub puts_as : (l : List ℕ) (at : ℕ) (xs ys l₁ : List ℕ) (r : ℕ) → xs ≡ ys → Puts l at xs l₁ r → Puts l at ys l₁ r
-puts_as l at xs ys l₁ r e p = rw (sym e) p

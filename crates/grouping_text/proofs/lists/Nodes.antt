@@ -35,10 +35,6 @@ module _ (nb : List ℕ) (have : ℕ) (few : have ≤ 2048) (room : 2048 ≤ len
     pub got_lists : x ≤ length rest → node_from o (take have nb) (x ∷ rest) ≡ done (listing (o ++ ((have + x) ∷ [])) (take have nb ++ take x rest) (drop x rest))
     got_lists q = node_done o (take have nb) x rest (le-leb (length (take have nb) + x) 2048 fits) (le-leb x (length rest) q) ∙ rw front refl
 
-first_one : (w : List ℕ) (x : ℕ) → 0 < length w → take 1 (set w 0 x) ≡ x ∷ []
-first_one [] x h = absurd (omega arith)
-first_one (y ∷ w) x h = refl
-
 -- all nodes: what is left asks what the whole asks
 abbrev pub Goes : List ℕ → ℕ → List ℕ → List ℕ → List ℕ → ℕ → ℕ → Type 0
 Goes ns nodes offsets nb rest i have = lists_from (nodes - i) (listing (take (i + 1) offsets) (take have nb) rest) ≡ lists_from nodes (start ns)
@@ -46,7 +42,7 @@ Goes ns nodes offsets nb rest i have = lists_from (nodes - i) (listing (take (i 
 pub goes_first : (ns : List ℕ) (nodes : ℕ) (offsets nb : List ℕ) → 0 < length offsets → Goes ns nodes (set offsets 0 0) nb ns 0 0
 goes_first ns nodes offsets nb h =
     let e : nodes - 0 ≡ nodes = omega arith in
-    rw e (ap (λ l. lists_from nodes (listing l [] ns)) (first_one offsets 0 h))
+    rw e (ap (λ l. lists_from nodes (listing l [] ns)) (take-suc-set offsets 0 0 h))
 
 pub goes_last : (ns : List ℕ) (nodes : ℕ) (offsets nb rest : List ℕ) (have : ℕ) → Goes ns nodes offsets nb rest nodes have → done (listing (take (nodes + 1) offsets) (take have nb) rest) ≡ lists_from nodes (start ns)
 goes_last ns nodes offsets nb rest have g =

@@ -1,22 +1,17 @@
 -- Bytes put one after another.
 use mathlib.Core.Path.{◌≡◌, refl, ap, sym, ◌∙◌}
-use mathlib.Core.Bool.{Bool, true, false}
+use mathlib.Core.Logic.{inl, inr}
 use mathlib.Core.List.{List, [], ◌∷◌, ◌++◌, append-nil, append_assoc}
 use Prim.Native.Nat.{ℕ, suc, ◌+◌, ◌/◌, ◌%◌, ◌≤◌, ◌<◌}
 use native.Mathlib.Numerals.{add-one}
 use native.Mathlib.Omega.{arith}
-use borrow.Author.Tests.{leb-true, leb-false}
-use lib.Dec.{leb}
 use lib.ListN.{length, get_or, set, take, length-append}
 use lib.Seq.{sets, length-sets, set_out, take-suc, length-take-le}
+use Rattle.std.proofs.lemmas.Bool.{cases_lt}
 use Rattle.definitions.specs.Text.{decimal_in, decimal, line}
 use Rattle.grouping_text.specs.Puts.{Puts, lines_from}
 
-split {ℓ} : {X : Type ℓ} (b : Bool) → (b ≡ true → X) → (b ≡ false → X) → X
-split true t f = t refl
-split false t f = f refl
-
-sets_out : (l : List ℕ) (i : ℕ) (vs : List ℕ) → length l ≤ i → sets l i vs ≡ l
+pub sets_out : (l : List ℕ) (i : ℕ) (vs : List ℕ) → length l ≤ i → sets l i vs ≡ l
 sets_out l i [] h = refl
 sets_out l i (x ∷ vs) h = ap (λ k. sets k (suc i) vs) (set_out l i x h) ∙ sets_out l (suc i) vs (omega arith)
 
@@ -36,14 +31,14 @@ module _ (l : List ℕ) (at : ℕ) (xs l₁ : List ℕ) (r₁ : ℕ) (p : Puts l
 
   pub puts_then : (ys l₂ : List ℕ) (r₂ : ℕ) → Puts l₁ r₁ ys l₂ r₂ → Puts l at (xs ++ ys) l₂ r₂
   puts_then ys l₂ r₂ q = record {
-    list = split (leb (at + length xs) (length l))
-        (λ e.
-        let r : r₁ ≡ at + length xs = omega (arith, p.end, leb-true (at + length xs) (length l) e) in
-        q.list ∙ ap (λ k. sets l₁ k ys) r ∙ ap (λ k. sets k (at + length xs) ys) p.list ∙ sym (sets_append l at xs ys))
-        (λ e.
-        let r : length l₁ ≤ r₁ = omega (arith, p.end, puts_length, leb-false (at + length xs) (length l) e) in
-        q.list ∙ sets_out l₁ r₁ ys r ∙ p.list
-        ∙ sym (sets_append l at xs ys ∙ sets_out (sets l at xs) (at + length xs) ys (omega (arith, length-sets l at xs, leb-false (at + length xs) (length l) e))));
+    list = elim (cases_lt (length l) (at + length xs)) [
+      | inr e ↦
+          let r : r₁ ≡ at + length xs = omega (arith, p.end, e) in
+          q.list ∙ ap (λ k. sets l₁ k ys) r ∙ ap (λ k. sets k (at + length xs) ys) p.list ∙ sym (sets_append l at xs ys)
+      | inl e ↦
+          let r : length l₁ ≤ r₁ = omega (arith, p.end, puts_length, e) in
+          q.list ∙ sets_out l₁ r₁ ys r ∙ p.list ∙ sym (sets_append l at xs ys ∙ sets_out (sets l at xs) (at + length xs) ys (omega (arith, length-sets l at xs, e)))
+    ];
     end = omega (arith, p.end, q.end, puts_length, length-append xs ys);
   }
 

@@ -1,21 +1,17 @@
 -- What the numbers ask, step by step.
 use mathlib.Core.Path.{◌≡◌, refl, ap, sym, ◌∙◌}
-use mathlib.Core.Bool.{Bool, true, false, ◌&&◌}
+use mathlib.Core.Bool.{Bool, true, false, ◌&&◌, and-false}
 use mathlib.Core.List.{List, [], ◌∷◌}
 use Prim.Native.Nat.{ℕ, ◌≤◌, ◌<◌}
-use native.Mathlib.Omega.{arith}
 use borrow.Author.Tests.{le-leb, lt-leb}
 use lib.ListN.{length}
+use Rattle.std.proofs.lemmas.List.{nil_from_length}
 use Rattle.definitions.specs.Refusal.{refused, done}
 use Rattle.definitions.specs.Text.{Listing, is_none}
 use Rattle.definitions.specs.declared.Refusal.{Refusal}
 use Rattle.definitions.specs.declared.Refusal.TheVariants.{TooLarge, NeighbourOffsets}
 use Rattle.grouping_text.specs.Numbers.{lists_from, asked_in}
 use Rattle.grouping_text.proofs.Agrees.{start, a_1, a_2, a_3, a_4, a_5, a_6}
-
-none : (l : List ℕ) → length l ≡ 0 → l ≡ []
-none [] h = refl
-none (x ∷ l) h = absurd (omega arith)
 
 some : (l : List ℕ) → (length l ≡ 0 → ⊥) → is_none l ≡ false
 unfolding is_none
@@ -24,16 +20,11 @@ some (x ∷ l) h = refl
 
 empty : (l : List ℕ) → length l ≡ 0 → is_none l ≡ true
 unfolding is_none
-empty [] h = refl
-empty (x ∷ l) h = absurd (omega arith)
-
-not_both : (a : Bool) → (a && false) ≡ false
-not_both true = refl
-not_both false = refl
+empty l h = ap is_none (nil_from_length l h)
 
 module _ (ns : List ℕ) (w : Bool) where
   pub asks_1 : length ns ≡ 0 → refused NeighbourOffsets ≡ asked_in ns w
-  asks_1 h = sym (ap (λ l. asked_in l w) (none ns h) ∙ a_1 w)
+  asks_1 h = sym (ap (λ l. asked_in l w) (nil_from_length ns h) ∙ a_1 w)
 
   module _ (n : ℕ) (rest : List ℕ) (one : ns ≡ n ∷ rest) where
     pub asks_2 : 256 < n → refused TooLarge ≡ asked_in ns w
@@ -41,7 +32,7 @@ module _ (ns : List ℕ) (w : Bool) where
 
     module _ (small : n ≤ 256) where
       pub asks_3 : length rest ≡ 0 → refused NeighbourOffsets ≡ asked_in ns w
-      asks_3 h = sym (ap (λ l. asked_in l w) (one ∙ ap (λ l. n ∷ l) (none rest h)) ∙ a_3 w n (le-leb n 256 small))
+      asks_3 h = sym (ap (λ l. asked_in l w) (one ∙ ap (λ l. n ∷ l) (nil_from_length rest h)) ∙ a_3 w n (le-leb n 256 small))
 
       module _ (s : ℕ) (lists : List ℕ) (two : rest ≡ s ∷ lists) where
         both : ns ≡ n ∷ s ∷ lists
@@ -58,7 +49,7 @@ module _ (ns : List ℕ) (w : Bool) where
           asks_5 l = refuses (ap (λ k. k && w) (some h.rest l))
 
           pub asks_6 : w ≡ false → refused NeighbourOffsets ≡ asked_in ns w
-          asks_6 z = refuses (ap (λ k. is_none h.rest && k) z ∙ not_both (is_none h.rest))
+          asks_6 z = refuses (ap (λ k. is_none h.rest && k) z ∙ and-false (is_none h.rest))
 
           pub asks_7 : length h.rest ≡ 0 → w ≡ true → done (record { nodes = n; size = s; offsets = h.offsets; neighbours = h.neighbours }) ≡ asked_in ns w
           asks_7 l z = sym (ap (λ k. asked_in k w) both ∙ a_6 w n (le-leb n 256 small) s lists h (sym e) (ap (λ k. k && w) (empty h.rest l) ∙ z))
