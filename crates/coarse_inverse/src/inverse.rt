@@ -24,12 +24,11 @@ fn copy_lane(w: &[[f64; 16]], r: usize, row: &mut [f64])
 }
 
 // Whether all numbers are finite and the diagonal is above zero.
-#[tactic(auto, using(numbers::proofs::Finite::same_finite))]
 fn is_regular(factor: &Packed<'_>) -> bool
     ensures { result ≡ true → Regular factor.now.n factor.now.l.now }
 {
     for x in factor.l {
-        if !x.is_finite() {
+        if !numbers::finite(*x) {
             return false;
         }
     }

@@ -26,7 +26,7 @@ fn value_not_finite(values: &[f64]) -> bool
 {
     let mut found = false;
     for x in values {
-        if !x.is_finite() {
+        if !numbers::finite(*x) {
             found = true;
         }
     }

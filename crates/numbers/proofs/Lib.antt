@@ -1,3 +1,3 @@
-pub mod Finite
+pub mod Infinities
 pub mod Over
 pub mod Passing

@@ -4,18 +4,17 @@ use mathlib.Core.Bool.{not}
 use native.Mathlib.Omega.{arith}
 use lib.Ieee.{nan}
 use lib.Ieee.Scale.{finite}
-use Rattle.numbers.proofs.Finite.{same_finite}
 use Rattle.numbers.proofs.Passing.{scan_hit, scan_miss, scan_end}
 use Rattle.csr32.proofs.matrix.value_not_finite.Goals as goal
-use Rattle.csr32.proofs.matrix.value_not_finite.Goals.{then-not-is_finite, else-not-is_finite}
+use Rattle.csr32.proofs.matrix.value_not_finite.Goals.{then-not-finite, else-not-finite}
 
 pub loop-x-preserved : goal.loop-x-preserved
 loop-x-preserved c =
     let a = c.args in
     let l = c.loop-x in
-    elim c.if-not-is_finite.branch [
-      | then-not-is_finite w ↦ scan_hit (λ v. not (finite v)) a.values.now l.x-index l.found l.invariant nan (omega arith) c.if-not-is_finite.found w.found-is (ap not (sym (c.is_finite.ensures.value ∙ same_finite _) ∙ w.if-not-is_finite.true))
-      | else-not-is_finite w ↦ scan_miss (λ v. not (finite v)) a.values.now l.x-index l.found l.invariant nan (omega arith) c.if-not-is_finite.found w.found-is (ap not (sym (c.is_finite.ensures.value ∙ same_finite _) ∙ w.if-not-is_finite.false))
+    elim c.if-not-finite.branch [
+      | then-not-finite w ↦ scan_hit (λ v. not (finite v)) a.values.now l.x-index l.found l.invariant nan (omega arith) c.if-not-finite.found w.found-is (ap not (sym c.finite.ensures ∙ w.if-not-finite.true))
+      | else-not-finite w ↦ scan_miss (λ v. not (finite v)) a.values.now l.x-index l.found l.invariant nan (omega arith) c.if-not-finite.found w.found-is (ap not (sym c.finite.ensures ∙ w.if-not-finite.false))
     ]
 
 pub returns : goal.returns
