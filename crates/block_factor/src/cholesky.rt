@@ -60,14 +60,14 @@ fn factor_rows(
 }
 
 // The factor of a block, or 14 with its first row, or 15 with the row of the pivot.
-pub(crate) fn factor(b: &Block, first: usize, table: &root::StartTable) -> Result<Block, Refusal>
+pub(crate) fn factor(b: Block, first: usize, table: &root::StartTable) -> Result<Block, Refusal>
     requires { first < 2 ^ 32 }
-    ensures { let factor = factor_of first b.now.size (dense b.now.size b.now.a) in
+    ensures { let factor = factor_of first b.size (dense b.size b.a) in
         MatchResult result (λ l. factor ≡ done l.a) (λ cause. factor ≡ refused cause) }
 {
-    let scale = top(b);
-    if skewed(b, 1e-11 * scale) {
+    let scale = top(&b);
+    if skewed(&b, 1e-11 * scale) {
         return Err(Refusal::BlockNotSymmetric(first as u64));
     }
-    factor_rows(b, first, 1e-14 * scale, table)
+    factor_rows(&b, first, 1e-14 * scale, table)
 }

@@ -31,7 +31,7 @@ impl BlockJacobi<'_> {
         ensures value { result ≡ answer_of (block_factor (square self.now.a) first w) }
         ensures place_after { place.new ≡ held (block_factor (square self.now.a) first w) place.old }
     {
-        let block = factor(&gather(&self.a, first, w), first, &self.table)?;
+        let block = factor(gather(&self.a, first, w), first, &self.table)?;
         numbers::copy_front(&block.a, place);
         Ok(())
     }
@@ -43,8 +43,8 @@ impl BlockJacobi<'_> {
     {
         let second = first + self.size;
         let (one, two) = factor_pair(
-            &gather(&self.a, first, self.size),
-            &gather(&self.a, second, self.size),
+            gather(&self.a, first, self.size),
+            gather(&self.a, second, self.size),
             &self.table,
         )?;
         let n = self.size * self.size;

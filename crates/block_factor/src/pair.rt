@@ -40,17 +40,17 @@ fn pair_rows(
 }
 
 // The factors of two blocks of one width, if both have one; otherwise each is to be tried alone.
-pub(crate) fn factor_pair(b: &Block, c: &Block, table: &root::StartTable) -> Option<(Block, Block)>
-    requires { c.now.size ≡ b.now.size }
-    ensures { IfSome result (λ both. FactorOf b.now.size (dense b.now.size b.now.a) both.0.a × FactorOf c.now.size (dense c.now.size c.now.a) both.1.a) }
+pub(crate) fn factor_pair(b: Block, c: Block, table: &root::StartTable) -> Option<(Block, Block)>
+    requires { c.size ≡ b.size }
+    ensures { IfSome result (λ both. FactorOf b.size (dense b.size b.a) both.0.a × FactorOf c.size (dense c.size c.a) both.1.a) }
 {
-    let s = top(b);
-    let t = top(c);
-    if skewed(b, 1e-11 * s) {
+    let s = top(&b);
+    let t = top(&c);
+    if skewed(&b, 1e-11 * s) {
         return None;
     }
-    if skewed(c, 1e-11 * t) {
+    if skewed(&c, 1e-11 * t) {
         return None;
     }
-    pair_rows(b, c, 1e-14 * s, 1e-14 * t, table)
+    pair_rows(&b, &c, 1e-14 * s, 1e-14 * t, table)
 }

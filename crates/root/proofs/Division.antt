@@ -22,6 +22,8 @@ cand a s = s * 67108864 % 18446744073709551616 + quo a s
 -- what is known of them: N is a * 2 ^ 52
 pub record Parts (N s q u c : ℕ) : Type 0 where
   pub low : 2 ^ 26 ≤ s
+  pub high : s < 2 ^ 27
+  pub quo_le : q ≤ 2 ^ 26
   pub sq_le : q * q ≤ 2 ^ 52
   pub cand_is : c ≡ s * 67108864 + q
   pub left_lt : u < s * 134217728
@@ -76,6 +78,8 @@ parts a s A A' r =
     let c : cand a s ≡ s * 67108864 + quo a s = omega arith in
     record {
       low = le_of_suc-le-suc l;
+      high = h;
+      quo_le = q;
       sq_le = mul-le-mul q q;
       cand_is = c;
       left_lt = omega arith;

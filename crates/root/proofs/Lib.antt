@@ -5,4 +5,4 @@ mod Exponent
 mod Pattern
 mod Assembled
 mod Special
-mod StartRule
+pub mod StartRule

@@ -2,7 +2,7 @@
 
 ghost use Rattle.std.specs.Prelude.{◌+◌, ◌*◌, ◌≤◌, ◌<◌, ◌^◌, ◌≡◌};
 ghost use Rattle.std.specs.Int.Signed.{mag};
-ghost use Rattle.root.specs.Fields.{Split, odd_bit, raised};
+ghost use Rattle.root.specs.Fields.{Split, odd_bit, half, raised};
 
 use crate::INFINITY;
 
@@ -41,6 +41,17 @@ impl Scaled {
         ensures { result ≡ self.m * 2 ^ odd_bit self.e }
     {
         if self.e % 2 == 0 { self.m } else { self.m << 1 }
+    }
+
+    // Half the exponent, rounded down on both sides of zero: a negative one is negated, halved upwards and negated again.
+    pub(crate) fn halved(self) -> i32
+        ensures { result ≡ half self.e }
+    {
+        if self.e < 0 {
+            -((1 - self.e) / 2)
+        } else {
+            self.e / 2
+        }
     }
 }
 

@@ -29,7 +29,7 @@ fn root_bits(table: &StartTable, b: u64) -> u64
 {
     let s = Scaled::of(b);
     let r = with_rest(table, s.evened());
-    rebuilt(s.e >> 1, r.nearest())
+    rebuilt(s.halved(), r.nearest())
 }
 
 // The table that the search starts from: for k from 64 to 255 the largest t with t * t <= 65,536 k. The toolchain builds a constant array anew wherever it

@@ -11,13 +11,13 @@ use Rattle.block_factor.proofs.cholesky.factor.Goals as goal
 
 pub returns-then-skewed : goal.returns-then-skewed
 returns-then-skewed c =
-    let b = c.args.b.now in
+    let b = c.args.b in
     let t = c.skewed in
     stopped c.args.first b.size (dense b.size b.a) c.top-scale.result c.top-scale.ensures t.result t.ensures c.if-skewed.true
 
 pub returns : goal.returns
 returns c =
-    let b = c.args.b.now in
+    let b = c.args.b in
     let t = c.skewed in
     let r = c.factor_rows in
     subst (λ (o : Outcome (List Float)). MatchResult r.result (λ l. o ≡ done l.a) (λ cause. o ≡ refused cause))

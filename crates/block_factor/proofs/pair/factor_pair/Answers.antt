@@ -7,8 +7,8 @@ use Rattle.block_factor.proofs.pair.factor_pair.Goals as goal
 
 pub returns : goal.returns
 returns c =
-    let b = c.args.b.now in
-    let d = c.args.c.now in
+    let b = c.args.b in
+    let d = c.args.c in
     let r = c.pair_rows in
     IfSome_then r.result r.ensures
     (λ both rows. (
