@@ -23,7 +23,7 @@ use Rattle.adjacency.proofs.Laws.{by_case, insert_here, insert_on}
 use Rattle.adjacency.proofs.Measures.{Finite}
 use Rattle.adjacency.proofs.Nodes.{strength_is}
 use Rattle.adjacency.proofs.Norming.{plain_squares}
-use Rattle.adjacency.proofs.Plain.{plain_strong, plain_total, plain_zero}
+use Rattle.adjacency.proofs.Plain.{plain_root, plain_strong, plain_total, plain_zero}
 use Rattle.adjacency.proofs.Sorting.{strong_sorted}
 
 module _ (f : ℕ → ℕ → Bool) where
@@ -45,7 +45,7 @@ same_neighbours a size nodes v = rw (strong_sorted a size nodes v) (sort_permute
 
 -- ---- finite values stay so in a part of a list
 
-abbrev Real : List Float → Type 0
+abbrev pub Real : List Float → Type 0
 Real l = Each (λ x. finite x ≡ true) l
 
 real_zip : (xs : List ℕ) {ys : List Float} → Real ys → Finite (zip_with (λ c v. record { col = c; value = v }) xs ys)
@@ -66,6 +66,14 @@ finite_rows a r b (i ∷ l) =
 plain_sum : (a : Matrix) (size v u : ℕ) → Finite (flat_map (λ i. entries_of a (v * size + i)) (up_to size)) → plain (total (squares_towards a size v u)) ≡ true
 unfolding total squares_towards node_entries squares_in
 plain_sum a size v u f = let es = flat_map (λ i. entries_of a (v * size + i)) (up_to size) in plain_total (squares_in size u es) zeroᶠ plain_zero (plain_squares size u es f)
+
+-- no norm towards a node is NaN, -0 or below zero where the values are finite, and so none of a node's own block
+pub plain_norm : (a : Matrix) → Real a.values → (size v u : ℕ) → plain (norm_towards a size v u) ≡ true
+unfolding norm_towards
+plain_norm a r size v u = plain_root (total (squares_towards a size v u)) (plain_sum a size v u (finite_rows a r (v * size) (up_to size)))
+
+pub plain_own : (a : Matrix) → Real a.values → (size v : ℕ) → plain (norm_towards a size v v) ≡ true
+plain_own a r size v = plain_norm a r size v v
 
 -- THEOREM: no strength of a valid matrix is NaN, -0 or below zero
 pub strength_plain : (a : Matrix) → valid_of a ≡ done tt → (size v u : ℕ) → plain (strength a size v u) ≡ true

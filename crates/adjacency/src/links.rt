@@ -19,6 +19,8 @@ pub(crate) fn collect(e: &Entries<'_>, stamp: u32, stamps: &mut [u32], names: &m
     ensures names_after { take result names.new ≡ gather stamp stamps.old (nodes_in e.now.size e.now.col_idx.now) }
     ensures stamps_after { stamps.new ≡ marked stamp stamps.old (nodes_in e.now.size e.now.col_idx.now) }
 {
+    // A copy: behind the reference its numbers would be read anew after every store.
+    let e = *e;
     let mut count = 0;
     for column in e.col_idx {
         let w = e.node_of(*column);

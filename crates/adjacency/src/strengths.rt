@@ -9,13 +9,13 @@ use super::sums::{clear, weigh};
 use root::{StartTable, root_by};
 
 // From the sum of squares towards a node, and both nodes' diagonal norms: undivided where the divisor is zero or not finite.
-#[tactic(auto, unfolding(crate::specs::Strengths::strong_of, definitions::specs::Neighbours::divides), using(numbers::proofs::Finite::same_finite))]
+#[tactic(auto, unfolding(crate::specs::Strengths::strong_of, definitions::specs::Neighbours::divides))]
 fn strength(sum: f64, p: f64, q: f64, table: &StartTable) -> f64
     ensures { result ≡ strong_of sum p q }
 {
     let norm = root_by(table, sum);
     let d = root_by(table, p * q);
-    if d.is_finite() && 0.0 < d {
+    if numbers::finite(d) && 0.0 < d {
         norm / d
     } else {
         norm

@@ -56,7 +56,7 @@ pub(crate) fn solve_stored(
         }
         TwoLevelCoarseApplyPolicy::ExplicitInverse => {
             by_inverse(part, b, &mut rest[..c]);
-            b.copy_from_slice(&rest[..c]);
+            numbers::copy_front(&rest[..c], b);
         }
     }
     rest.fill(0.0);

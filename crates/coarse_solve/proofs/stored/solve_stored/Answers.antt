@@ -1,5 +1,6 @@
-use Rattle.std.proofs.Common.{◌≡◌, ◌-◌, ◌∙◌, length, arith, take, length-take-le}
+use Rattle.std.proofs.Common.{◌≡◌, ◌-◌, ◌∙◌, sym, length, arith, take, drop, length-append, length-take-le}
 use Rattle.definitions.specs.Coarse.{coarse_solve}
+use Rattle.numbers.proofs.Over.{copied_whole}
 use Rattle.coarse_solve.proofs.ByPolicy.{factor_length, factor_solve, inverse_length, front_solved, padded_by}
 use Rattle.coarse_solve.proofs.stored.solve_stored.Goals as goal
 use Rattle.coarse_solve.proofs.stored.solve_stored.Goals.{in-Auto, in-ExplicitInverse}
@@ -20,7 +21,7 @@ returns c =
     let f = c.split_at_mut-b.ensures in
     let b : m.b ≡ coarse_solve a.policy a.c a.part.now (take a.c a.work.now) = elim m.branch [
       | in-Auto w ↦ w.b-is ∙ w.solve.ensures ∙ rw f.front (factor_solve a.policy a.c a.part.now (take a.c a.work.now) w.in-Auto.is)
-      | in-ExplicitInverse w ↦ w.b-is ∙ w.copy_from_slice.ensures.after
+      | in-ExplicitInverse w ↦ w.b-is ∙ w.copy_front.ensures ∙ copied_whole _ _ (length-take-le a.c _ (omega (arith, length-append w.by_inverse.new.x (drop a.c c.split_at_mut-b.result.1.now), length-take-le a.c c.split_at_mut-b.result.1.now (omega (arith, f.back_len)), w.by_inverse.auto.x)) ∙ sym f.front_len)
           ∙ front_solved a.policy a.c a.part.now c.split_at_mut-b.result.0.now (take a.c a.work.now) w.by_inverse.new.x _ _ w.in-ExplicitInverse.is f.front (omega (arith, length-take-le a.c c.split_at_mut-b.result.1.now (omega (arith, f.back_len)))) f.front_len w.by_inverse.ensures
     ] in
     let n : length m.rest ≡ length a.work.now - a.c = omega (arith, f.back_len) in
