@@ -17,6 +17,8 @@ fn add_entries(m: &GroupedMatrix<'_>, r: usize, base: usize, coarse: &mut [f64])
     requires { base + m.now.groups.coarse ≤ length coarse.old }
     ensures { coarse.new ≡ scatter (moved (λ k. base + coarse_column m.now.groups.size m.now.groups.ids.now k) (entries_of (square m.now.a) r)) coarse.old }
 {
+    // A copy: behind the reference its numbers would be read anew after every store.
+    let m = *m;
     let (columns, values) = m.a.row(r);
     for (column, value) in columns.iter().zip(values) {
         let at = base + m.column_of(*column as usize);

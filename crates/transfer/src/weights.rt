@@ -14,6 +14,8 @@ fn weigh_touched(s: &Smoothing<'_>, i: usize, t: &mut [u32], w: &mut [f64]) -> u
     requires long { (length t.old ≡ s.now.groups.coarse) × (length w.old ≡ s.now.groups.coarse) }
     ensures { Weighed (square s.now.a) s.now.diagonal.now s.now.damping s.now.groups.size s.now.groups.ids.now s.now.groups.coarse i t.new w.new result }
 {
+    // A copy: behind the reference its numbers would be read anew after every store.
+    let s = *s;
     let own = s.column_of(i);
     let inv = 1.0 / s.diagonal[i];
     t[0] = own as u32;
@@ -46,6 +48,8 @@ fn weigh_all(s: &Smoothing<'_>, i: usize, t: &mut [u32], w: &mut [f64]) -> usize
     requires long { (length t.old ≡ s.now.groups.coarse) × (length w.old ≡ s.now.groups.coarse) }
     ensures { Weighed (square s.now.a) s.now.diagonal.now s.now.damping s.now.groups.size s.now.groups.ids.now s.now.groups.coarse i t.new w.new result }
 {
+    // A copy: behind the reference its numbers would be read anew after every store.
+    let s = *s;
     let own = s.column_of(i);
     let inv = 1.0 / s.diagonal[i];
     for (column, place) in t.iter_mut().enumerate() {
