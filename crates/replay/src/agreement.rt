@@ -16,7 +16,7 @@ fn told_with(cause: Refusal, values: &[u64]) -> bool {
 
 // The recorded answer, and the case with it, is this refusal.
 pub(crate) fn refused(mut lines: Lines<'_>, cause: Refusal) -> Result<(), Differs> {
-    let recorded = lines.numbers(b"refused", Base::Decimal)?;
+    let recorded = lines.list::<u64, 3>(b"refused", Base::Decimal)?;
     let Some((number, values)) = recorded.as_slice().split_first() else {
         return Err(Differs);
     };
@@ -24,20 +24,40 @@ pub(crate) fn refused(mut lines: Lines<'_>, cause: Refusal) -> Result<(), Differ
     lines.end()
 }
 
-// What the text records of a number: an index as it stands, a float by its pattern.
-pub trait Recorded: Copy {
+// What the text records of a number, and the number of what it records: an index as it stands, a float by its pattern.
+pub trait Recorded: Copy + Default {
     fn recorded(self) -> u64;
+
+    fn read(n: u64) -> Option<Self>;
+}
+
+impl Recorded for u64 {
+    fn recorded(self) -> u64 {
+        self
+    }
+
+    fn read(n: u64) -> Option<u64> {
+        Some(n)
+    }
 }
 
 impl Recorded for u32 {
     fn recorded(self) -> u64 {
         u64::from(self)
     }
+
+    fn read(n: u64) -> Option<u32> {
+        u32::try_from(n).ok()
+    }
 }
 
 impl Recorded for f64 {
     fn recorded(self) -> u64 {
         float_bits::bits_of(self)
+    }
+
+    fn read(n: u64) -> Option<f64> {
+        Some(float_bits::of_bits(n))
     }
 }
 

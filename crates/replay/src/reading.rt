@@ -1,6 +1,7 @@
 // Reading the recorded text. A line is a word, then numbers with a blank before each.
 ghost use Rattle.std.specs.Prelude.{◌<◌, length, IfSome};
 
+use crate::agreement::Recorded;
 use arrayvec::{ArrayVec, CapacityError};
 use csr32::Csr;
 
@@ -47,8 +48,10 @@ pub(crate) fn split_line(text: &[u8]) -> Option<(&[u8], &[u8])>
     }
 }
 
-// Capitals alone: the library's `to_digit` takes small letters too.
-fn digit(b: u8) -> Option<u64> {
+// What a digit counts, below 16. Capitals alone: the library's `to_digit` takes small letters too.
+fn digit(b: u8) -> Option<u64>
+    ensures { IfSome result (λ d. d < 16) }
+{
     match b {
         b'0'..=b'9' => Some(u64::from(b - b'0')),
         b'A'..=b'F' => Some(u64::from(b - b'A') + 10),
@@ -87,20 +90,30 @@ impl<'a> Lines<'a> {
         line.strip_suffix(b"\n").ok_or(Differs)
     }
 
-    // The numbers of the next line, which begins with this word.
-    pub(crate) fn numbers(&mut self, word: &[u8], base: Base) -> Result<Numbers<u64>, Differs> {
+    // What the next line holds, which begins with this word: N elements at most. Room for more than a line can hold would have to be made anew for each line.
+    pub(crate) fn list<T: Recorded, const N: usize>(
+        &mut self,
+        word: &[u8],
+        base: Base,
+    ) -> Result<ArrayVec<T, N>, Differs> {
         let mut fields = self.line()?.split(|&b| b == b' ');
         agree(fields.next() == Some(word))?;
         let mut list = ArrayVec::new();
         for field in fields {
-            list.try_push(number(field, base).ok_or(Differs)?)?;
+            let n = number(field, base).ok_or(Differs)?;
+            list.try_push(T::read(n).ok_or(Differs)?)?;
         }
         Ok(list)
     }
 
+    // The numbers of the next line.
+    pub(crate) fn numbers(&mut self, word: &[u8], base: Base) -> Result<Numbers<u64>, Differs> {
+        self.list(word, base)
+    }
+
     // The one number of the next line.
     pub(crate) fn one(&mut self, word: &[u8], base: Base) -> Result<u64, Differs> {
-        match self.numbers(word, base)?.as_slice() {
+        match self.list::<u64, 1>(word, base)?.as_slice() {
             [n] => Ok(*n),
             _ => Err(Differs),
         }
@@ -108,20 +121,12 @@ impl<'a> Lines<'a> {
 
     // The next line's numbers as indices.
     pub(crate) fn ints(&mut self, word: &[u8]) -> Result<Numbers<u32>, Differs> {
-        let mut list = ArrayVec::new();
-        for n in &self.numbers(word, Base::Decimal)? {
-            list.try_push(u32::try_from(*n).map_err(|_| Differs)?)?;
-        }
-        Ok(list)
+        self.list(word, Base::Decimal)
     }
 
     // The next line's numbers as floats, by their patterns.
     pub(crate) fn floats(&mut self, word: &[u8]) -> Result<Numbers<f64>, Differs> {
-        let mut list = ArrayVec::new();
-        for n in &self.numbers(word, Base::Hexadecimal)? {
-            list.try_push(float_bits::of_bits(*n))?;
-        }
-        Ok(list)
+        self.list(word, Base::Hexadecimal)
     }
 
     // The case ends here.
@@ -156,7 +161,7 @@ impl Matrix {
     }
 
     pub(crate) fn read(lines: &mut Lines<'_>) -> Result<Matrix, Differs> {
-        let sizes = lines.numbers(b"matrix", Base::Decimal)?;
+        let sizes = lines.list::<u64, 2>(b"matrix", Base::Decimal)?;
         let [rows, cols] = sizes.as_slice() else {
             return Err(Differs);
         };

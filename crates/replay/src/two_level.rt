@@ -100,7 +100,7 @@ fn corrected(
 
 pub(crate) fn two_level(mut lines: Lines<'_>) -> Result<(), Differs> {
     let a = Matrix::read(&mut lines)?;
-    let read = lines.numbers(b"options", Base::Decimal)?;
+    let read = lines.list::<u64, 5>(b"options", Base::Decimal)?;
     let [block, group, aggregation, basis, policy] = read.as_slice() else {
         return Err(Differs);
     };
