@@ -1,5 +1,5 @@
 -- A column of a packed factor that is kept at its rows: a walk down the column after it leaves it there.
-use Prim.Native.Nat.{ℕ, ◌+◌, ◌-◌, ◌<◌}
+use Prim.Native.Nat.{ℕ, ◌+◌, ◌-◌, ◌<◌, ◌≤◌}
 use mathlib.Core.Path.{◌≡◌, refl, ◌∙◌}
 use mathlib.Core.List.{List}
 use native.Mathlib.Omega.{arith}
@@ -8,9 +8,20 @@ use lib.ListN.{length, get_or, set, length-set}
 use lib.Seq.{get_or-set_same, get_or-set_other}
 use lib.Ieee.{Float, nan}
 use Rattle.definitions.specs.Coarse.{packed, packed_entry, packed_length}
+use Rattle.definitions.specs.Setup.{max_coarse}
 use Rattle.laws.specs.Packed.{Column, KeptBefore}
 use Rattle.laws.proofs.Growing.{upto}
-use Rattle.laws.proofs.Packed.{tri_back}
+use Rattle.laws.proofs.Packed.{tri_row, tri_back, triangle_small}
+
+-- ---- the walk
+
+-- both numbers that it reads at row j are the factor's
+pub walk_room : (at i j c : ℕ) → i < j → j < c → c ≤ max_coarse → at ≡ packed j i → (0 < at) × (at < packed_length c) × (packed_length c < 2_098_177)
+walk_room at i j c p q h e = (omega (arith, tri_row i j p), omega (arith, tri_row j c q), omega (arith, triangle_small c h))
+
+-- and so are those at the end of row i
+pub end_room : (end i c : ℕ) → i < c → c ≤ max_coarse → end ≡ packed_length (i + 1) → (i < end) × (end ≤ packed_length c) × (packed_length c < 2_098_177)
+end_room end i c q h e = let z = (tri_back end i e).0 in (omega arith, omega (arith, tri_row i c q), omega (arith, triangle_small c h))
 
 pub kept_none : (l kept : List Float) (i : ℕ) → KeptBefore l i (i + 1) kept kept
 kept_none l kept i = record { long = refl; before = λ j p q. absurd (omega arith) }

@@ -3,7 +3,7 @@ use Prim.Native.Nat.{ℕ, zero, suc, ◌+◌, ◌-◌, ◌*◌, ◌<◌, ◌≤�
 use mathlib.Core.Path.{◌≡◌, refl, ap, sym, ◌∙◌}
 use mathlib.Core.List.{List, [], ◌∷◌, ◌++◌, append-nil, append_assoc}
 use native.Mathlib.Omega.{arith}
-use native.Mathlib.Nat.{mul-add-div}
+use native.Mathlib.Nat.{mul-add-div, mul-le-mul}
 use native.Mathlib.Numerals.{add-one}
 use native.Mathlib.Decide.{ℕ_discrete}
 use lib.ListN.{length, get_or, set, take, drop, length-append, get_or-append}
@@ -12,6 +12,7 @@ use lib.Ieee.{Float, nan}
 use Rattle.definitions.specs.Lists.{tab}
 use Rattle.definitions.specs.Numbers.{◌-ᶠ◌, ◌*ᶠ◌, ◌/ᶠ◌, summed}
 use Rattle.definitions.specs.Coarse.{packed, packed_entry, packed_length, packed_forward, packed_backward, packed_solve}
+use Rattle.definitions.specs.Setup.{max_coarse}
 use Rattle.laws.specs.Packed.{ahead}
 use Rattle.laws.proofs.Lists.{tab_cong}
 
@@ -38,6 +39,9 @@ tri_back end i e = let q : end ≡ packed_length i + (i + 1) = e ∙ sym (tri_ne
 -- the number below, in the column
 pub next_at : (at i j : ℕ) → at ≡ packed j i → at + (j + 1) ≡ packed (j + 1) i
 next_at at i j e = omega (arith, tri_next (packed_length j) j refl)
+
+pub triangle_small : (n : ℕ) → n ≤ max_coarse → n * (n + 1) ≤ 4_196_352
+triangle_small n h = let q : n + 1 ≤ 2_049 = omega arith in mul-le-mul h q
 
 -- ---- forward
 

@@ -1,12 +1,12 @@
 -- What the tests of a record's numbers say of them.
 use Prim.Native.Nat.{ℕ, zero, suc, ◌+◌, ◌*◌, ◌≤◌}
 use native.Mathlib.Omega.{arith}
-use native.Mathlib.Nat.{mul-suc}
+use native.Mathlib.Nat.{mul-suc, mul-le-mul}
 use mathlib.Core.Path.{◌≡◌}
 use mathlib.Core.Bool.{true}
 use borrow.Author.Tests.{leb-true, eqb-true}
 use Rattle.definitions.specs.Places.{used_ints, places_of}
-use Rattle.definitions.specs.Fits.{within_limits, transfers_fit}
+use Rattle.definitions.specs.Fits.{within_limits, is_resolved, transfers_fit}
 use Rattle.definitions.specs.declared.Setup.{Setup}
 use Rattle.definitions.specs.declared.Places.{Places}
 use Rattle.definitions.specs.declared.TwoLevelBasis.{TwoLevelBasis}
@@ -35,6 +35,7 @@ limits_of s e =
 pub record Sized (s : Setup) : Type 0 where
   pub limits : Limits s
   pub some : 1 ≤ s.block
+  pub resolved : is_resolved s.policy ≡ true
   pub transfers : transfers_fit s.basis s ≡ true
   pub nodes : s.rows ≡ s.nodes * s.block
   pub groups : s.coarse ≡ s.groups * s.block
@@ -45,8 +46,9 @@ sized_of s e =
     let p = both_true _ _ e in
     let q = both_true _ _ p.0 in
     let r = both_true _ _ q.0 in
-    let t = both_true _ _ (both_true _ _ r.0).0 in
-    record { limits = limits_of s t.0; some = leb-true _ _ t.1; transfers = r.1; nodes = eqb-true _ _ q.1; groups = eqb-true _ _ p.1 }
+    let u = both_true _ _ r.0 in
+    let t = both_true _ _ u.0 in
+    record { limits = limits_of s t.0; some = leb-true _ _ t.1; resolved = u.1; transfers = r.1; nodes = eqb-true _ _ q.1; groups = eqb-true _ _ p.1 }
 
 -- how large the numbers of such a record can be
 pub record Bounds (s : Setup) : Type 0 where
@@ -55,6 +57,7 @@ pub record Bounds (s : Setup) : Type 0 where
   pub transfers : s.transfers ≤ 17825792
   pub coarse : s.coarse ≤ 2048
   pub groups : s.groups ≤ s.coarse
+  pub factors : s.rows * s.block ≤ 8388608
 
 few : (b : TwoLevelBasis) (s : Setup) → Limits s → transfers_fit b s ≡ true → s.transfers ≤ 17825792
 unfolding transfers_fit
@@ -74,6 +77,7 @@ bounds_of s e =
       transfers = few s.basis s z.limits z.transfers;
       coarse = z.limits.coarse;
       groups = one_of s.coarse s.groups s.block z.some z.groups;
+      factors = mul-le-mul z.limits.rows z.limits.block;
     }
 
 -- the room that the used integers take

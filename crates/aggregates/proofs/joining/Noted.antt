@@ -4,7 +4,7 @@ use mathlib.Core.Bool.{Bool}
 use mathlib.Core.List.{List, [], ◌∷◌, ◌++◌}
 use Prim.Native.Nat.{ℕ, zero, suc, ◌+◌, ◌-◌, ◌*◌, ◌≤◌}
 use native.Mathlib.Omega.{arith}
-use lib.ListN.{length, set, replicate}
+use lib.ListN.{length, set, replicate, length-set}
 use lib.Seq.{set_out}
 use Rattle.definitions.specs.Lists.{padded}
 use Rattle.definitions.specs.Groups.{Groups, Joining, joined, replay}
@@ -15,6 +15,11 @@ pub noted_append : (at : ℕ) (xs ys l : List ℕ) → noted at (xs ++ ys) l ≡
 unfolding noted
 noted_append at [] ys l = let e : at + 0 ≡ at = omega arith in rw e
 noted_append at (x ∷ xs) ys l = let e : at + suc (length xs) ≡ suc at + length xs = omega arith in rw e (noted_append (suc at) xs ys (set l at x))
+
+pub length_noted : (at : ℕ) (xs l : List ℕ) → length (noted at xs l) ≡ length l
+unfolding noted
+length_noted at [] l = refl
+length_noted at (x ∷ xs) l = length_noted (suc at) xs (set l at x) ∙ length-set l at x
 
 pub noted_outside : (at : ℕ) (xs l : List ℕ) → length l ≤ at → noted at xs l ≡ l
 unfolding noted

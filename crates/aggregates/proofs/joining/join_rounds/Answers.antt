@@ -36,14 +36,14 @@ rounds-smaller c =
     let a = c.args in
     let l = c.loop-g in
     let r = c.rounds in
-    round_less a.lists.now.nodes a.groups a.lists.now.offsets.now a.lists.now.neighbours.now (state_of a.groups a.ids.now (chains a.next.now a.first.now a.counts.now)) a.floor a.log.now r.ids (chains r.next r.first r.counts) r.log l.ids (chains l.next l.first l.counts) l.log r.made l.made l.g r.invariant.between l.invariant.turns (omega arith) c.if-made-before.false
+    round_less a.lists.now.nodes a.groups a.lists.now.offsets.now a.lists.now.neighbours.now (state_of a.groups a.ids.now (chains a.next.now a.first.now a.counts.now)) a.floor a.log.now r.ids (chains r.next r.first r.counts) r.log l.ids (chains l.next l.first l.counts) l.log r.made l.made l.g r.invariant.between l.invariant.turns (omega arith) (λ z. omega (arith, c.if-made-before.false))
 
 pub rounds-preserved : goal.rounds-preserved
 rounds-preserved c =
     let a = c.args in
     let l = c.loop-g in
     let r = c.rounds in
-    record { between = next_round a.lists.now.nodes a.groups a.lists.now.offsets.now a.lists.now.neighbours.now (state_of a.groups a.ids.now (chains a.next.now a.first.now a.counts.now)) a.floor a.log.now r.ids (chains r.next r.first r.counts) r.log l.ids (chains l.next l.first l.counts) l.log r.made l.made l.g r.invariant.between l.invariant.turns (omega arith) c.if-made-before.false; zeros = l.invariant.zeros }
+    record { between = next_round a.lists.now.nodes a.groups a.lists.now.offsets.now a.lists.now.neighbours.now (state_of a.groups a.ids.now (chains a.next.now a.first.now a.counts.now)) a.floor a.log.now r.ids (chains r.next r.first r.counts) r.log l.ids (chains l.next l.first l.counts) l.log r.made l.made l.g r.invariant.between l.invariant.turns (omega arith) (λ z. omega (arith, c.if-made-before.false)); zeros = l.invariant.zeros }
 
 pub returns-then-made-before : goal.returns-then-made-before
 returns-then-made-before c =
