@@ -97,7 +97,7 @@ pub extern "C" fn yelomawin_bench_transfer(
         (result ≡ answer_number (transfer_answer call)) × ((ints.new ≡ transfer_ints call ints.old) × (floats.new ≡ transfer_floats call floats.old)) }
 {
     let a = matrix(rows, cols, row_ptr, col_idx, values);
-    let made = transfer::smoothed_transfer(
+    let count = transfer::smoothed_transfer(
         &a,
         block_size as usize,
         ids,
@@ -107,7 +107,7 @@ pub extern "C" fn yelomawin_bench_transfer(
         ints,
         floats,
     );
-    answer_number(made)
+    answer_number(count)
 }
 
 #[unsafe(no_mangle)]
@@ -173,8 +173,8 @@ pub extern "C" fn yelomawin_bench_coarse_factor(c: u64, m: &[f64], lower: &mut [
     ensures value { result ≡ answer_number (factor_answer (largest (take (c * c) m.now)) (coarse_factor_call c m.now (length lower.old))) }
     ensures lower_after { lower.new ≡ result_left zeroᶠ (coarse_factor_call c m.now (length lower.old)) lower.old }
 {
-    let made = coarse_factor::coarse_factor(c as usize, m, lower);
-    answer_number(made)
+    let scale = coarse_factor::coarse_factor(c as usize, m, lower);
+    answer_number(scale)
 }
 
 #[unsafe(no_mangle)]
